@@ -1,0 +1,136 @@
+-- A block's check is that of its first 508 bytes, and matches just where the block is those bytes and their check. Assumes nothing.
+use Prim.Native.Nat.{ℕ, zero, suc, _+_, _*_, _%_, _≤_, _<_, _-_}
+use mathlib.Core.Bool.{true, false}
+use mathlib.Core.List.{List, _++_}
+use mathlib.Core.Path.{_≡_, refl, sym, ap}
+use native.Mathlib.Nat.{mul-le-mul}
+use native.Mathlib.Numerals.{add-one}
+use native.Mathlib.Omega.{arith}
+use borrow.Author.Tests.{eq-eqb, eqb-true, ne-eqb}
+use lib.Dec.{eqb}
+use lib.ListN.{length, take, drop, take-append-drop, List·getD-append, length-append, getD}
+use lib.Seq.{slice, length-take-le, length-slice}
+use Rattle.block.specs.declared.Sums.{Sums}
+use Rattle.block.specs.Check.{word, sumTo, weightedTo, firstCheck, secondCheck, checkBytes, checkMatches, sumsOf}
+use Rattle.block.specs.Numbers.{bytesOf, numberOf}
+use Rattle.block.proofs.BoolLaws.{both, joined}
+use Rattle.block.proofs.ListLaws.{AllBytes, bytes-append, bytes-slice, slice-at, slice-end, cut, drop-slice}
+use Rattle.block.proofs.NumberLaws.{length-bytesOf, bytes-bytesOf, numberOf-bytesOf, bytesOf-numberOf}
+
+module _ (a c : List ℕ) where
+  pub word-append : (i : ℕ) → 2 * i + 1 < length a → word (a ++ c) i ≡ word a i
+  unfolding word
+  word-append i h = rw (List·getD-append a c 0 (2 * i) (omega arith), List·getD-append a c 0 (2 * i + 1) h)
+
+  pub sumTo-append : (k : ℕ) → 2 * k ≤ length a → sumTo (a ++ c) k ≡ sumTo a k
+  unfolding sumTo
+  sumTo-append zero h = refl
+  sumTo-append (suc k) h = rw (sumTo-append k (omega arith), word-append k (omega arith))
+
+  pub weightedTo-append : (k : ℕ) → 2 * k ≤ length a → weightedTo (a ++ c) k ≡ weightedTo a k
+  unfolding weightedTo
+  weightedTo-append zero h = refl
+  weightedTo-append (suc k) h = rw (weightedTo-append k (omega arith), word-append k (omega arith))
+
+  pub firstCheck-append : 508 ≤ length a → firstCheck (a ++ c) ≡ firstCheck a
+  unfolding firstCheck
+  firstCheck-append h = ap (λ (n : ℕ). n % 65535) (sumTo-append 254 h)
+
+  pub secondCheck-append : 508 ≤ length a → secondCheck (a ++ c) ≡ secondCheck a
+  unfolding secondCheck
+  secondCheck-append h = ap (λ (n : ℕ). n % 65535) (weightedTo-append 254 h)
+
+pub length-checkBytes : (b : List ℕ) → length (checkBytes b) ≡ 4
+unfolding checkBytes
+length-checkBytes b = simp (length-append, length-bytesOf)
+
+pub bytes-checkBytes : (b : List ℕ) → AllBytes (checkBytes b)
+unfolding checkBytes
+bytes-checkBytes b = bytes-append (bytes-bytesOf 2 (firstCheck b)) (bytes-bytesOf 2 (secondCheck b))
+
+pub firstCheck-small : (b : List ℕ) → firstCheck b < 65536
+unfolding firstCheck
+firstCheck-small b = omega arith
+
+pub secondCheck-small : (b : List ℕ) → secondCheck b < 65536
+unfolding secondCheck
+secondCheck-small b = omega arith
+
+-- 508 bytes with their check behind them
+pub check-matches : (a : List ℕ) → length a ≡ 508 → checkMatches (a ++ checkBytes a) ≡ true
+unfolding checkMatches checkBytes
+check-matches a e = joined (joined (eq-eqb _ 512 long) (eq-eqb _ _ one)) (eq-eqb _ _ two)
+  where
+    x : List ℕ
+    x = bytesOf 2 (firstCheck a)
+
+    y : List ℕ
+    y = bytesOf 2 (secondCheck a)
+
+    long : length (a ++ (x ++ y)) ≡ 512
+    long = simp (length-append, length-bytesOf, e)
+
+    one : firstCheck (a ++ (x ++ y)) ≡ numberOf (slice 508 510 (a ++ (x ++ y)))
+    one =
+        rw (firstCheck-append a (x ++ y) (omega arith), slice-at a x y 508 510 e (omega (arith, length-bytesOf 2 (firstCheck a))))
+        (sym (numberOf-bytesOf 2 (firstCheck a) (firstCheck-small a)))
+
+    two : secondCheck (a ++ (x ++ y)) ≡ numberOf (slice 510 512 (a ++ (x ++ y)))
+    two =
+        let m = length-bytesOf 2 (firstCheck a) in
+        let n = length-bytesOf 2 (secondCheck a) in
+        rw (secondCheck-append a (x ++ y) (omega arith), slice-end a x y 510 512 (omega arith) (omega arith))
+        (sym (numberOf-bytesOf 2 (secondCheck a) (secondCheck-small a)))
+
+-- and the other way: a block whose check matches is its first 508 bytes and their check
+pub check-whole : (b : List ℕ) → AllBytes b → checkMatches b ≡ true → take 508 b ++ checkBytes (take 508 b) ≡ b
+unfolding checkMatches checkBytes
+check-whole b f h =
+    let c = both _ _ h in
+    let d = both _ _ (c .left) in
+    let e = eqb-true (length b) 512 (d .left) in
+    let front = length-take-le 508 b (omega arith) in
+    let x = rw take-append-drop at (firstCheck-append (take 508 b) (drop 508 b) (omega arith)) in
+    let y = rw take-append-drop at (secondCheck-append (take 508 b) (drop 508 b) (omega arith)) in
+    rw (
+      ← x,
+      ← y,
+      eqb-true (firstCheck b) (numberOf (slice 508 510 b)) (d .right),
+      eqb-true (secondCheck b) (numberOf (slice 510 512 b)) (c .right),
+      bytesOf-numberOf 2 (slice 508 510 b) (bytes-slice 508 510 f) (length-slice 508 510 b (omega arith)),
+      bytesOf-numberOf 2 (slice 510 512 b) (bytes-slice 510 512 f) (length-slice 510 512 b (omega arith)),
+      ← drop-slice 510 512 b e,
+      ← cut 508 510 b (omega arith),
+    )
+    (take-append-drop 508 b)
+
+-- ---- the answers of the code
+
+-- one word more
+module _ (b : List ℕ) (k : ℕ) where
+  pub sum-next : sumTo b (k + 1) ≡ sumTo b k + (getD b (2 * k) 0 + 256 * getD b (2 * k + 1) 0)
+  unfolding sumTo word
+  sum-next = rw (add-one k)
+
+  pub weighted-next : weightedTo b (k + 1) ≡ weightedTo b k + (254 - k) * (getD b (2 * k) 0 + 256 * getD b (2 * k + 1) 0)
+  unfolding weightedTo word
+  weighted-next = rw (add-one k)
+
+-- a word with its weight
+pub weight-bound : (k w : ℕ) → w ≤ 65535 → (254 - k) * w ≤ 16645890
+weight-bound k w h = mul-le-mul {n₂ = 254} (let e : 254 - k ≤ 254 = omega arith in e) h
+
+-- the answers of a block's comparison with its own check: s is its check, f and g what it holds in its last four bytes
+module _ (b : List ℕ) where
+  pub matches-short : (length b ≡ 512 → ⊥) → false ≡ checkMatches b
+  unfolding checkMatches
+  matches-short h = rw (ne-eqb (length b) 512 h)
+
+  module _ (long : length b ≡ 512) (s : Sums) (sums : s ≡ sumsOf b) (f : ℕ) (held : f ≡ numberOf (slice 508 510 b)) where
+    pub matches-first : (s .first ≡ f → ⊥) → false ≡ checkMatches b
+    unfolding checkMatches sumsOf
+    matches-first h = rw (eq-eqb (length b) 512 long, ← held, ← ap (λ (x : Sums). x .first) sums, ne-eqb (s .first) f h)
+
+    pub matches-second : s .first ≡ f → (g : ℕ) → g ≡ numberOf (slice 510 512 b) → eqb (s .second) g ≡ checkMatches b
+    unfolding checkMatches sumsOf
+    matches-second h g e = rw (eq-eqb (length b) 512 long, ← held, ← e, ← ap (λ (x : Sums). x .first) sums, ← ap (λ (x : Sums). x .second) sums, eq-eqb (s .first) f h)

@@ -1,0 +1,117 @@
+-- Numbers and signed values in bytes read back, and bytes are written again from what they read as. Assumes nothing.
+use Prim.Native.Nat.{ℕ, zero, suc, _+_, _*_, _/_, _%_, _^_, _≤_, _<_}
+use mathlib.Core.Bool.{true}
+use mathlib.Core.List.{List, [], _∷_}
+use mathlib.Core.Path.{_≡_, refl, ap, _∙_}
+use native.Mathlib.Nat.{not-suc-le-zero, le-of-suc-le-suc, pow-succ', one-le-pow, add-zero}
+use native.Mathlib.Numerals.{add-one, add-two, add-three, add-four}
+use native.Mathlib.Omega.{arith}
+use borrow.Author.Tests.{ltb-true, lt-ltb}
+use lib.IntN.{ℤ, pos, negsuc}
+use lib.ListN.{length, getD}
+use lib.Seq.{slice, slice-cons, slice-empty}
+use mir.Facts.{toZ-ofZ, ofZ-toZ, fits-ofZ, sfits-toZ}
+use mir.Syntax.{w32}
+use mir.Val.{Fits, SFits, toZ, ofZ}
+use Rattle.block.specs.Message.{signed32}
+use Rattle.block.specs.Numbers.{bytesOf, numberOf, valueBytes, valueOf}
+use Rattle.block.proofs.ListLaws.{AllBytes, bytes-nil, bytes-cons, bytes-tail}
+
+-- ---- numbers
+
+pub length-bytesOf : (n x : ℕ) → length (bytesOf n x) ≡ n
+unfolding bytesOf
+length-bytesOf zero x = refl
+length-bytesOf (suc n) x = ap suc (length-bytesOf n (x / 256))
+
+pub bytes-bytesOf : (n x : ℕ) → AllBytes (bytesOf n x)
+unfolding bytesOf
+bytes-bytesOf zero x = bytes-nil
+bytes-bytesOf (suc n) x = bytes-cons (omega arith) (bytes-bytesOf n (x / 256))
+
+pub numberOf-bytesOf : (n x : ℕ) → x < 256 ^ n → numberOf (bytesOf n x) ≡ x
+unfolding bytesOf numberOf
+numberOf-bytesOf zero x h = omega arith
+numberOf-bytesOf (suc n) x h = omega (arith, numberOf-bytesOf n (x / 256) (omega (arith, pow-succ' 256 n)))
+
+pub bytesOf-numberOf : (n : ℕ) (l : List ℕ) → AllBytes l → length l ≡ n → bytesOf n (numberOf l) ≡ l
+unfolding bytesOf numberOf
+bytesOf-numberOf zero [] f e = refl
+bytesOf-numberOf zero (x ∷ xs) f e = absurd (omega arith)
+bytesOf-numberOf (suc n) [] f e = absurd (omega arith)
+bytesOf-numberOf (suc n) (x ∷ xs) f e =
+    let low : (x + 256 * numberOf xs) % 256 ≡ x = omega (arith, f .each 0) in
+    let rest : (x + 256 * numberOf xs) / 256 ≡ numberOf xs = omega (arith, f .each 0) in
+    rw (low, rest, bytesOf-numberOf n xs (bytes-tail f) (omega arith))
+
+pub numberOf-below : (n : ℕ) (l : List ℕ) → AllBytes l → length l ≤ n → numberOf l < 256 ^ n
+unfolding numberOf
+numberOf-below n [] f e = one-le-pow n 256 (omega arith)
+numberOf-below zero (x ∷ xs) f e = absurd (not-suc-le-zero e)
+numberOf-below (suc n) (x ∷ xs) f e =
+    omega (arith, f .each 0, pow-succ' 256 n, numberOf-below n xs (bytes-tail f) (le-of-suc-le-suc e))
+
+-- ---- signed values in four bytes
+
+signed-fits : (v : ℤ) → signed32 v ≡ true → SFits w32 v
+unfolding signed32
+signed-fits (pos n) h = record { sfits = ltb-true n 2147483648 h }
+signed-fits (negsuc n) h = record { sfits = ltb-true n 2147483648 h }
+
+fits-signed : (v : ℤ) → SFits w32 v → signed32 v ≡ true
+unfolding signed32
+fits-signed (pos n) h = lt-ltb n 2147483648 (h .sfits)
+fits-signed (negsuc n) h = lt-ltb n 2147483648 (h .sfits)
+
+four-fit : (l : List ℕ) → AllBytes l → length l ≤ 4 → Fits w32 (numberOf l)
+four-fit l f e = record { fits = numberOf-below 4 l f e }
+
+pub length-valueBytes : (v : ℤ) → length (valueBytes v) ≡ 4
+unfolding valueBytes
+length-valueBytes v = length-bytesOf 4 (ofZ w32 v)
+
+pub bytes-valueBytes : (v : ℤ) → AllBytes (valueBytes v)
+unfolding valueBytes
+bytes-valueBytes v = bytes-bytesOf 4 (ofZ w32 v)
+
+pub valueOf-valueBytes : (v : ℤ) → signed32 v ≡ true → valueOf (valueBytes v) ≡ v
+unfolding valueBytes valueOf
+valueOf-valueBytes v h =
+    let s = signed-fits v h in
+    ap (toZ w32) (numberOf-bytesOf 4 (ofZ w32 v) (fits-ofZ s .fits)) ∙ toZ-ofZ s
+
+pub valueBytes-valueOf : (l : List ℕ) → AllBytes l → length l ≡ 4 → valueBytes (valueOf l) ≡ l
+unfolding valueBytes valueOf
+valueBytes-valueOf l f e = ap (bytesOf 4) (ofZ-toZ (four-fit l f (omega arith))) ∙ bytesOf-numberOf 4 l f e
+
+pub signed-valueOf : (l : List ℕ) → AllBytes l → length l ≤ 4 → signed32 (valueOf l) ≡ true
+unfolding valueOf
+signed-valueOf l f e = fits-signed (toZ w32 (numberOf l)) (sfits-toZ (four-fit l f e))
+
+-- ---- a number read from a part of a list, byte by byte
+
+module _ (l : List ℕ) (from to : ℕ) where
+  pub number-more : from < to → to ≤ length l → numberOf (slice from to l) ≡ getD l from 0 + 256 * numberOf (slice (from + 1) to l)
+  unfolding numberOf
+  number-more h k = rw (slice-cons from to l 0 h k, add-one from)
+
+  pub number-none : from ≡ to → numberOf (slice from to l) ≡ 0
+  unfolding numberOf
+  number-none e = rw (e, slice-empty to l)
+
+pub number-at : (l : List ℕ) (at : ℕ) → at + 4 ≤ length l
+    → numberOf (slice at (at + 4) l) ≡ getD l at 0 + 256 * (getD l (at + 1) 0 + 256 * (getD l (at + 2) 0 + 256 * getD l (at + 3) 0))
+unfolding numberOf
+number-at l at h =
+    rw (
+      add-one at,
+      add-two at,
+      add-three at,
+      slice-cons at (at + 4) l 0 (omega arith) h,
+      slice-cons (suc at) (at + 4) l 0 (omega arith) h,
+      slice-cons (suc (suc at)) (at + 4) l 0 (omega arith) h,
+      slice-cons (suc (suc (suc at))) (at + 4) l 0 (omega arith) h,
+      add-four at,
+      slice-empty (suc (suc (suc (suc at)))) l,
+      add-zero,
+    )

@@ -1,0 +1,107 @@
+// The 512-byte block in which replicas send each other their messages.
+ghost use mathlib.Core.Path.{_≡_};
+ghost use Prim.Native.Nat.{_+_, _≤_};
+ghost use lib.ListN.{length};
+ghost use lib.Seq.{slice};
+ghost use mir.Syntax.{w32};
+ghost use mir.Val.{ofZ, toZ};
+ghost use Rattle.block.specs.Numbers.{numberOf};
+
+pub mod check;
+pub mod form;
+pub mod reader;
+pub mod writer;
+
+// An entry of a record: an item and its new value.
+#[repr(C)]
+pub struct Entry {
+    pub item: u8,
+    pub value: i32,
+}
+
+// A block's first eight bytes.
+#[repr(C)]
+pub struct Header {
+    pub kind: u8,
+    pub sender: u8,
+    pub replicas: u8,
+    pub count: u8,
+    pub slot: u32,
+}
+
+// A record's ticket and its number of writes.
+#[repr(C)]
+pub struct RecordHead {
+    pub ticket: u32,
+    pub writes: u8,
+}
+
+// The two sums of the check.
+#[repr(C)]
+pub struct Sums {
+    pub first: u16,
+    pub second: u16,
+}
+
+// A check, or the number of the refusal.
+#[repr(C)]
+pub struct Checked {
+    pub number: u8,
+    pub sums: Sums,
+}
+
+// What the reader answers, as numbers: the refusal's number, or 0 and the header.
+#[repr(C)]
+pub struct Answer {
+    pub number: u8,
+    pub header: Header,
+}
+
+// What the reader answers.
+pub enum Read {
+    Message(Header),
+    Refused(u8),
+}
+
+// The number in the two bytes from `at` on, the lowest first.
+fn number16(s: &[u8], at: usize) -> u16
+    requires { ⌜ at + 2 ≤ length (now s) ⌝ }
+    ensures { λ r. ⌜ r ≡ numberOf (slice at (at + 2) (now (s .entry))) ⌝ }
+{
+    let a = s[at] as u16;
+    let b = s[at + 1] as u16;
+    a + 256 * b
+}
+
+// The number in the four bytes from `at` on, the lowest first.
+fn number(s: &[u8], at: usize) -> u32
+    requires { ⌜ at + 4 ≤ length (now s) ⌝ }
+    ensures { λ r. ⌜ r ≡ numberOf (slice at (at + 4) (now (s .entry))) ⌝ }
+{
+    let a = s[at] as u32;
+    let b = s[at + 1] as u32;
+    let c = s[at + 2] as u32;
+    let d = s[at + 3] as u32;
+    a + 256 * (b + 256 * (c + 256 * d))
+}
+
+// The signed value of 32 bits, and back.
+fn to_value(bits: u32) -> i32
+    ensures { λ r. ⌜ r ≡ toZ w32 bits ⌝ }
+{
+    if bits < 2147483648 {
+        bits as i32
+    } else {
+        (bits - 2147483648) as i32 + (-2147483648)
+    }
+}
+
+fn to_bits(value: i32) -> u32
+    ensures { λ r. ⌜ r ≡ ofZ w32 value ⌝ }
+{
+    if value < 0 {
+        (value - (-2147483648)) as u32 + 2147483648
+    } else {
+        value as u32
+    }
+}
