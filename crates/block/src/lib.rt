@@ -86,7 +86,7 @@ fn number(s: &[u8], at: usize) -> u32
 }
 
 // The signed value of 32 bits, and back.
-fn to_value(bits: u32) -> i32
+pub fn to_value(bits: u32) -> i32
     ensures { λ r. ⌜ r ≡ toZ w32 bits ⌝ }
 {
     if bits < 2147483648 {
@@ -96,7 +96,7 @@ fn to_value(bits: u32) -> i32
     }
 }
 
-fn to_bits(value: i32) -> u32
+pub fn to_bits(value: i32) -> u32
     ensures { λ r. ⌜ r ≡ ofZ w32 value ⌝ }
 {
     if value < 0 {
