@@ -2,20 +2,20 @@
 use Prim.Native.Nat.{ℕ, zero, suc, _+_, _*_, _%_, _≤_, _<_, _-_}
 use mathlib.Core.Bool.{true, false}
 use mathlib.Core.List.{List, _++_}
-use mathlib.Core.Path.{_≡_, refl, sym, ap}
-use native.Mathlib.Nat.{mul-le-mul}
-use native.Mathlib.Numerals.{add-one}
+use mathlib.Core.Path.{_≡_, refl, sym, ap, _∙_}
+use native.Mathlib.Nat.{mul-le-mul, mul-add, add-mul}
+use native.Mathlib.Numerals.{add-one, add-two, add-four}
 use native.Mathlib.Omega.{arith}
 use borrow.Author.Tests.{eq-eqb, eqb-true, ne-eqb}
 use lib.Dec.{eqb}
-use lib.ListN.{length, take, drop, take-append-drop, List·getD-append, length-append, getD}
+use lib.ListN.{length, take, drop, take-append-drop, List·getD-append, length-append}
 use lib.Seq.{slice, length-take-le, length-slice}
 use Rattle.block.specs.declared.Sums.{Sums}
 use Rattle.block.specs.Check.{word, sumTo, weightedTo, firstCheck, secondCheck, checkBytes, checkMatches, sumsOf}
 use Rattle.block.specs.Numbers.{bytesOf, numberOf}
 use Rattle.block.proofs.BoolLaws.{both, joined}
 use Rattle.block.proofs.ListLaws.{AllBytes, bytes-append, bytes-slice, slice-at, slice-end, cut, drop-slice}
-use Rattle.block.proofs.NumberLaws.{length-bytesOf, bytes-bytesOf, numberOf-bytesOf, bytesOf-numberOf}
+use Rattle.block.proofs.NumberLaws.{length-bytesOf, bytes-bytesOf, numberOf-bytesOf, bytesOf-numberOf, number-more, number-none}
 
 module _ (a c : List ℕ) where
   pub word-append : (i : ℕ) → 2 * i + 1 < length a → word (a ++ c) i ≡ word a i
@@ -106,19 +106,76 @@ check-whole b f h =
 
 -- ---- the answers of the code
 
--- one word more
-module _ (b : List ℕ) (k : ℕ) where
-  pub sum-next : sumTo b (k + 1) ≡ sumTo b k + (getD b (2 * k) 0 + 256 * getD b (2 * k + 1) 0)
-  unfolding sumTo word
-  sum-next = rw (add-one k)
+-- a word is the number in its two bytes
+pub word-number : (l : List ℕ) (at i : ℕ) → at ≡ 2 * i → at + 2 ≤ length l → numberOf (slice at (at + 2) l) ≡ word l i
+unfolding word
+word-number l at i e h =
+    let n = number-more l at (at + 2) (omega arith) h in
+    let m = number-more l (at + 1) (at + 2) (omega arith) h in
+    let z = number-none l (at + 1 + 1) (at + 2) (omega arith) in
+    rw (← e) (omega arith)
 
-  pub weighted-next : weightedTo b (k + 1) ≡ weightedTo b k + (254 - k) * (getD b (2 * k) 0 + 256 * getD b (2 * k + 1) 0)
-  unfolding weightedTo word
-  weighted-next = rw (add-one k)
+-- four words with their weights, from the weight of the last
+weigh : (v a b c d : ℕ) → v * (a + b + c + d) + (3 * a + 2 * b + c) ≡ (v + 3) * a + (v + 2) * b + (v + 1) * c + v * d
+weigh v a b c d = simp (mul-add, add-mul) (omega arith)
 
--- a word with its weight
-pub weight-bound : (k w : ℕ) → w ≤ 65535 → (254 - k) * w ≤ 16645890
-weight-bound k w h = mul-le-mul {n₂ = 254} (let e : 254 - k ≤ 254 = omega arith in e) h
+-- four words more; a to d are their numbers
+module _ (l : List ℕ) (k : ℕ) (low : k ≤ 251) (long : 2 * k + 8 ≤ length l) (a b c d : ℕ)
+    (is-a : a ≡ numberOf (slice (2 * k) (2 * k + 2) l))
+    (is-b : b ≡ numberOf (slice (2 * k + 2) (2 * k + 2 + 2) l))
+    (is-c : c ≡ numberOf (slice (2 * k + 4) (2 * k + 4 + 2) l))
+    (is-d : d ≡ numberOf (slice (2 * k + 6) (2 * k + 6 + 2) l)) where
+  word-a : word l k ≡ a
+  word-a = sym (is-a ∙ word-number l (2 * k) k refl (omega arith))
+
+  word-b : word l (suc k) ≡ b
+  word-b = sym (is-b ∙ word-number l (2 * k + 2) (suc k) (omega arith) (omega arith))
+
+  word-c : word l (suc (suc k)) ≡ c
+  word-c = sym (is-c ∙ word-number l (2 * k + 4) (suc (suc k)) (omega arith) (omega arith))
+
+  word-d : word l (suc (suc (suc k))) ≡ d
+  word-d = sym (is-d ∙ word-number l (2 * k + 6) (suc (suc (suc k))) (omega arith) (omega arith))
+
+  pub sum-next : sumTo l (k + 4) ≡ sumTo l k + (a + b + c + d)
+  unfolding sumTo
+  sum-next = rw (add-four k, word-a, word-b, word-c, word-d) (omega arith)
+
+  pub weighted-next : weightedTo l (k + 4) ≡ weightedTo l k + ((251 - k) * (a + b + c + d) + (3 * a + 2 * b + c))
+  unfolding weightedTo
+  weighted-next =
+      let v : ℕ = 251 - k in
+      let p : 254 - k ≡ v + 3 = omega arith in
+      let q : 254 - suc k ≡ v + 2 = omega arith in
+      let r : 254 - suc (suc k) ≡ v + 1 = omega arith in
+      let s : 254 - suc (suc (suc k)) ≡ v = omega arith in
+      rw (add-four k, word-a, word-b, word-c, word-d, p, q, r, s, weigh (251 - k) a b c d) (omega arith)
+
+two-more : (l : List ℕ) (k : ℕ) → sumTo l (k + 2) ≡ sumTo l k + word l k + word l (k + 1)
+unfolding sumTo
+two-more l k = rw (add-two k, add-one k)
+
+two-weighed : (l : List ℕ) (k : ℕ) → weightedTo l (k + 2) ≡ weightedTo l k + (254 - k) * word l k + (254 - (k + 1)) * word l (k + 1)
+unfolding weightedTo
+two-weighed l k = rw (add-two k, add-one k)
+
+-- the last two words, of weights 2 and 1
+pub sums-end : (l : List ℕ) → 508 ≤ length l → (f s : ℕ) → f ≡ sumTo l 252 → s ≡ weightedTo l 252 → (y z : ℕ)
+    → y ≡ numberOf (slice 504 506 l) → z ≡ numberOf (slice 506 508 l)
+    → record { first = (f + y + z) % 65535; second = (s + 2 * y + z) % 65535 } ≡ sumsOf l
+unfolding sumsOf firstCheck secondCheck
+sums-end l long f s sum weighted y z is-y is-z =
+    let p = word-number l 504 252 refl (omega arith) in
+    let q = word-number l 506 253 refl (omega arith) in
+    let t = two-more l 252 in
+    let w = two-weighed l 252 in
+    let a : f + y + z ≡ sumTo l 254 = omega arith in
+    let b : s + 2 * y + z ≡ weightedTo l 254 = omega arith in
+    rw (a, b)
+
+-- a group of four words with its weight
+pub weight-bound : (k w : ℕ) → w ≤ 262140 → (251 - k) * w ≤ 65797140
+weight-bound k w h = mul-le-mul {n₂ = 251} (let e : 251 - k ≤ 251 = omega arith in e) h
 
 -- the answers of a block's comparison with its own check: s is its check, f and g what it holds in its last four bytes
 module _ (b : List ℕ) where

@@ -1,10 +1,10 @@
 -- Laws of the form check over plain lists and numbers: one step of each recursion of the definitions, from a place in the whole list,
 -- for each answer that the code gives there. Assumes nothing.
 use Prim.Native.Nat.{ℕ, zero, suc, _+_, _*_, _-_, _%_, _<_, _≤_}
-use mathlib.Core.Bool.{Bool, true, false, not, cond, _&&_, and-false, and-true, and-assoc, and-comm}
-use mathlib.Core.List.{List, _∷_}
+use mathlib.Core.Bool.{Bool, true, false, not, cond, _&&_, and-false, and-true, and-self, and-assoc, and-comm}
+use mathlib.Core.List.{List, [], _∷_, _++_}
 use mathlib.Core.Path.{_≡_, refl, sym, ap, _∙_}
-use native.Mathlib.Nat.{add-zero, zero-add, sub-self}
+use native.Mathlib.Nat.{add-zero, sub-self}
 use native.Mathlib.Numerals.{add-one}
 use native.Mathlib.Omega.{arith}
 use borrow.Author.Tests.{eq-eqb, ne-eqb, le-leb, lt-leb, not-true, not-false}
@@ -14,7 +14,8 @@ use lib.Seq.{slice, drop-cons, drop-length, drop-drop, take-take, getD-take, get
 use Rattle.block.specs.Form.{entryOf, entriesOf, recordOf, recordsOf, messageOf, allZero, entriesPadded, recordPadded, recordsPadded, padded, wellFormed, headerFits}
 use Rattle.block.specs.Message.{Record, within, maxTicket, maxSlot, ownerOf, kindFits, entriesFit, recordFits, recordsFit, ticketAbsent, ticketsDiffer, valid}
 use Rattle.block.specs.Numbers.{numberOf}
-use Rattle.block.proofs.ListLaws.{part-take, part-drop, lent, lent-slice, lent-rest}
+use Rattle.block.proofs.ListLaws.{part-take, part-drop, lent, lent-slice, lent-rest, cut}
+use Rattle.block.proofs.NumberLaws.{number-more}
 
 -- ---- tests and conjunctions
 
@@ -47,7 +48,7 @@ and-pairs : (a x b y : Bool) → (a && x && (b && y)) ≡ (a && b && (x && y))
 and-pairs a x b y = simp sorted
 
 -- conditions as the definitions have them, and in the order of the code's tests: a record's, a block's
-and-record : (a b x z y : Bool) → (a && (b && x) && (z && y)) ≡ (a && (b && (z && (x && y))))
+and-record : (a b x z y : Bool) → (a && (b && x) && (z && y)) ≡ (a && (b && z && (x && y)))
 and-record a b x z y = simp sorted
 
 and-block : (k w s o r d z p : Bool)
@@ -56,17 +57,82 @@ and-block k w s o r d z p = simp sorted
 
 -- ---- zeros
 
-zero-sum : (a b : ℕ) → eqb (a + b) 0 ≡ (eqb a 0 && eqb b 0)
-zero-sum zero b = ap (λ (n : ℕ). eqb n 0) (zero-add b)
-zero-sum (suc a) b = rw (ne-eqb (suc a + b) 0 (omega arith), ne-eqb (suc a) 0 (omega arith))
+zero-both : (b y : ℕ) → eqb (b + 256 * y) 0 ≡ (eqb b 0 && eqb y 0)
+zero-both zero zero = refl
+zero-both zero (suc y) = rw (ne-eqb (zero + 256 * suc y) 0 (omega arith), ne-eqb (suc y) 0 (omega arith))
+zero-both (suc b) y = rw (ne-eqb (suc b + 256 * y) 0 (omega arith), ne-eqb (suc b) 0 (omega arith))
 
-pub zero-next : (l : List ℕ) (i s : ℕ) → i < length l → (eqb s 0 && allZero (drop i l)) ≡ (eqb (s + getD l i 0) 0 && allZero (drop (i + 1) l))
-unfolding allZero
-zero-next l i s h = rw (zero-sum s (getD l i 0), add-one i, drop-cons l i 0 h, ← and-assoc)
+zero-number : (l : List ℕ) → allZero l ≡ eqb (numberOf l) 0
+unfolding allZero numberOf
+zero-number [] = refl
+zero-number (b ∷ bs) = rw (zero-both b (numberOf bs), zero-number bs)
 
-pub zero-end : (l : List ℕ) (i s : ℕ) → length l ≡ i → (eqb s 0 && allZero (drop i l)) ≡ eqb s 0
+zero-append : (l k : List ℕ) → allZero (l ++ k) ≡ (allZero l && allZero k)
 unfolding allZero
-zero-end l i s e = rw (← e, drop-length l) (and-true _)
+zero-append [] k = refl
+zero-append (b ∷ bs) k = rw (zero-append bs k, and-assoc)
+
+-- place i, byte by byte
+module _ (l : List ℕ) (i : ℕ) where
+  module _ (h : i < length l) where
+    zero-byte : allZero (drop i l) ≡ (eqb (getD l i 0) 0 && allZero (drop (i + 1) l))
+    unfolding allZero
+    zero-byte = rw (add-one i, drop-cons l i 0 h)
+
+    pub zero-found : (getD l i 0 ≡ 0 → ⊥) → allZero (drop i l) ≡ false
+    zero-found e = rw (zero-byte, ne-eqb (getD l i 0) 0 e)
+
+    pub zero-next : getD l i 0 ≡ 0 → allZero (drop i l) ≡ allZero (drop (i + 1) l)
+    zero-next e = rw (zero-byte, eq-eqb (getD l i 0) 0 e)
+
+  pub zero-end : length l ≡ i → allZero (drop i l) ≡ true
+  unfolding allZero
+  zero-end e = rw (← e, drop-length l)
+
+-- from place i on: eight bytes, whose number is x, and what follows them
+zero-part : (l : List ℕ) (i x : ℕ) → x ≡ numberOf (slice i (i + 8) l) → allZero (drop i l) ≡ (eqb x 0 && allZero (drop (i + 8) l))
+zero-part l i x e = rw (cut i (i + 8) l (omega arith), zero-append, zero-number (slice i (i + 8) l), e)
+
+zero-later : (l : List ℕ) (i k : ℕ) → i ≤ k → (allZero (drop i l) && allZero (drop k l)) ≡ allZero (drop i l)
+zero-later l i k h = rw (cut i k l h, zero-append, and-assoc, and-self)
+
+zero-differ : (w x : ℕ) (b : Bool) → (w ≡ x → ⊥) → (eqb x 0 && (eqb w 0 && b)) ≡ false
+zero-differ w zero b h = rw (ne-eqb w 0 h)
+zero-differ w (suc x) b h = rw (ne-eqb (suc x) 0 (omega arith))
+
+-- by eight: x is the number of the last eight bytes, which stand from place k on, and w that of the eight from place i on
+module _ (l : List ℕ) (k x : ℕ) (full : k + 8 ≡ length l) (last : x ≡ numberOf (slice k (k + 8) l)) where
+  zero-last : eqb x 0 ≡ allZero (drop k l)
+  zero-last = rw (zero-part l k x last, zero-end l (k + 8) (sym full), and-true)
+
+  pub eight-start : allZero l ≡ (eqb x 0 && allZero l)
+  eight-start = rw (zero-last, and-comm) (sym (zero-later l 0 k (omega arith)))
+
+  module _ (i : ℕ) where
+    pub eight-end : k ≤ i → (eqb x 0 && allZero (drop i l)) ≡ eqb x 0
+    eight-end h = rw zero-last (zero-later l k i h)
+
+    module _ (w : ℕ) (here : w ≡ numberOf (slice i (i + 8) l)) where
+      pub eight-differ : (w ≡ x → ⊥) → (eqb x 0 && allZero (drop i l)) ≡ false
+      eight-differ h = rw (zero-part l i w here) (zero-differ w x _ h)
+
+      pub eight-next : w ≡ x → (eqb x 0 && allZero (drop i l)) ≡ (eqb x 0 && allZero (drop (i + 8) l))
+      eight-next e = rw (zero-part l i w here, e, ← and-assoc, and-self)
+
+-- ---- a number whose lowest byte is b: at most `high` just if b is, and the other bytes are zero
+
+packed : (low high b y : ℕ) (P : ℕ → Bool) → high < 256
+    → (within low high b && eqb y 0 && P b) ≡ (within low high (b + 256 * y) && P (b + 256 * y))
+packed low high b zero P h =
+    let e : b + 256 * 0 ≡ b = omega arith in
+    rw (and-true (within low high b), e)
+packed low high b (suc y) P h =
+    rw (within-above low high (b + 256 * suc y) (omega arith), ne-eqb (suc y) 0 (omega arith), and-false (within low high b))
+
+packed-at : (l : List ℕ) (f t x low high : ℕ) (P : ℕ → Bool) → high < 256 → f < t → t ≤ length l → x ≡ numberOf (slice f t l)
+    → (within low high (getD l f 0) && allZero (slice (f + 1) t l) && P (getD l f 0)) ≡ (within low high x && P x)
+packed-at l f t x low high P small h k e =
+    rw (e, number-more l f t h k, zero-number (slice (f + 1) t l)) (packed low high (getD l f 0) (numberOf (slice (f + 1) t l)) P small)
 
 -- ---- entries
 
@@ -83,9 +149,9 @@ entry-step low m l = rw (getD-take 8 l 0 0 (omega arith), and-pairs (within low 
 abbrev pub entriesRest : ℕ → ℕ → ℕ → List ℕ → Bool
 entriesRest low n e l = entriesGood low (n - e) (drop (8 * e) l)
 
-module _ (low n e : ℕ) (l : List ℕ) (h : e < n) where
-  entries-step : entriesRest low n e l
-      ≡ (within low 127 (getD l (8 * e) 0) && allZero (lent (8 * e + 1) (8 * e + 4) l) && entriesRest (getD l (8 * e) 0 + 1) n (e + 1) l)
+-- entry e, whose item and unused bytes are the number x
+module _ (low n e : ℕ) (l : List ℕ) (x : ℕ) (h : e < n) (room : 8 * e + 4 ≤ length l) (item : x ≡ numberOf (slice (8 * e) (8 * e + 4) l)) where
+  entries-step : entriesRest low n e l ≡ (within low 127 x && entriesRest (x + 1) n (e + 1) l)
   entries-step =
       let left : n - e ≡ suc (n - (e + 1)) = omega arith in
       let next : 8 * e + 8 ≡ 8 * (e + 1) = omega arith in
@@ -94,31 +160,23 @@ module _ (low n e : ℕ) (l : List ℕ) (h : e < n) where
         entry-step low (n - (e + 1)) (drop (8 * e) l),
         getD-drop,
         add-zero,
-        lent-slice (8 * e + 1) (8 * e + 4) l (omega arith),
         part-drop,
         drop-drop,
         next,
-        add-one (getD l (8 * e) 0),
-      )
+        ← add-one (getD l (8 * e) 0),
+      ) (packed-at l (8 * e) (8 * e + 4) x low 127 (λ i. entriesRest (i + 1) n (e + 1) l) (omega arith) (omega arith) room item)
 
-  pub entries-below : getD l (8 * e) 0 < low → entriesRest low n e l ≡ false
-  entries-below k = rw (entries-step, within-below low 127 (getD l (8 * e) 0) k)
+  pub entries-bad : within low 127 x ≡ false → entriesRest low n e l ≡ false
+  entries-bad k = rw (entries-step, k)
 
-  pub entries-above : 127 < getD l (8 * e) 0 → entriesRest low n e l ≡ false
-  entries-above k = rw (entries-step, within-above low 127 (getD l (8 * e) 0) k)
-
-  pub entries-marked : allZero (lent (8 * e + 1) (8 * e + 4) l) ≡ false → entriesRest low n e l ≡ false
-  entries-marked k = rw (entries-step, k, and-false)
-
-  pub entries-next : low ≤ getD l (8 * e) 0 → getD l (8 * e) 0 ≤ 127 → allZero (lent (8 * e + 1) (8 * e + 4) l) ≡ true
-      → entriesRest low n e l ≡ entriesRest (getD l (8 * e) 0 + 1) n (e + 1) l
-  entries-next k m z = rw (entries-step, within-in low 127 (getD l (8 * e) 0) k m, z)
+  pub entries-next : within low 127 x ≡ true → entriesRest low n e l ≡ entriesRest (x + 1) n (e + 1) l
+  entries-next k = rw (entries-step, k)
 
 pub entries-end : (low n : ℕ) (l : List ℕ) → entriesRest low n n l ≡ allZero (lent (8 * n) (length l) l)
 unfolding entriesFit entriesOf entriesPadded
 entries-end low n l = rw (sub-self n, lent-rest (8 * n) l)
 
--- ---- one record, whose ticket is t
+-- ---- one record, whose ticket is t and whose number of writes and unused bytes are the number w
 
 abbrev pub recordGood : List ℕ → Bool
 recordGood l = recordFits (recordOf l) && recordPadded l
@@ -130,22 +188,23 @@ length-entries (suc n) l = ap suc (length-entries n (drop 8 l))
 
 module _ (l : List ℕ) (t : ℕ) (ticket : t ≡ numberOf (take 4 l)) where
   record-is : recordGood l
-      ≡ (within 1 maxTicket t && (within 1 8 (getD l 4 0) && (allZero (lent 5 8 l) && entriesGood 0 (getD l 4 0) (lent 8 (length l) l))))
+      ≡ (within 1 maxTicket t && (within 1 8 (getD l 4 0) && allZero (slice 5 8 l) && entriesGood 0 (getD l 4 0) (lent 8 (length l) l)))
   unfolding recordFits recordOf recordPadded
-  record-is = rw (ticket, length-entries, and-record, lent-slice 5 8 l (omega arith), lent-rest 8 l)
+  record-is = rw (ticket, length-entries, and-record, lent-rest 8 l)
 
   pub record-ticket : within 1 maxTicket t ≡ false → recordGood l ≡ false
   record-ticket e = rw (record-is, e)
 
-  pub record-writes : within 1 8 (getD l 4 0) ≡ false → recordGood l ≡ false
-  record-writes e = rw (record-is, e, and-false)
+  module _ (w : ℕ) (room : 8 ≤ length l) (writes : w ≡ numberOf (slice 4 8 l)) where
+    record-packed : recordGood l ≡ (within 1 maxTicket t && (within 1 8 w && entriesGood 0 w (lent 8 (length l) l)))
+    record-packed =
+        rw (record-is, packed-at l 4 8 w 1 8 (λ n. entriesGood 0 n (lent 8 (length l) l)) (omega arith) (omega arith) room writes)
 
-  pub record-marked : allZero (lent 5 8 l) ≡ false → recordGood l ≡ false
-  record-marked e = rw (record-is, e, and-false (within 1 8 (getD l 4 0)), and-false)
+    pub record-writes : within 1 8 w ≡ false → recordGood l ≡ false
+    record-writes e = rw (record-packed, e, and-false)
 
-  pub record-entries : within 1 maxTicket t ≡ true → within 1 8 (getD l 4 0) ≡ true → allZero (lent 5 8 l) ≡ true
-      → recordGood l ≡ entriesGood 0 (getD l 4 0) (lent 8 (length l) l)
-  record-entries e w z = rw (record-is, e, w, z)
+    pub record-entries : within 1 maxTicket t ≡ true → within 1 8 w ≡ true → recordGood l ≡ entriesGood 0 w (lent 8 (length l) l)
+    record-entries e k = rw (record-packed, e, k)
 
 -- ---- records
 
@@ -240,10 +299,10 @@ module _ (b : List ℕ) (t : ℕ) (slot : t ≡ numberOf (slice 4 8 b)) where
   unfolding headerFits ownerOf
   header-sender h = rw (← slot, ne-eqb (getD b 1 0) (t % getD b 2 0) h, and-false (leb t maxSlot), and-false)
 
-  pub header-rest : within 2 6 (getD b 2 0) ≡ true → t ≤ maxSlot → getD b 1 0 ≡ t % getD b 2 0 → headerFits b ≡ allZero (lent 8 16 b)
+  pub header-rest : within 2 6 (getD b 2 0) ≡ true → t ≤ maxSlot → getD b 1 0 ≡ t % getD b 2 0 → headerFits b ≡ eqb (numberOf (slice 8 16 b)) 0
   unfolding headerFits ownerOf
   header-rest e h k =
-      rw (e, ← slot, le-leb t maxSlot h, eq-eqb (getD b 1 0) (t % getD b 2 0) k, lent-slice 8 16 b (omega arith))
+      rw (e, ← slot, le-leb t maxSlot h, eq-eqb (getD b 1 0) (t % getD b 2 0) k, zero-number (slice 8 16 b))
 
 -- ---- kind k, and n records in the bytes l
 

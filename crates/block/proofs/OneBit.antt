@@ -19,7 +19,7 @@ use Rattle.block.specs.Numbers.{numberOf}
 use Rattle.block.specs.Theorems.{Accepted, flipped, flipBit}
 use Rattle.block.proofs.AnswerLaws.{is-taken}
 use Rattle.block.proofs.BoolLaws.{both, not-so}
-use Rattle.block.proofs.NumberLaws.{number-more, number-none}
+use Rattle.block.proofs.CheckLaws.{word-number}
 
 -- two numbers that differ by 1 to 32,768
 Moved : ℕ → ℕ → Type 0
@@ -101,15 +101,6 @@ module _ (b : List ℕ) (p y i : ℕ) (low : 2 * i ≤ p) (high : p < 2 * i + 2)
         let g = rw (let e : suc i + (253 - i) ≡ 254 = omega arith in e) at (sum-after (253 - i)) in
         (d, k, l, ⊎-elim (λ m. inl (omega arith)) (λ m. inr (omega arith)) w)
 
--- the numbers that a block holds are its last two words
-held : (b : List ℕ) (i : ℕ) → 2 * i + 2 ≤ length b → numberOf (slice (2 * i) (2 * i + 2) b) ≡ word b i
-unfolding word
-held b i h =
-    let n = number-more b (2 * i) (2 * i + 2) (omega arith) h in
-    let m = number-more b (2 * i + 1) (2 * i + 2) (omega arith) h in
-    let z = number-none b (2 * i + 1 + 1) (2 * i + 2) (omega arith) in
-    omega arith
-
 -- what a block that passes its check has
 Matched : List ℕ → Type 0
 Matched b = (length b ≡ 512) × (sumTo b 254 % 65535 ≡ word b 254) × (weightedTo b 254 % 65535 ≡ word b 255)
@@ -121,8 +112,8 @@ matched b e =
     let inner = both _ _ (outer .left) in
     let n : length b ≡ 512 = eqb-true (length b) 512 (inner .left) in (
       n,
-      eqb-true (sumTo b 254 % 65535) (numberOf (slice 508 510 b)) (inner .right) ∙ held b 254 (omega arith),
-      eqb-true (weightedTo b 254 % 65535) (numberOf (slice 510 512 b)) (outer .right) ∙ held b 255 (omega arith),
+      eqb-true (sumTo b 254 % 65535) (numberOf (slice 508 510 b)) (inner .right) ∙ word-number b 508 254 refl (omega arith),
+      eqb-true (weightedTo b 254 % 65535) (numberOf (slice 510 512 b)) (outer .right) ∙ word-number b 510 255 refl (omega arith),
     )
 
 -- no block that passes its check comes from another by one changed bit

@@ -7,7 +7,8 @@ use super::Checked;
 use super::Sums;
 use super::number16;
 
-// The sums run over all words and are reduced once: both stay below 2^32.
+// The sums run over all words and are reduced once: both stay below 2^32. Four words at a time: with the last one's weight for
+// all four, the first three have 3, 2 and 1 more.
 fn sums(bytes: &[u8]) -> Sums
     requires { ⌜ 508 ≤ length (now bytes) ⌝ }
     ensures { λ r. ⌜ r ≡ sumsOf (now (bytes .entry)) ⌝ }
@@ -15,16 +16,22 @@ fn sums(bytes: &[u8]) -> Sums
     let mut first: u32 = 0;
     let mut second: u32 = 0;
     let mut i: u32 = 0;
-    while i < 254 {
+    while i < 252 {
         let at = 2 * i as usize;
-        let word = bytes[at] as u32 + 256 * (bytes[at + 1] as u32);
-        first += word;
-        second += (254 - i) * word;
-        i += 1;
+        let a = number16(bytes, at) as u32;
+        let b = number16(bytes, at + 2) as u32;
+        let c = number16(bytes, at + 4) as u32;
+        let d = number16(bytes, at + 6) as u32;
+        let four = a + b + c + d;
+        first += four;
+        second += (251 - i) * four + (3 * a + 2 * b + c);
+        i += 4;
     }
+    let y = number16(bytes, 504) as u32;
+    let z = number16(bytes, 506) as u32;
     Sums {
-        first: (first % 65535) as u16,
-        second: (second % 65535) as u16,
+        first: ((first + y + z) % 65535) as u16,
+        second: ((second + 2 * y + z) % 65535) as u16,
     }
 }
 

@@ -6,38 +6,56 @@ ghost use lib.ListN.{length, drop};
 ghost use Rattle.block.specs.Message.{entriesFit, recordFits, recordsFit, ticketAbsent, ticketsDiffer};
 ghost use Rattle.block.specs.Form.{entriesOf, recordOf, recordsOf, allZero, entriesPadded, recordPadded, recordsPadded, headerFits, wellFormed};
 use super::number;
+use super::number64;
 
-// Whether every byte of the part is zero. The bytes are summed and the sum is compared once.
-fn zero(part: &[u8]) -> bool
-    requires { ⌜ length (now part) ≤ 512 ⌝ }
+// Whether every byte of the part is zero, byte by byte: for fewer than eight.
+fn zero_short(part: &[u8]) -> bool
     ensures { λ r. ⌜ r ≡ allZero (now (part .entry)) ⌝ }
 {
-    let mut sum: u32 = 0;
     let mut i: usize = 0;
     while i < part.len() {
-        sum += part[i] as u32;
+        if part[i] != 0 {
+            return false;
+        }
         i += 1;
     }
-    sum == 0
+    true
+}
+
+// Whether every byte of the part is zero, by eight: each eight equal the last eight, which are zero.
+// Were each compared with zero, the compiler would load and compare them byte by byte.
+fn zero(part: &[u8]) -> bool
+    ensures { λ r. ⌜ r ≡ allZero (now (part .entry)) ⌝ }
+{
+    if part.len() < 8 {
+        return zero_short(part);
+    }
+    let end = part.len() - 8;
+    let last = number64(part, end);
+    let mut i: usize = 0;
+    while i < end {
+        if number64(part, i) != last {
+            return false;
+        }
+        i += 8;
+    }
+    last == 0
 }
 
 // The first n of eight entries, and the zeros after them.
+// An item is read with its three unused bytes: where they are not zero, the number is 256 or more.
 fn entries_fit(part: &[u8], n: usize) -> bool
     requires { ⌜ (length (now part) ≡ 64) × (n ≤ 8) ⌝ }
     ensures { λ r. ⌜ r ≡ (entriesFit 0 (entriesOf n (now (part .entry))) && entriesPadded n (now (part .entry))) ⌝ }
 {
-    let mut low: u8 = 0;
+    let mut low: u32 = 0;
     let mut e: usize = 0;
     while e < n {
-        let at = 8 * e;
-        let item = part[at];
+        let item = number(part, 8 * e);
         if item < low {
             return false;
         }
         if 127 < item {
-            return false;
-        }
-        if !zero(&part[at + 1..at + 4]) {
             return false;
         }
         low = item + 1;
@@ -46,7 +64,7 @@ fn entries_fit(part: &[u8], n: usize) -> bool
     zero(&part[8 * n..])
 }
 
-// One record, of 72 bytes.
+// One record, of 72 bytes. The number of writes is read with its three unused bytes, as an item is.
 fn record_fits(part: &[u8]) -> bool
     requires { ⌜ length (now part) ≡ 72 ⌝ }
     ensures { λ r. ⌜ r ≡ (recordFits (recordOf (now (part .entry))) && recordPadded (now (part .entry))) ⌝ }
@@ -58,17 +76,14 @@ fn record_fits(part: &[u8]) -> bool
     if 100000000 < ticket {
         return false;
     }
-    let writes = part[4] as usize;
+    let writes = number(part, 4);
     if writes < 1 {
         return false;
     }
     if 8 < writes {
         return false;
     }
-    if !zero(&part[5..8]) {
-        return false;
-    }
-    entries_fit(&part[8..], writes)
+    entries_fit(&part[8..], writes as usize)
 }
 
 // The first `count` of six records, and the zeros after them up to the check.
@@ -137,7 +152,7 @@ fn header_fits(block: &[u8]) -> bool
     if sender != slot % (replicas as u32) {
         return false;
     }
-    zero(&block[8..16])
+    number64(block, 8) == 0
 }
 
 // Whether a block is well formed; false for another length.

@@ -1,4 +1,4 @@
--- `block::form::header_fits` meets its contract: each test that fails makes `headerFits` false, and past them it is what `zero` answers.
+-- `block::form::header_fits` meets its contract: each test that fails makes `headerFits` false, and past them bytes 8 to 15 decide.
 -- Assumes nothing.
 use mathlib.Core.Path.{sym, _∙_}
 use native.Mathlib.Omega.{arith}
@@ -41,25 +41,16 @@ returns-4 c =
     let n = c .before .before .before in
     sym (header-sender (c .before .before .before .before .before .before .before .before .args .block .now) (n .number .result) (n .number .ensures) (c .if4 .taken))
 
-sub-zero : tie.Need-sub-zero
-sub-zero c = search needs
-
-part-zero-start : tie.Need-part-zero-start
-part-zero-start c = search needs
-
-part-zero-end : tie.Need-part-zero-end
-part-zero-end c = search needs
-
-zero-requires : tie.Need-zero-requires
-zero-requires c κs = search needs
+number64-requires : tie.Need-number64-requires
+number64-requires c κs = search needs
 
 returns-5 : tie.Need-returns-5
 returns-5 c =
-    let e = c .before .before in
+    let e = c .before in
     let n = e .before .before .before in
-    let b = c .before .before .before .before .before .before .before .before .before .before .args .block .now in
-    c .zero .ensures
-    ∙ sym (header-rest b (n .number .result) (n .number .ensures) (within-in 2 6 _ (omega arith) (omega arith)) (e .before .before .if3 .left) (e .if4 .left))
+    let b = c .before .before .before .before .before .before .before .before .before .args .block .now in
+    rw (c .number64 .ensures)
+    (sym (header-rest b (n .number .result) (n .number .ensures) (within-in 2 6 _ (omega arith) (omega arith)) (e .before .before .if3 .left) (e .if4 .left)))
 
 pub header-fits-spec : {M : Type 1} → statement M
 header-fits-spec =
@@ -75,8 +66,5 @@ header-fits-spec =
     cast-if4
     rem-if4
     returns-4
-    sub-zero
-    part-zero-start
-    part-zero-end
-    zero-requires
+    number64-requires
     returns-5)

@@ -4,6 +4,7 @@ use Prim.Native.Nat.{_-_, _≤_}
 use mathlib.Core.Path.{_≡_, sym, _∙_}
 use native.Mathlib.Nat.{sub-zero as minus-zero}
 use native.Mathlib.Omega.{arith}
+use borrow.Author.Needs.{needs}
 use lib.ListN.{length-take, length-drop}
 use Rattle.block.proofs.FormLaws.{refused, passed, recordsGood, recordsRest, records-bad, records-next, records-end}
 use Rattle.block.proofs.form.records_fit.Statement.{statement}
@@ -71,7 +72,7 @@ part-zero-end : tie.Need-part-zero-end Inv-loop μ-loop
 part-zero-end c = omega arith
 
 zero-requires : tie.Need-zero-requires Inv-loop μ-loop
-zero-requires c κs = simp (length-take, length-drop) (omega arith)
+zero-requires c κs = search needs
 
 returns-2 : tie.Need-returns-2 Inv-loop μ-loop
 returns-2 c =

@@ -1,34 +1,54 @@
--- `block::form::zero` meets its contract. The loop's invariant: the part is all zero just if the sum so far is zero and so is the rest;
--- the sum is at most 255 for each byte passed. Assumes nothing.
-use Prim.Native.Nat.{_*_, _-_, _<_, _≤_}
-use mathlib.Core.Path.{_≡_, refl, sym, _∙_}
+-- `block::form::zero` meets its contract. The loop's invariant: the part is all zero just if its last eight bytes are, and all from `i` on.
+-- Assumes nothing.
+use Prim.Native.Nat.{_+_, _-_, _<_}
+use mathlib.Core.Path.{_≡_, sym, _∙_}
 use mathlib.Core.Bool.{_&&_}
 use native.Mathlib.Omega.{arith}
+use borrow.Author.Needs.{needs}
 use lib.Dec.{eqb}
 use lib.ListN.{length, drop}
+use lib.Seq.{slice}
 use Rattle.block.specs.Form.{allZero}
-use Rattle.block.proofs.FormLaws.{zero-next, zero-end}
+use Rattle.block.specs.Numbers.{numberOf}
+use Rattle.block.proofs.FormLaws.{eight-start, eight-differ, eight-next, eight-end}
 use Rattle.block.proofs.form.zero.Statement.{statement}
 use Rattle.block.proofs.form.zero.Tie as tie
 
 abbrev Inv-loop : tie.InvT-loop
-Inv-loop part sum₀ i₀ sum i =
-    (i ≤ length part) × (sum ≤ 255 * i) × (allZero part ≡ (eqb sum 0 && allZero (drop i part)))
+Inv-loop part end last i₀ i = (i < length part) × (allZero part ≡ (eqb last 0 && allZero (drop i part)))
 
 abbrev μ-loop : tie.MeasureT-loop
-μ-loop part sum₀ i₀ sum i = length part - i
+μ-loop part end last i₀ i = length part - i
+
+zero-short-requires : tie.Need-zero-short-requires Inv-loop μ-loop
+zero-short-requires c κs = search needs
+
+returns : tie.Need-returns Inv-loop μ-loop
+returns c = c .zero-short .ensures
+
+sub-end : tie.Need-sub-end Inv-loop μ-loop
+sub-end c = omega arith
+
+number64-requires : tie.Need-number64-requires Inv-loop μ-loop
+number64-requires c κs = omega arith
 
 loop-holds : tie.Need-loop-holds Inv-loop μ-loop
-loop-holds c = (omega arith, omega arith, refl)
+loop-holds c =
+    let l = c .before .before .before .args .part .now in
+    (omega arith, eight-start l (length l - 8) _ (omega arith) (c .number64 .ensures))
 
-shared-slice-read-sum : tie.Need-shared-slice-read-sum Inv-loop μ-loop
-shared-slice-read-sum c = omega arith
+number64-requires-2 : tie.Need-number64-requires-2 Inv-loop μ-loop
+number64-requires-2 c κs = omega arith
 
-cast-sum : tie.Need-cast-sum Inv-loop μ-loop
-cast-sum c = omega (arith, c .shared-slice-known .given (c .before .before .loop .i))
-
-add-sum : tie.Need-add-sum Inv-loop μ-loop
-add-sum c = omega (arith, c .shared-slice-known .given (c .before .before .loop .i))
+returns-2 : tie.Need-returns-2 Inv-loop μ-loop
+returns-2 c =
+    let w = c .before in
+    let b = w .before .before in
+    let n = b .before in
+    let l = n .before .before .before .args .part .now in
+    sym
+    (b .loop .inv .1
+    ∙ eight-differ l (length l - 8) _ (omega arith) (n .number64 .ensures) (b .loop .i) _ (w .number642 .ensures) (c .if2 .taken))
 
 add-i : tie.Need-add-i Inv-loop μ-loop
 add-i c = omega arith
@@ -38,17 +58,21 @@ loop-less c = omega arith
 
 loop-again : tie.Need-loop-again Inv-loop μ-loop
 loop-again c =
-    let b = c .before .before in
-    let h : b .loop .i < length (b .before .args .part .now) = omega arith in (
+    let w = c .before in
+    let b = w .before .before in
+    let n = b .before in
+    let l = n .before .before .before .args .part .now in (
       omega arith,
-      omega (arith, c .shared-slice-known .given (b .loop .i)),
-      b .loop .inv .2 ∙ zero-next (b .before .args .part .now) (b .loop .i) (b .loop .sum) h,
+      b .loop .inv .1
+          ∙ eight-next l (length l - 8) _ (omega arith) (n .number64 .ensures) (b .loop .i) _ (w .number642 .ensures) (c .if2 .left),
     )
 
-returns : tie.Need-returns Inv-loop μ-loop
-returns c =
+returns-3 : tie.Need-returns-3 Inv-loop μ-loop
+returns-3 c =
     let b = c .before in
-    sym (b .loop .inv .2 ∙ zero-end (b .before .args .part .now) (b .loop .i) (b .loop .sum) (omega arith))
+    let n = b .before in
+    let l = n .before .before .before .args .part .now in
+    sym (b .loop .inv .1 ∙ eight-end l (length l - 8) _ (omega arith) (n .number64 .ensures) (b .loop .i) (omega arith))
 
 pub zero-spec : {M : Type 1} → statement M
 zero-spec =
@@ -56,11 +80,14 @@ zero-spec =
     (tie.spec
     Inv-loop
     μ-loop
+    zero-short-requires
+    returns
+    sub-end
+    number64-requires
     loop-holds
-    shared-slice-read-sum
-    cast-sum
-    add-sum
+    number64-requires-2
+    returns-2
     add-i
     loop-less
     loop-again
-    returns)
+    returns-3)
