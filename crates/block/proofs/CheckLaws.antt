@@ -40,6 +40,21 @@ module _ (a c : List ℕ) where
   unfolding secondCheck
   secondCheck-append h = ap (λ (n : ℕ). n % 65535) (weightedTo-append 254 h)
 
+-- so it is that of the first 508 bytes
+pub firstCheck-take : (b : List ℕ) → 508 ≤ length b → firstCheck (take 508 b) ≡ firstCheck b
+firstCheck-take b h =
+    let l = length-take-le 508 b h in
+    sym (ap firstCheck (sym (take-append-drop 508 b)) ∙ firstCheck-append (take 508 b) (drop 508 b) (omega arith))
+
+pub secondCheck-take : (b : List ℕ) → 508 ≤ length b → secondCheck (take 508 b) ≡ secondCheck b
+secondCheck-take b h =
+    let l = length-take-le 508 b h in
+    sym (ap secondCheck (sym (take-append-drop 508 b)) ∙ secondCheck-append (take 508 b) (drop 508 b) (omega arith))
+
+pub check-take : (b : List ℕ) → 508 ≤ length b → checkBytes (take 508 b) ≡ checkBytes b
+unfolding checkBytes
+check-take b h = rw (firstCheck-take b h, secondCheck-take b h)
+
 pub length-checkBytes : (b : List ℕ) → length (checkBytes b) ≡ 4
 unfolding checkBytes
 length-checkBytes b = simp (length-append, length-bytesOf)

@@ -1,27 +1,30 @@
 -- The laws that the writers' proofs cite, over plain lists: what a run of stores and of parts lent leaves. Assumes nothing.
 use Prim.Native.Nat.{ℕ, zero, suc, _+_, _-_, _*_, _/_, _%_, _≤_, _<_, min}
-use mathlib.Core.Path.{_≡_, refl, sym, ap, _∙_}
-use mathlib.Core.Bool.{Bool, true, false, _&&_, false≢true}
+use mathlib.Core.Bool.{true}
 use mathlib.Core.List.{List, [], _∷_, _++_, append-assoc, append-nil}
-use native.Mathlib.Omega.{arith}
+use mathlib.Core.Path.{_≡_, refl, sym, ap, _∙_}
 use native.Mathlib.Nat.{not-suc-le-zero, le-of-suc-le-suc, sub-zero, zero-sub, suc-sub-suc}
 use native.Mathlib.Numerals.{add-one}
+use native.Mathlib.Omega.{arith}
 use borrow.Author.Tests.{eq-eqb, le-leb, eqb-true}
 use borrow.Rule.Slice.PartMut.{putMid}
-use lib.Dec.{lit≤}
 use lib.IntN.{ℤ, pos}
 use lib.ListN.{length, getD, take, drop, replicate, length-append, length-drop, length-replicate, replicate-append-replicate, take-append-drop, drop-of-length-le}
-use lib.Seq.{sets, sets-eq, take-at, drop-at, drop-drop, take-length, take-add, length-take-le, getD-take, slice, length-slice}
+use lib.Seq.{sets, sets-eq, take-at, drop-at, drop-drop, take-length, length-take-le, slice, length-slice}
 use mir.Syntax.{w32}
 use mir.Val.{ofZ}
 use Rattle.block.specs.declared.Checked.{Checked}
 use Rattle.block.specs.declared.Entry.{Entry}
 use Rattle.block.specs.declared.Header.{Header}
-use Rattle.block.specs.Numbers.{bytesOf, valueBytes}
-use Rattle.block.specs.Check.{word, sumTo, weightedTo, firstCheck, secondCheck, sumsOf, checkStep, checkBytes}
-use Rattle.block.specs.Message.{Record, Message}
 use Rattle.block.specs.Bytes.{entryBytes, entriesBytes, recordBytes, recordsBytes, headerFor, headerBytes, bodyBytes, blockOf}
+use Rattle.block.specs.Check.{firstCheck, secondCheck, sumsOf, checkStep, checkBytes}
+use Rattle.block.specs.Message.{Record, Message}
+use Rattle.block.specs.Numbers.{bytesOf, valueBytes}
 use Rattle.block.specs.Writing.{Written, written, entriesFrom, recordFrom, headerStep, recordStep, recordNo, recordsTo, messageFrom, checkedStep, lengthsFit}
+use Rattle.block.proofs.BoolLaws.{both}
+use Rattle.block.proofs.CheckLaws.{firstCheck-take, secondCheck-take, check-take, firstCheck-small, secondCheck-small}
+use Rattle.block.proofs.ListLaws.{lent-slice}
+use Rattle.block.proofs.NumberLaws.{length-bytesOf}
 
 -- ---- a list filled from the front: l is p, of a elements, and then what l₀ has from index a on
 
@@ -55,9 +58,13 @@ module _ {l₀ : List ℕ} {a : ℕ} {p l : List ℕ} (f : Filled l₀ a p l) wh
 
 -- ---- numbers
 
-length-number : (x : ℕ) → length (bytesOf 4 x) ≡ 4
+-- a byte as a number of four: three zeros behind it
+byte-number : (x : ℕ) → x < 256 → bytesOf 4 x ≡ x ∷ 0 ∷ 0 ∷ 0 ∷ []
 unfolding bytesOf
-length-number x = refl
+byte-number x h =
+    let a : x % 256 ≡ x = omega arith in
+    let z : x / 256 ≡ 0 = omega arith in
+    rw (a, z)
 
 -- the four stores of a number's bytes
 pub number-put : (l : List ℕ) (x : ℕ) → length l ≡ 4
@@ -71,19 +78,21 @@ number-put l x h =
 
 -- ---- the parts of a block, from any l of their length
 
-pub entry-put : (l ys : List ℕ) (e : Entry) → length l ≡ 8 → ys ≡ bytesOf 4 (ofZ w32 (e .value))
-    → putMid 4 4 (sets l 0 (e .item ∷ 0 ∷ 0 ∷ 0 ∷ [])) ys ≡ entryBytes e
+pub entry-put : (l xs ys : List ℕ) (e : Entry) → length l ≡ 8 → e .item < 256 → xs ≡ bytesOf 4 (e .item) → ys ≡ bytesOf 4 (ofZ w32 (e .value))
+    → putMid 4 4 (putMid 0 4 l xs) ys ≡ entryBytes e
 unfolding entryBytes valueBytes
-entry-put l ys e h q =
-    let f = filled-sets (filled-none l) (e .item ∷ 0 ∷ 0 ∷ 0 ∷ []) (omega arith) in
-    rw (← q) (filled-all (filled-part f 4 ys (ap length q ∙ length-number _)) (omega arith))
+entry-put l xs ys e h k p q =
+    let f = filled-part (filled-none l) 4 xs (ap length p ∙ length-bytesOf 4 _) in
+    filled-all (filled-part f 4 ys (ap length q ∙ length-bytesOf 4 _)) (omega arith)
+    ∙ ap (λ (z : List ℕ). z ++ ys) (p ∙ byte-number (e .item) k)
+    ∙ ap (λ (z : List ℕ). (e .item ∷ 0 ∷ 0 ∷ 0 ∷ []) ++ z) q
 
 pub header-put : (l ys zs : List ℕ) (h : Header) → length l ≡ 16 → ys ≡ bytesOf 4 (h .slot) → zs ≡ replicate 8 0
     → putMid 8 8 (putMid 4 4 (sets l 0 (h .kind ∷ h .sender ∷ h .replicas ∷ h .count ∷ [])) ys) zs ≡ headerBytes h
 unfolding headerBytes
 header-put l ys zs h n q z =
     let f = filled-sets (filled-none l) (h .kind ∷ h .sender ∷ h .replicas ∷ h .count ∷ []) (omega arith) in
-    rw (← q, ← z) (filled-all (filled-part (filled-part f 4 ys (ap length q ∙ length-number _)) 8 zs (ap length z)) (omega arith))
+    rw (← q, ← z) (filled-all (filled-part (filled-part f 4 ys (ap length q ∙ length-bytesOf 4 _)) 8 zs (ap length z)) (omega arith))
 
 -- ---- the entries of a record
 
@@ -136,14 +145,16 @@ module _ (l₀ : List ℕ) (is : List ℕ) (vs : List ℤ) where
       let e : entriesTo is vs (length is) ≡ entriesBytes (entriesFrom is vs) = rw (take-length is, ← n, take-length vs) in
       rw (← k, ← y, ← e) (filled-all (filled-part f (length l - 8 * length is) ys (ap length y ∙ length-replicate _ 0)) (omega arith))
 
-  pub record-put : (t : ℕ) (ts es : List ℕ) → length l₀ ≡ 72 → length vs ≡ length is → ts ≡ bytesOf 4 t → length es ≡ 64
-      → es ≡ entriesBytes (entriesFrom is vs) ++ replicate (64 - 8 * length is) 0
-      → putMid 8 64 (sets (putMid 0 4 l₀ ts) 4 (length is ∷ 0 ∷ 0 ∷ 0 ∷ [])) es ≡ recordBytes (recordFrom t is vs)
+  pub record-put : (t : ℕ) (ts ns es : List ℕ) → length l₀ ≡ 72 → length is ≤ 8 → length vs ≡ length is → ts ≡ bytesOf 4 t → ns ≡ bytesOf 4 (length is)
+      → length es ≡ 64 → es ≡ entriesBytes (entriesFrom is vs) ++ replicate (64 - 8 * length is) 0
+      → putMid 8 64 (putMid 4 4 (putMid 0 4 l₀ ts) ns) es ≡ recordBytes (recordFrom t is vs)
   unfolding recordBytes
-  record-put t ts es h n q m y =
-      let ns : List ℕ = length is ∷ 0 ∷ 0 ∷ 0 ∷ [] in
-      let f = filled-sets (filled-part (filled-none l₀) 4 ts (ap length q ∙ length-number _)) ns (omega arith) in
-      rw (length-entries is vs n, ← y, ← q) (filled-all (filled-part f 64 es m) (omega arith) ∙ append-assoc ts ns es)
+  record-put t ts ns es h k n q r m y =
+      let f = filled-part (filled-part (filled-none l₀) 4 ts (ap length q ∙ length-bytesOf 4 _)) 4 ns (ap length r ∙ length-bytesOf 4 _) in
+      filled-all (filled-part f 64 es m) (omega arith)
+      ∙ append-assoc ts ns es
+      ∙ ap (λ (z : List ℕ). ts ++ (z ++ es)) (r ∙ byte-number (length is) (omega arith))
+      ∙ rw (length-entries is vs n, ← y, ← q)
 
 -- ---- the records of a block
 
@@ -157,12 +168,6 @@ unfolding recordsBytes
 records-append [] r = append-nil _
 records-append (s ∷ rs) r = rw (records-append rs r) (sym (append-assoc (recordBytes s) (recordsBytes rs) (recordBytes r)))
 
--- what a part from a on, of n elements, holds
-part-slice : {A : Type 0} (a n : ℕ) (l : List A) → a ≤ length l → take (a + n - a) (drop a l) ≡ slice a (a + n) l
-part-slice a n l h =
-    let e : a + n - a ≡ n = omega arith in
-    rw (e, take-add a n l) (sym (drop-at (take a l) (take n (drop a l)) a (length-take-le a l h)))
-
 module _ (ts ws is : List ℕ) (vs : List ℤ) (long : (length is ≡ 48) × (length vs ≡ 48)) (j : ℕ) (low : j < 6) where
   -- the call for record j writes that record, of m writes
   record-written : (m r : ℕ) (part ys : List ℕ) → m ≡ min (getD ws j 0) 8 → length part ≡ 72
@@ -173,7 +178,7 @@ module _ (ts ws is : List ℕ) (vs : List ℤ) (long : (length is ≡ 48) × (le
       let i = length-slice (8 * j) (8 * j + m) is (omega arith) in
       let v = length-slice (8 * j) (8 * j + m) vs (omega arith) in
       let d = record-done part (getD ts j 0) (slice (8 * j) (8 * j + m) is) (slice (8 * j) (8 * j + m) vs) h (omega arith) (v ∙ sym i) in
-      rw (← e) (ap (λ (w : Written). w .bytes) (rw (part-slice (8 * j) m is (omega arith), part-slice (8 * j) m vs (omega arith)) at q ∙ d))
+      rw (← e) (ap (λ (w : Written). w .bytes) (rw (lent-slice (8 * j) (8 * j + m) is (omega arith), lent-slice (8 * j) (8 * j + m) vs (omega arith)) at q ∙ d))
 
 -- the block up to record j
 abbrev pub blockTo : List ℕ → List ℕ → List ℕ → List ℕ → List ℤ → ℕ → List ℕ
@@ -203,53 +208,18 @@ module _ (l₀ ts ws is : List ℕ) (vs : List ℤ) where
 
 -- ---- the check: it is of the first 508 bytes alone
 
-module _ (n : ℕ) (b : List ℕ) where
-  word-take : (k : ℕ) → 2 * suc k ≤ n → word (take n b) k ≡ word b k
-  unfolding word
-  word-take k h = rw (getD-take n b (2 * k) 0 (omega arith), getD-take n b (2 * k + 1) 0 (omega arith))
-
-  sum-take : (k : ℕ) → 2 * k ≤ n → sumTo (take n b) k ≡ sumTo b k
-  unfolding sumTo
-  sum-take zero h = refl
-  sum-take (suc k) h = rw (sum-take k (omega arith), word-take k h)
-
-  weighted-take : (k : ℕ) → 2 * k ≤ n → weightedTo (take n b) k ≡ weightedTo b k
-  unfolding weightedTo
-  weighted-take zero h = refl
-  weighted-take (suc k) h = rw (weighted-take k (omega arith), word-take k h)
-
-first-take : (b : List ℕ) → firstCheck (take 508 b) ≡ firstCheck b
-unfolding firstCheck
-first-take b = rw (sum-take 508 b 254 (lit≤ tt))
-
-second-take : (b : List ℕ) → secondCheck (take 508 b) ≡ secondCheck b
-unfolding secondCheck
-second-take b = rw (weighted-take 508 b 254 (lit≤ tt))
-
-pub check-take : (b : List ℕ) → checkBytes (take 508 b) ≡ checkBytes b
-unfolding checkBytes
-check-take b = rw (first-take b, second-take b)
-
-first-low : (b : List ℕ) → firstCheck b < 65535
-unfolding firstCheck
-first-low b = omega arith
-
-second-low : (b : List ℕ) → secondCheck b < 65535
-unfolding secondCheck
-second-low b = omega arith
-
 -- k is what `check_of` answers of the first 508
 sums-known : (l : List ℕ) (k : Checked) → length l ≡ 512 → k ≡ checkStep (take 508 l) → k .sums ≡ sumsOf l
 unfolding checkStep sumsOf
 sums-known l k h q =
     let n : length (take 508 l) ≡ 508 = length-take-le 508 l (omega arith) in
-    ap (λ (c : Checked). c .sums) q ∙ rw (eq-eqb _ 508 n, first-take l, second-take l)
+    ap (λ (c : Checked). c .sums) q ∙ rw (eq-eqb _ 508 n, firstCheck-take l (omega arith), secondCheck-take l (omega arith))
 
 check-bytes : (l : List ℕ) → (firstCheck l % 256 ∷ firstCheck l / 256 ∷ secondCheck l % 256 ∷ secondCheck l / 256 ∷ []) ≡ checkBytes l
 unfolding checkBytes bytesOf
 check-bytes l =
-    let e : firstCheck l / 256 % 256 ≡ firstCheck l / 256 = omega (arith, first-low l) in
-    let d : secondCheck l / 256 % 256 ≡ secondCheck l / 256 = omega (arith, second-low l) in
+    let e : firstCheck l / 256 % 256 ≡ firstCheck l / 256 = omega (arith, firstCheck-small l) in
+    let d : secondCheck l / 256 % 256 ≡ secondCheck l / 256 = omega (arith, secondCheck-small l) in
     rw (e, d)
 
 -- the four stores of the check
@@ -314,13 +284,9 @@ module _ (ts ws is : List ℕ) (vs : List ℤ) where
         let f = body-put z l hs b e q (t ∙ s) (ap (λ (x : Written). x .bytes) (p ∙ header-done part (capped h n) s)) u in
         let g : length (bodyBytes m) ≡ 508 = omega (arith, ap length f, length-append (bodyBytes m) (replicate 4 0)) in
         let x : take 508 b ≡ bodyBytes m = ap (take 508) f ∙ take-at (bodyBytes m) (replicate 4 0) 508 g in
-        y ∙ rw (eq-eqb _ 512 w, ← check-take b, x)
+        y ∙ rw (eq-eqb _ 512 w, ← check-take b (omega arith), x)
 
 -- ---- what the test of the lengths says
-
-and-split : (a b : Bool) → a && b ≡ true → (a ≡ true) × (b ≡ true)
-and-split true b e = (refl, e)
-and-split false b e = absurd (false≢true e)
 
 pub record Lengths (b ts ws is : List ℕ) (vs : List ℤ) : Type 0 where
   pub block : length b ≡ 512
@@ -332,8 +298,8 @@ pub record Lengths (b ts ws is : List ℕ) (vs : List ℤ) : Type 0 where
 pub lengths-fit : (b ts ws is : List ℕ) (vs : List ℤ) → lengthsFit b ts ws is vs ≡ true → Lengths b ts ws is vs
 unfolding lengthsFit
 lengths-fit b ts ws is vs h =
-    let p = and-split _ _ h in
-    let q = and-split _ _ (p .1) in
-    let r = and-split _ _ (q .1) in
-    let s = and-split _ _ (r .1) in
-    record { block = eqb-true _ 512 (p .0); tickets = eqb-true _ 6 (q .0); writes = eqb-true _ 6 (r .0); items = eqb-true _ 48 (s .0); values = eqb-true _ 48 (s .1) }
+    let p = both _ _ h in
+    let q = both _ _ (p .right) in
+    let r = both _ _ (q .right) in
+    let s = both _ _ (r .right) in
+    record { block = eqb-true _ 512 (p .left); tickets = eqb-true _ 6 (q .left); writes = eqb-true _ 6 (r .left); items = eqb-true _ 48 (s .left); values = eqb-true _ 48 (s .right) }

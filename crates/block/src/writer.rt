@@ -33,15 +33,12 @@ fn clear(part: &mut [u8])
     }
 }
 
-// One entry, in 8 bytes.
+// One entry, in 8 bytes: the item as a number has the three zeros behind it.
 fn put_entry(part: &mut [u8], entry: Entry)
     requires { ⌜ length (now part) ≡ 8 ⌝ }
     ensures { λ _. ⌜ now (part .exit) ≡ entryBytes entry ⌝ }
 {
-    part[0] = entry.item;
-    part[1] = 0;
-    part[2] = 0;
-    part[3] = 0;
+    put_number(&mut part[0..4], entry.item as u32);
     put_number(&mut part[4..8], to_bits(entry.value));
 }
 
@@ -96,10 +93,7 @@ pub fn write_record(part: &mut [u8], ticket: u32, items: &[u8], values: &[i32]) 
         return 1;
     }
     put_number(&mut part[0..4], ticket);
-    part[4] = items.len() as u8;
-    part[5] = 0;
-    part[6] = 0;
-    part[7] = 0;
+    put_number(&mut part[4..8], items.len() as u32);
     put_entries(&mut part[8..72], items, values);
     0
 }

@@ -1,10 +1,9 @@
--- `writer::write_record` meets its contract: the ticket's part, four stores and the entries' part, in this order, are all of it.
+-- `writer::write_record` meets its contract: the ticket's part, the count's part and the entries' part, in this order, are all of it.
 -- Assumes nothing.
 use mathlib.Core.Path.{_∙_}
 use native.Mathlib.Omega.{arith}
 use borrow.Author.Tests.{eq-eqb, ne-eqb, le-leb, lt-leb}
 use borrow.Author.Needs.{needs}
-use lib.ListN.{length-set}
 use Rattle.block.specs.Writing.{recordStep}
 use Rattle.block.proofs.WriteLaws.{record-put}
 use Rattle.block.proofs.writer.write_record.Statement.{statement}
@@ -34,20 +33,20 @@ part-put-number-end c = search needs
 put-number-requires : tie.Need-put-number-requires
 put-number-requires c κs = search needs
 
-cast-part : tie.Need-cast-part
-cast-part c = search needs
+sub-put-number-2 : tie.Need-sub-put-number-2
+sub-put-number-2 c = search needs
 
-slice-write-part : tie.Need-slice-write-part
-slice-write-part c = search needs
+part-put-number-start-2 : tie.Need-part-put-number-start-2
+part-put-number-start-2 c = search needs
 
-slice-write-part-2 : tie.Need-slice-write-part-2
-slice-write-part-2 c = simp length-set (omega (arith, c .before .part .given .1))
+part-put-number-end-2 : tie.Need-part-put-number-end-2
+part-put-number-end-2 c = search needs
 
-slice-write-part-3 : tie.Need-slice-write-part-3
-slice-write-part-3 c = simp length-set (omega (arith, c .before .part .given .1))
+cast-put-number : tie.Need-cast-put-number
+cast-put-number c = search needs
 
-slice-write-part-4 : tie.Need-slice-write-part-4
-slice-write-part-4 c = simp length-set (omega (arith, c .before .part .given .1))
+put-number-requires-2 : tie.Need-put-number-requires-2
+put-number-requires-2 c κs = search needs
 
 sub-put-entries : tie.Need-sub-put-entries
 sub-put-entries c = search needs
@@ -56,26 +55,28 @@ part-put-entries-start : tie.Need-part-put-entries-start
 part-put-entries-start c = search needs
 
 part-put-entries-end : tie.Need-part-put-entries-end
-part-put-entries-end c = simp length-set (omega (arith, c .before .part .given .1))
+part-put-entries-end c = search needs
 
 put-entries-requires : tie.Need-put-entries-requires
 put-entries-requires c κs = search needs
 
 same-length : tie.Need-same-length
-same-length c = c .before .part2 .given .1 ∙ simp length-set (c .before .before .before .before .before .part .given .1)
+same-length c = search needs
 
 returns-4 : tie.Need-returns-4
 unfolding recordStep
 returns-4 c =
     let z = c .before .before in
-    let n = z .before .before .before .before in
+    let m = z .before .before .before .before in
+    let n = m .before .before .before .before in
     let b = n .before .before in
     let a = b .before .before .before .before .before .args in
     let h = b .before .before .if1 .left in
+    let l = b .before .if2 .left in
     let k = b .if3 .left in
-    let e = record-put (a .part .now) (a .items .now) (a .values .now) (a .ticket) (n .put-number .last .0) (z .put-entries .last .0)
-    h k (n .put-number .ensures) (c .before .part2 .given .0 ∙ z .before .put-entries-arg .given .2) (z .put-entries .ensures) in
-    rw (eq-eqb _ 72 h, le-leb _ 8 (b .before .if2 .left), eq-eqb _ _ k, ← e)
+    let e = record-put (a .part .now) (a .items .now) (a .values .now) (a .ticket) (n .put-number .last .0) (m .put-number2 .last .0) (z .put-entries .last .0)
+    h l k (n .put-number .ensures) (m .put-number2 .ensures) (c .before .part3 .given .0 ∙ z .before .put-entries-arg .given .2) (z .put-entries .ensures) in
+    rw (eq-eqb _ 72 h, le-leb _ 8 l, eq-eqb _ _ k, ← e)
 
 pub write-record-spec : {M : Type 1} → statement M
 write-record-spec =
@@ -88,11 +89,11 @@ write-record-spec =
     part-put-number-start
     part-put-number-end
     put-number-requires
-    cast-part
-    slice-write-part
-    slice-write-part-2
-    slice-write-part-3
-    slice-write-part-4
+    sub-put-number-2
+    part-put-number-start-2
+    part-put-number-end-2
+    cast-put-number
+    put-number-requires-2
     sub-put-entries
     part-put-entries-start
     part-put-entries-end

@@ -1,0 +1,3 @@
+//! The proved libraries, as safe Rust functions.
+
+pub mod block;

@@ -1,0 +1,589 @@
+//! The block: one message between replicas, 512 bytes, little-endian.
+//!
+//! | Bytes | Content |
+//! |---|---|
+//! | 0 | kind: [`NEXT`] or [`TO_COMMIT`] |
+//! | 1 | sender |
+//! | 2 | number of replicas, N |
+//! | 3 | number of records |
+//! | 4–7 | slot |
+//! | 8–15 | zero |
+//! | 16 + 72·j | record j, 0 to 5 |
+//! | 448–507 | zero |
+//! | 508–511 | the check: two 16-bit numbers |
+//!
+//! A record: ticket (4 bytes), number of writes (1), zero (3), eight entries of 8 bytes.
+//! An entry: item (1 byte), zero (3), value (4). Unused entries and records are zero.
+
+/// Bytes of a block.
+pub const BLOCK: usize = 512;
+/// Bytes that the check is taken over: all before it.
+pub const CHECKED: usize = 508;
+/// Bytes before the first record.
+pub const HEADER: usize = 16;
+/// Bytes of a record.
+pub const RECORD: usize = 72;
+/// Bytes of a record before its first entry.
+pub const RECORD_HEAD: usize = 8;
+/// Bytes of an entry.
+pub const ENTRY: usize = 8;
+
+/// The most records in a block.
+pub const RECORDS: usize = 6;
+/// The most entries in a record.
+pub const ENTRIES: usize = 8;
+/// The highest item.
+pub const MAX_ITEM: u8 = 127;
+/// The highest ticket; the lowest is 1.
+pub const MAX_TICKET: u32 = 100_000_000;
+/// The highest slot; the lowest is 0.
+pub const MAX_SLOT: u32 = 99_999_999;
+
+/// The kind of a message without records (document 01's *next*).
+pub const NEXT: u8 = 1;
+/// The kind of a message with 1 to 6 records (document 01's *tocommit*).
+pub const TO_COMMIT: u8 = 2;
+
+/// Refusal: the length is not 512.
+pub const WRONG_LENGTH: u8 = 1;
+/// Refusal: the check does not match.
+pub const WRONG_CHECK: u8 = 14;
+/// Refusal: not well formed.
+pub const WRONG_FORM: u8 = 15;
+
+/// What a block carries.
+#[derive(Clone, Debug, PartialEq, Eq)]
+pub struct Message {
+    pub kind: u8,
+    pub sender: u8,
+    pub replicas: u8,
+    pub slot: u32,
+    pub records: Vec<Record>,
+}
+
+/// The writeset of one transaction.
+#[derive(Clone, Debug, PartialEq, Eq)]
+pub struct Record {
+    pub ticket: u32,
+    pub entries: Vec<Entry>,
+}
+
+/// One item and its new value.
+#[derive(Clone, Copy, Debug, Default, PartialEq, Eq)]
+pub struct Entry {
+    pub item: u8,
+    pub value: i32,
+}
+
+/// The first eight bytes of a block.
+#[derive(Clone, Copy, Debug, Default, PartialEq, Eq)]
+pub struct Header {
+    pub kind: u8,
+    pub sender: u8,
+    pub replicas: u8,
+    pub count: u8,
+    pub slot: u32,
+}
+
+/// The first five bytes of a record.
+#[derive(Clone, Copy, Debug, Default, PartialEq, Eq)]
+pub struct RecordHead {
+    pub ticket: u32,
+    pub writes: u8,
+}
+
+/// The block of a message. See [`encode_into`].
+pub fn encode(message: &Message) -> [u8; BLOCK] {
+    let mut block = [0u8; BLOCK];
+    encode_into(message, &mut block);
+    block
+}
+
+/// Writes the block of a message, whatever the bytes were before.
+///
+/// The fields go in as they are: a message that breaks the form gives a block that [`decode`]
+/// refuses.
+///
+/// # Panics
+///
+/// If the message has more than 6 records or a record more than 8 entries: no block holds it.
+pub fn encode_into(message: &Message, block: &mut [u8; BLOCK]) {
+    assert!(message.records.len() <= RECORDS, "more than 6 records");
+    *block = [0; BLOCK];
+    put_header(
+        block,
+        &Header {
+            kind: message.kind,
+            sender: message.sender,
+            replicas: message.replicas,
+            count: message.records.len() as u8,
+            slot: message.slot,
+        },
+    );
+    let (parts, _) = block[HEADER..CHECKED].as_chunks_mut();
+    for (part, record) in parts.iter_mut().zip(&message.records) {
+        assert!(record.entries.len() <= ENTRIES, "more than 8 entries");
+        let entries = record.entries.iter().map(|entry| (entry.item, entry.value));
+        put_record(part, record.ticket, entries);
+    }
+    put_check(block);
+}
+
+/// As [`encode_into`], from arrays: record j has `tickets[j]` and the first `writes[j]` of the
+/// eight items and values from 8·j on. A count above 6 is taken as 6, a number of writes above 8
+/// as 8.
+pub fn encode_arrays(
+    header: &Header,
+    tickets: &[u32; RECORDS],
+    writes: &[u8; RECORDS],
+    items: &[u8; RECORDS * ENTRIES],
+    values: &[i32; RECORDS * ENTRIES],
+    block: &mut [u8; BLOCK],
+) {
+    let count = header.count.min(RECORDS as u8);
+    *block = [0; BLOCK];
+    put_header(block, &Header { count, ..*header });
+    let (parts, _) = block[HEADER..CHECKED].as_chunks_mut();
+    for (j, part) in parts.iter_mut().enumerate().take(usize::from(count)) {
+        let writes = usize::from(writes[j]).min(ENTRIES);
+        let items = &items[j * ENTRIES..][..writes];
+        let values = &values[j * ENTRIES..][..writes];
+        put_record(
+            part,
+            tickets[j],
+            items.iter().copied().zip(values.iter().copied()),
+        );
+    }
+    put_check(block);
+}
+
+/// The message of a block, or why it is refused. See [`read`].
+pub fn decode(bytes: &[u8]) -> Result<Message, u8> {
+    let header = read(bytes)?;
+    let (parts, _) = bytes[HEADER..].as_chunks();
+    Ok(Message {
+        kind: header.kind,
+        sender: header.sender,
+        replicas: header.replicas,
+        slot: header.slot,
+        records: parts[..usize::from(header.count)]
+            .iter()
+            .map(record)
+            .collect(),
+    })
+}
+
+/// The header of a block, or why the block is refused: 1, 14 or 15, the first that applies.
+/// All of the block is checked, and nothing is allocated.
+pub fn read(bytes: &[u8]) -> Result<Header, u8> {
+    let block: &[u8; BLOCK] = bytes.try_into().map_err(|_| WRONG_LENGTH)?;
+    if !check_matches(block) {
+        return Err(WRONG_CHECK);
+    }
+    if !well_formed(block) {
+        return Err(WRONG_FORM);
+    }
+    Ok(header(block))
+}
+
+/// The check: with w(i) the 16-bit word at byte 2·i, i from 0 to 253, the sum of w(i) and the sum
+/// of (254 − i)·w(i), both modulo 65,535.
+pub fn check(bytes: &[u8; CHECKED]) -> (u16, u16) {
+    // Both whole sums fit 32 bits: at most 254·65,535 and 254·255/2·65,535.
+    let mut first = 0u32;
+    let mut second = 0u32;
+    let (words, _) = bytes.as_chunks();
+    for (i, &word) in words.iter().enumerate() {
+        let word = u32::from(u16::from_le_bytes(word));
+        first += word;
+        second += (254 - i as u32) * word;
+    }
+    ((first % 65_535) as u16, (second % 65_535) as u16)
+}
+
+/// Whether the last four bytes are the check of the others.
+pub fn check_matches(block: &[u8; BLOCK]) -> bool {
+    let (bytes, stored) = block.split_first_chunk().unwrap();
+    let (first, second) = check(bytes);
+    stored[..2] == first.to_le_bytes() && stored[2..] == second.to_le_bytes()
+}
+
+/// Puts the check of the first 508 bytes behind them.
+pub fn put_check(block: &mut [u8; BLOCK]) {
+    let (bytes, stored) = block.split_first_chunk_mut().unwrap();
+    let (first, second) = check(bytes);
+    stored[..2].copy_from_slice(&first.to_le_bytes());
+    stored[2..].copy_from_slice(&second.to_le_bytes());
+}
+
+/// Whether the block is well formed. The check is not looked at.
+pub fn well_formed(block: &[u8; BLOCK]) -> bool {
+    let header = header(block);
+    match (header.kind, header.count) {
+        (NEXT, 0) | (TO_COMMIT, 1..=6) => {}
+        _ => return false,
+    }
+    if !(2..=6).contains(&header.replicas)
+        || header.slot > MAX_SLOT
+        || u32::from(header.sender) != header.slot % u32::from(header.replicas)
+        || block[8..HEADER] != [0; 8]
+    {
+        return false;
+    }
+    let (used, unused) = block[HEADER..CHECKED].split_at(usize::from(header.count) * RECORD);
+    let (records, _) = used.as_chunks();
+    is_zero(unused) && records.iter().all(well_formed_record) && tickets_differ(records)
+}
+
+fn well_formed_record(part: &[u8; RECORD]) -> bool {
+    let ticket = word(part, 0);
+    // The zero bytes behind a one-byte field are tested with it, as one 32-bit number.
+    let writes = word(part, 4);
+    if !(1..=MAX_TICKET).contains(&ticket) || !(1..=8).contains(&writes) {
+        return false;
+    }
+    let (entries, _) = part[RECORD_HEAD..].as_chunks::<ENTRY>();
+    let (used, unused) = entries.split_at(writes as usize);
+    // Where the items rise, the last is the highest.
+    used.is_sorted_by(|a, b| word(a, 0) < word(b, 0))
+        && word(&used[used.len() - 1], 0) <= u32::from(MAX_ITEM)
+        && is_zero(unused.as_flattened())
+}
+
+fn tickets_differ(records: &[[u8; RECORD]]) -> bool {
+    (1..records.len()).all(|j| {
+        let ticket = word(&records[j], 0);
+        records[..j].iter().all(|other| word(other, 0) != ticket)
+    })
+}
+
+/// The header of a block, whatever its bytes are.
+pub fn header(block: &[u8; BLOCK]) -> Header {
+    Header {
+        kind: block[0],
+        sender: block[1],
+        replicas: block[2],
+        count: block[3],
+        slot: word(block, 4),
+    }
+}
+
+/// Ticket and number of writes of record j, whatever the bytes are.
+///
+/// # Panics
+///
+/// If j is above 5.
+pub fn record_head(block: &[u8; BLOCK], j: usize) -> RecordHead {
+    assert!(j < RECORDS, "record {j} of a block");
+    let part = &block[HEADER + RECORD * j..];
+    RecordHead {
+        ticket: word(part, 0),
+        writes: part[4],
+    }
+}
+
+/// Entry e of record j, whatever the bytes are.
+///
+/// # Panics
+///
+/// If j is above 5 or e above 7.
+pub fn entry(block: &[u8; BLOCK], j: usize, e: usize) -> Entry {
+    assert!(j < RECORDS && e < ENTRIES, "entry {e} of record {j}");
+    let part = &block[HEADER + RECORD * j + RECORD_HEAD + ENTRY * e..];
+    Entry {
+        item: part[0],
+        value: word(part, 4) as i32,
+    }
+}
+
+/// The record in a part that is well formed.
+fn record(part: &[u8; RECORD]) -> Record {
+    let writes = usize::from(part[4]);
+    Record {
+        ticket: word(part, 0),
+        entries: part[RECORD_HEAD..]
+            .chunks_exact(ENTRY)
+            .take(writes)
+            .map(|entry| Entry {
+                item: entry[0],
+                value: word(entry, 4) as i32,
+            })
+            .collect(),
+    }
+}
+
+/// Writes the header into a block of zeros.
+fn put_header(block: &mut [u8; BLOCK], header: &Header) {
+    block[0] = header.kind;
+    block[1] = header.sender;
+    block[2] = header.replicas;
+    block[3] = header.count;
+    block[4..8].copy_from_slice(&header.slot.to_le_bytes());
+}
+
+/// Writes a record of at most 8 entries into a part of zeros.
+fn put_record(
+    part: &mut [u8; RECORD],
+    ticket: u32,
+    entries: impl ExactSizeIterator<Item = (u8, i32)>,
+) {
+    part[..4].copy_from_slice(&ticket.to_le_bytes());
+    part[4] = entries.len() as u8;
+    let (places, _) = part[RECORD_HEAD..].as_chunks_mut::<ENTRY>();
+    for (place, (item, value)) in places.iter_mut().zip(entries) {
+        place[0] = item;
+        place[4..].copy_from_slice(&value.to_le_bytes());
+    }
+}
+
+/// The 32-bit number at a byte.
+fn word(bytes: &[u8], at: usize) -> u32 {
+    u32::from_le_bytes(bytes[at..at + 4].try_into().unwrap())
+}
+
+/// Whether all of a part of a block is zero: one comparison of memory, since a loop that can stop
+/// at any byte goes byte by byte.
+fn is_zero(part: &[u8]) -> bool {
+    const ZEROS: [u8; BLOCK] = [0; BLOCK];
+    *part == ZEROS[..part.len()]
+}
+
+#[cfg(test)]
+mod tests {
+    use super::*;
+    use crate::samples::{self, Random};
+
+    fn message(slot: u32, records: Vec<Record>) -> Message {
+        Message {
+            kind: if records.is_empty() { NEXT } else { TO_COMMIT },
+            sender: (slot % 2) as u8,
+            replicas: 2,
+            slot,
+            records,
+        }
+    }
+
+    fn record(ticket: u32, entries: &[(u8, i32)]) -> Record {
+        Record {
+            ticket,
+            entries: entries
+                .iter()
+                .map(|&(item, value)| Entry { item, value })
+                .collect(),
+        }
+    }
+
+    #[test]
+    fn marked_next() {
+        let message = message(0, vec![]);
+        let mut expected = [0u8; BLOCK];
+        expected[..8].copy_from_slice(&[1, 0, 2, 0, 0, 0, 0, 0]);
+        expected[508..].copy_from_slice(&[0x03, 0x00, 0xF8, 0x02]);
+        assert_eq!(encode(&message), expected);
+        assert_eq!(decode(&expected), Ok(message));
+    }
+
+    #[test]
+    fn marked_record() {
+        let message = message(1, vec![record(1, &[(5, 40)])]);
+        let mut expected = [0u8; BLOCK];
+        expected[..8].copy_from_slice(&[2, 1, 2, 1, 1, 0, 0, 0]);
+        expected[16..24].copy_from_slice(&[1, 0, 0, 0, 1, 0, 0, 0]);
+        expected[24..32].copy_from_slice(&[5, 0, 0, 0, 40, 0, 0, 0]);
+        expected[508..].copy_from_slice(&[0x34, 0x02, 0x18, 0x2C]);
+        assert_eq!(encode(&message), expected);
+        assert_eq!(decode(&expected), Ok(message));
+    }
+
+    #[test]
+    fn every_byte_has_its_place() {
+        let entries: Vec<(u8, i32)> = (0..8).map(|e| (e, i32::from(e) - 4)).collect();
+        let records = (1..=6).map(|j| record(0x0102_0300 + j, &entries)).collect();
+        let block = encode(&message(0x0504_0302, records));
+        assert_eq!(block[..8], [2, 0, 2, 6, 0x02, 0x03, 0x04, 0x05]);
+        assert_eq!(block[8..16], [0; 8]);
+        for j in 0..6 {
+            let part = &block[16 + 72 * j..][..72];
+            assert_eq!(part[..8], [j as u8 + 1, 0x03, 0x02, 0x01, 8, 0, 0, 0]);
+            for e in 0..8 {
+                let low = (e as u8).wrapping_sub(4);
+                let high = if e < 4 { 255 } else { 0 };
+                let expected = [e as u8, 0, 0, 0, low, high, high, high];
+                assert_eq!(part[8 + 8 * e..][..8], expected);
+            }
+        }
+        assert_eq!(block[448..508], [0; 60]);
+    }
+
+    #[test]
+    fn extreme_values_come_back() {
+        let entries = [(0, i32::MIN), (64, i32::MAX), (127, -1)];
+        let message = message(MAX_SLOT, vec![record(MAX_TICKET, &entries)]);
+        let block = encode(&message);
+        assert_eq!(block[28..32], [0, 0, 0, 0x80]);
+        assert_eq!(block[36..40], [0xFF, 0xFF, 0xFF, 0x7F]);
+        assert_eq!(decode(&block), Ok(message));
+    }
+
+    #[test]
+    fn round_trips() {
+        let seed = 1;
+        let mut random = Random::new(seed);
+        let mut counts = [0; 7];
+        let mut block = [0u8; BLOCK];
+        for round in 0..10_000 {
+            let message = samples::message(&mut random);
+            counts[message.records.len()] += 1;
+            // The bytes before must not matter.
+            random.fill(&mut block);
+            encode_into(&message, &mut block);
+            assert_eq!(block, encode(&message), "seed {seed}, round {round}");
+            let header = read(&block).unwrap_or_else(|number| {
+                panic!("seed {seed}, round {round}: refused by {number}");
+            });
+            assert_eq!(usize::from(header.count), message.records.len());
+            for (j, record) in message.records.iter().enumerate() {
+                let head = record_head(&block, j);
+                assert_eq!(head.ticket, record.ticket);
+                assert_eq!(usize::from(head.writes), record.entries.len());
+                for (e, expected) in record.entries.iter().enumerate() {
+                    assert_eq!(entry(&block, j, e), *expected);
+                }
+            }
+            assert_eq!(decode(&block), Ok(message), "seed {seed}, round {round}");
+        }
+        assert!(counts.iter().all(|&seen| seen > 100), "{counts:?}");
+    }
+
+    #[test]
+    fn arrays_give_the_same_block() {
+        let seed = 2;
+        let mut random = Random::new(seed);
+        for round in 0..2_000 {
+            let message = samples::message(&mut random);
+            let mut tickets = [0; RECORDS];
+            let mut writes = [0; RECORDS];
+            let mut items = [0; RECORDS * ENTRIES];
+            let mut values = [0; RECORDS * ENTRIES];
+            for (j, record) in message.records.iter().enumerate() {
+                tickets[j] = record.ticket;
+                writes[j] = record.entries.len() as u8;
+                for (e, entry) in record.entries.iter().enumerate() {
+                    items[8 * j + e] = entry.item;
+                    values[8 * j + e] = entry.value;
+                }
+            }
+            let expected = encode(&message);
+            let header = header(&expected);
+            let mut block = [0xFF; BLOCK];
+            encode_arrays(&header, &tickets, &writes, &items, &values, &mut block);
+            assert_eq!(block, expected, "seed {seed}, round {round}");
+        }
+    }
+
+    #[test]
+    fn refusals_in_order() {
+        let good = encode(&message(1, vec![record(1, &[(5, 40)])]));
+        for length in (0..=600).filter(|&length| length != BLOCK) {
+            let mut bytes = good.to_vec();
+            bytes.resize(length, 0);
+            assert_eq!(read(&bytes), Err(WRONG_LENGTH), "length {length}");
+        }
+        // Ill formed as well as unchecked: the check comes first.
+        let mut block = good;
+        block[0] = 3;
+        assert_eq!(decode(&block), Err(WRONG_CHECK));
+        put_check(&mut block);
+        assert_eq!(decode(&block), Err(WRONG_FORM));
+        block[0] = 2;
+        put_check(&mut block);
+        assert_eq!(block, good);
+        assert!(decode(&block).is_ok());
+    }
+
+    #[test]
+    fn one_bit_is_refused() {
+        let mut random = Random::new(3);
+        let samples = [
+            message(0, vec![]),
+            message(1, vec![record(1, &[(5, 40)])]),
+            samples::full(&mut random),
+        ];
+        for message in samples {
+            for bit in 0..8 * BLOCK {
+                let mut block = encode(&message);
+                block[bit / 8] ^= 1 << (bit % 8);
+                assert_eq!(read(&block), Err(WRONG_CHECK), "bit {bit} of {message:?}");
+            }
+        }
+    }
+
+    /// Each condition of the form, broken alone or just met, under a right check.
+    #[test]
+    fn form() {
+        let good = message(
+            7,
+            vec![record(3, &[(5, 40), (6, 50)]), record(4, &[(9, 1)])],
+        );
+        let number = |change: &dyn Fn(&mut Message)| {
+            let mut message = good.clone();
+            change(&mut message);
+            read(&encode(&message)).err()
+        };
+        let slot = |m: &mut Message, slot: u32| {
+            m.slot = slot;
+            m.sender = (slot % u32::from(m.replicas)) as u8;
+        };
+        let refused = Some(WRONG_FORM);
+
+        assert_eq!(number(&|_| ()), None);
+        assert_eq!(number(&|m| m.kind = NEXT), refused);
+        assert_eq!(number(&|m| m.kind = 0), refused);
+        assert_eq!(number(&|m| m.kind = 3), refused);
+        assert_eq!(number(&|m| m.records.clear()), refused);
+        for replicas in [1, 7, 255] {
+            let change = |m: &mut Message| (m.replicas, m.sender) = (replicas, 7 % replicas);
+            assert_eq!(number(&change), refused, "{replicas} replicas");
+        }
+        assert_eq!(number(&|m| m.replicas = 0), refused);
+        assert_eq!(number(&|m| m.replicas = 6), None);
+        assert_eq!(number(&|m| m.sender = 0), refused);
+        assert_eq!(number(&|m| m.sender = 3), refused);
+        assert_eq!(number(&|m| slot(m, MAX_SLOT)), None);
+        assert_eq!(number(&|m| slot(m, MAX_SLOT + 1)), refused);
+        assert_eq!(number(&|m| m.records[1].ticket = 0), refused);
+        assert_eq!(number(&|m| m.records[1].ticket = 3), refused);
+        assert_eq!(number(&|m| m.records[1].ticket = MAX_TICKET), None);
+        assert_eq!(number(&|m| m.records[1].ticket = MAX_TICKET + 1), refused);
+        assert_eq!(number(&|m| m.records[1].entries.clear()), refused);
+        assert_eq!(number(&|m| m.records[0].entries[1].item = 5), refused);
+        assert_eq!(number(&|m| m.records[0].entries[1].item = 4), refused);
+        assert_eq!(number(&|m| m.records[0].entries[1].item = 127), None);
+        assert_eq!(number(&|m| m.records[0].entries[1].item = 128), refused);
+    }
+
+    #[test]
+    fn unused_bytes_are_zero() {
+        let good = encode(&message(1, vec![record(1, &[(5, 40)])]));
+        // Kind to slot; ticket and number of writes; item and value of the one entry.
+        let used = |at: usize| matches!(at, 0..8 | 16..21 | 24 | 28..32);
+        for at in (0..CHECKED).filter(|&at| !used(at)) {
+            let mut block = good;
+            block[at] = 1;
+            put_check(&mut block);
+            assert_eq!(read(&block), Err(WRONG_FORM), "byte {at}");
+        }
+    }
+
+    #[test]
+    #[should_panic(expected = "more than 6 records")]
+    fn seven_records() {
+        encode(&message(0, vec![record(1, &[]); 7]));
+    }
+
+    #[test]
+    #[should_panic(expected = "more than 8 entries")]
+    fn nine_entries() {
+        encode(&message(0, vec![record(1, &[(0, 0); 9])]));
+    }
+}

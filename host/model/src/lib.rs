@@ -1,0 +1,7 @@
+//! The second model: what document 01 says, in plain Rust.
+//!
+//! It is written from the document alone, so that it can check the proved library from outside.
+//! The benchmark takes it as its baseline.
+
+pub mod block;
+pub mod samples;

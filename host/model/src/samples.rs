@@ -1,0 +1,148 @@
+//! Seeded random messages, for tests and benchmarks.
+
+use crate::block::{
+    Entry, Message, Record, ENTRIES, MAX_ITEM, MAX_SLOT, MAX_TICKET, NEXT, RECORDS, TO_COMMIT,
+};
+
+/// A small deterministic generator (splitmix64): the same seed gives the same numbers on every
+/// machine.
+pub struct Random {
+    state: u64,
+}
+
+impl Random {
+    pub fn new(seed: u64) -> Self {
+        Random { state: seed }
+    }
+
+    /// The next 64 bits.
+    pub fn bits(&mut self) -> u64 {
+        self.state = self.state.wrapping_add(0x9E37_79B9_7F4A_7C15);
+        let mut z = self.state;
+        z = (z ^ (z >> 30)).wrapping_mul(0xBF58_476D_1CE4_E5B9);
+        z = (z ^ (z >> 27)).wrapping_mul(0x94D0_49BB_1331_11EB);
+        z ^ (z >> 31)
+    }
+
+    /// A number from 0 to `bound` − 1. The bias of the remainder is far below what a test sees.
+    pub fn below(&mut self, bound: usize) -> usize {
+        (self.bits() % bound as u64) as usize
+    }
+
+    /// One of the given values.
+    pub fn pick<T: Copy>(&mut self, values: &[T]) -> T {
+        values[self.below(values.len())]
+    }
+
+    pub fn byte(&mut self) -> u8 {
+        self.bits() as u8
+    }
+
+    /// A byte from 1 to 255.
+    pub fn non_zero_byte(&mut self) -> u8 {
+        1 + self.below(255) as u8
+    }
+
+    pub fn fill(&mut self, bytes: &mut [u8]) {
+        bytes.fill_with(|| self.byte());
+    }
+}
+
+/// A well-formed message of either kind, limits of each field among the values.
+pub fn message(random: &mut Random) -> Message {
+    if random.below(4) == 0 {
+        next(random)
+    } else {
+        let records = 1 + random.below(RECORDS);
+        to_commit(random, records)
+    }
+}
+
+/// A well-formed message without records.
+pub fn next(random: &mut Random) -> Message {
+    let replicas = 2 + random.below(5) as u8;
+    let any = random.below(MAX_SLOT as usize + 1) as u32;
+    let slot = random.pick(&[
+        0,
+        1,
+        2,
+        255,
+        65_535,
+        65_536,
+        MAX_SLOT - 1,
+        MAX_SLOT,
+        any,
+        any,
+    ]);
+    Message {
+        kind: NEXT,
+        sender: (slot % u32::from(replicas)) as u8,
+        replicas,
+        slot,
+        records: Vec::new(),
+    }
+}
+
+/// A well-formed message with that many records, 1 to 6, each of 1 to 8 entries.
+pub fn to_commit(random: &mut Random, records: usize) -> Message {
+    let writes: Vec<usize> = (0..records).map(|_| 1 + random.below(ENTRIES)).collect();
+    with_writes(random, &writes)
+}
+
+/// A well-formed message with six records of eight entries.
+pub fn full(random: &mut Random) -> Message {
+    with_writes(random, &[ENTRIES; RECORDS])
+}
+
+/// A well-formed message with one record for each number of writes, 1 to 8.
+pub fn with_writes(random: &mut Random, writes: &[usize]) -> Message {
+    let mut records: Vec<Record> = Vec::new();
+    for &writes in writes {
+        let ticket = loop {
+            let ticket = ticket(random);
+            if records.iter().all(|record| record.ticket != ticket) {
+                break ticket;
+            }
+        };
+        records.push(Record {
+            ticket,
+            entries: entries(random, writes),
+        });
+    }
+    Message {
+        kind: TO_COMMIT,
+        records,
+        ..next(random)
+    }
+}
+
+/// Entries that rise by item, 1 to 8 of them.
+fn entries(random: &mut Random, writes: usize) -> Vec<Entry> {
+    let mut items: Vec<u8> = Vec::new();
+    while items.len() < writes {
+        let any = random.byte() & MAX_ITEM;
+        let item = random.pick(&[0, MAX_ITEM, any, any, any, any]);
+        if !items.contains(&item) {
+            items.push(item);
+        }
+    }
+    items.sort_unstable();
+    items
+        .into_iter()
+        .map(|item| Entry {
+            item,
+            value: value(random),
+        })
+        .collect()
+}
+
+fn ticket(random: &mut Random) -> u32 {
+    let any = 1 + random.below(MAX_TICKET as usize) as u32;
+    random.pick(&[1, 2, 256, 65_536, MAX_TICKET - 1, MAX_TICKET, any, any, any])
+}
+
+/// Any 32-bit value, the limits among them.
+pub fn value(random: &mut Random) -> i32 {
+    let any = random.bits() as i32;
+    random.pick(&[0, 1, -1, 65_535, 65_536, i32::MIN, i32::MAX, any, any, any])
+}
