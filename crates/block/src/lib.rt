@@ -102,7 +102,7 @@ fn number64(s: &[u8], at: usize) -> u64
 }
 
 // The signed value of 32 bits, and back.
-pub fn to_value(bits: u32) -> i32
+fn to_value(bits: u32) -> i32
     ensures { λ r. ⌜ r ≡ toZ w32 bits ⌝ }
 {
     if bits < 2147483648 {

@@ -109,22 +109,35 @@ pub fn encode(message: &Message) -> [u8; BLOCK] {
 /// If the message has more than 6 records or a record more than 8 entries: no block holds it.
 pub fn encode_into(message: &Message, block: &mut [u8; BLOCK]) {
     assert!(message.records.len() <= RECORDS, "more than 6 records");
-    *block = [0; BLOCK];
-    put_header(
-        block,
-        &Header {
-            kind: message.kind,
-            sender: message.sender,
-            replicas: message.replicas,
-            count: message.records.len() as u8,
-            slot: message.slot,
-        },
-    );
-    let (parts, _) = block[HEADER..CHECKED].as_chunks_mut();
-    for (part, record) in parts.iter_mut().zip(&message.records) {
+    let header = Header {
+        kind: message.kind,
+        sender: message.sender,
+        replicas: message.replicas,
+        count: message.records.len() as u8,
+        slot: message.slot,
+    };
+    let records = message.records.iter().map(|record| {
         assert!(record.entries.len() <= ENTRIES, "more than 8 entries");
         let entries = record.entries.iter().map(|entry| (entry.item, entry.value));
-        put_record(part, record.ticket, entries);
+        (record.ticket, entries)
+    });
+    encode_records(&header, records, block);
+}
+
+/// Writes the block of a header and as many records as its count says, at most 6: each a ticket
+/// and at most 8 entries.
+pub fn encode_records<E>(
+    header: &Header,
+    records: impl Iterator<Item = (u32, E)>,
+    block: &mut [u8; BLOCK],
+) where
+    E: ExactSizeIterator<Item = (u8, i32)>,
+{
+    *block = [0; BLOCK];
+    put_header(block, header);
+    let (parts, _) = block[HEADER..CHECKED].as_chunks_mut();
+    for (part, (ticket, entries)) in parts.iter_mut().zip(records) {
+        put_record(part, ticket, entries);
     }
     put_check(block);
 }
@@ -141,27 +154,25 @@ pub fn encode_arrays(
     block: &mut [u8; BLOCK],
 ) {
     let count = header.count.min(RECORDS as u8);
-    *block = [0; BLOCK];
-    put_header(block, &Header { count, ..*header });
-    let (parts, _) = block[HEADER..CHECKED].as_chunks_mut();
-    for (j, part) in parts.iter_mut().enumerate().take(usize::from(count)) {
+    let records = (0..usize::from(count)).map(|j| {
         let writes = usize::from(writes[j]).min(ENTRIES);
-        let items = &items[j * ENTRIES..][..writes];
-        let values = &values[j * ENTRIES..][..writes];
-        put_record(
-            part,
-            tickets[j],
-            items.iter().copied().zip(values.iter().copied()),
-        );
-    }
-    put_check(block);
+        let items = items[j * ENTRIES..][..writes].iter().copied();
+        let values = values[j * ENTRIES..][..writes].iter().copied();
+        (tickets[j], items.zip(values))
+    });
+    encode_records(&Header { count, ..*header }, records, block);
 }
 
 /// The message of a block, or why it is refused. See [`read`].
 pub fn decode(bytes: &[u8]) -> Result<Message, u8> {
     let header = read(bytes)?;
+    Ok(message(&header, bytes))
+}
+
+/// The message of a block that [`read`] accepted and gave this header of.
+pub fn message(header: &Header, bytes: &[u8]) -> Message {
     let (parts, _) = bytes[HEADER..].as_chunks();
-    Ok(Message {
+    Message {
         kind: header.kind,
         sender: header.sender,
         replicas: header.replicas,
@@ -170,7 +181,7 @@ pub fn decode(bytes: &[u8]) -> Result<Message, u8> {
             .iter()
             .map(record)
             .collect(),
-    })
+    }
 }
 
 /// The header of a block, or why the block is refused: 1, 14 or 15, the first that applies.

@@ -4,4 +4,8 @@
 //! The benchmark takes it as its baseline.
 
 pub mod block;
+pub mod observer;
+pub mod refusal;
+pub mod replica;
 pub mod samples;
+pub mod trace;

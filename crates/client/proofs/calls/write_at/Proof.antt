@@ -1,0 +1,179 @@
+-- `write_at` meets its contract: each answer by its law.
+use mathlib.Core.Path.{refl, ap, _∙_}
+use mir.Facts.{toZ-ofZ}
+use Rattle.engine.specs.Client.{rewriteAt, staleAt}
+use Rattle.client.specs.Lent.{inserted}
+use Rattle.client.proofs.WriteLaws.{write-mine, write-held, write-stale, write-full, write-new}
+use borrow.Author.Needs.{needs}
+use Rattle.client.proofs.calls.write_at.Statement.{statement}
+use Rattle.client.proofs.calls.write_at.Tie as tie
+
+mul-t : tie.Need-mul-t
+mul-t c = search needs
+
+array-copy-out-t : tie.Need-array-copy-out-t
+array-copy-out-t c = search needs
+
+write-count-requires : tie.Need-write-count-requires
+write-count-requires c κs = search needs
+
+mul-from : tie.Need-mul-from
+mul-from c = search needs
+
+index-of-requires : tie.Need-index-of-requires
+index-of-requires c κs = search needs
+
+add-value : tie.Need-add-value
+add-value c = search needs
+
+mul-value : tie.Need-mul-value
+mul-value c = search needs
+
+slice-set-from-value : tie.Need-slice-set-from-value
+slice-set-from-value c = search needs
+
+accepted-requires : tie.Need-accepted-requires
+accepted-requires c κs = search needs
+
+same-length : tie.Need-same-length
+same-length c = search needs
+
+same-length-2 : tie.Need-same-length-2
+same-length-2 c = search needs
+
+returns : tie.Need-returns
+unfolding rewriteAt
+returns c = λ m.
+    let k = c .before .before in
+    let n = k .before .before in
+    let s = n .before .before .before .before in
+    rw (c .accepted .ensures, toZ-ofZ (s .fits .value))
+    (write-mine _ (s .args .row) (s .args .item) (s .args .value) (n .write-count .result) (k .index-of .result) (n .write-count .ensures) (k .index-of .ensures) (c .before .if1 .taken))
+
+holder-requires : tie.Need-holder-requires
+holder-requires c κs = search needs
+
+enum-told : tie.Need-enum-told
+enum-told c = search needs
+
+unchanged-requires : tie.Need-unchanged-requires
+unchanged-requires c κs = search needs
+
+same-length-3 : tie.Need-same-length-3
+same-length-3 c = search needs
+
+returns-2 : tie.Need-returns-2
+returns-2 c = λ m.
+    let h = c .before .before .before in
+    let e = h .before .before in
+    let k = e .before in
+    let n = k .before .before in
+    let s = n .before .before .before .before in
+    rw (c .unchanged .ensures)
+    (write-held _ (s .args .row) (s .args .item) (s .args .value) (n .write-count .result) (k .index-of .result) (n .write-count .ensures) (k .index-of .ensures) (e .if1 .left)
+    (h .holder .result) (h .holder .ensures) _ (c .before .enum-told .given .1))
+
+enum-told-2 : tie.Need-enum-told-2
+enum-told-2 c = search needs
+
+mul-if2 : tie.Need-mul-if2
+mul-if2 c = search needs
+
+shared-slice-read-if2 : tie.Need-shared-slice-read-if2
+shared-slice-read-if2 c = search needs
+
+stale-requires : tie.Need-stale-requires
+stale-requires c κs = search needs
+
+same-length-4 : tie.Need-same-length-4
+same-length-4 c = search needs
+
+returns-3 : tie.Need-returns-3
+unfolding staleAt
+returns-3 c = λ m.
+    let f = c .before .before in
+    let h = f .before .before .before .before in
+    let e = h .before .before in
+    let k = e .before in
+    let n = k .before .before in
+    let s = n .before .before .before .before in
+    rw (c .stale .ensures) (write-stale _ (s .args .row) (s .args .item) (s .args .value) (n .write-count .result) (k .index-of .result) (n .write-count .ensures) (k .index-of .ensures) (e .if1 .left)
+    (h .holder .result) (h .holder .ensures) (f .before .before .enum-told2 .given .1) (c .before .if2 .taken))
+
+unchanged-requires-2 : tie.Need-unchanged-requires-2
+unchanged-requires-2 c κs = search needs
+
+same-length-5 : tie.Need-same-length-5
+same-length-5 c = search needs
+
+returns-4 : tie.Need-returns-4
+returns-4 c = λ m.
+    let f = c .before .before .before in
+    let h = f .before .before .before .before in
+    let e = h .before .before in
+    let k = e .before in
+    let n = k .before .before in
+    let s = n .before .before .before .before in
+    rw (c .unchanged2 .ensures) (write-full _ (s .args .row) (s .args .item) (s .args .value) (n .write-count .result) (k .index-of .result) (n .write-count .ensures) (k .index-of .ensures) (e .if1 .left)
+    (h .holder .result) (h .holder .ensures) (f .before .before .enum-told2 .given .1) (c .before .before .if2 .left) (c .before .if3 .taken))
+
+insert-requires : tie.Need-insert-requires
+insert-requires c κs = search needs
+
+accepted-requires-2 : tie.Need-accepted-requires-2
+accepted-requires-2 c κs = search needs
+
+same-length-6 : tie.Need-same-length-6
+same-length-6 c = search needs
+
+same-length-7 : tie.Need-same-length-7
+same-length-7 c = search needs
+
+returns-5 : tie.Need-returns-5
+returns-5 c = λ m.
+    let i = c .before .before .before .before in
+    let l = i .before .before .before in
+    let f = l .before .before in
+    let h = f .before .before .before .before in
+    let e = h .before .before in
+    let k = e .before in
+    let n = k .before .before in
+    let s = n .before .before .before .before in
+    rw (c .accepted2 .ensures) (write-new _ (s .args .row) (s .args .item) (s .args .value) (n .write-count .result) (k .index-of .result) (n .write-count .ensures) (k .index-of .ensures) (e .if1 .left)
+    (h .holder .result) (h .holder .ensures) (f .before .before .enum-told2 .given .1) (l .before .if2 .left) (l .if3 .left) (inserted (i .insert .result) (i .insert .last .1 .0) (i .insert .last .1 .1 .0)) (rw (toZ-ofZ (s .fits .value)) at (i .insert .ensures)))
+
+pub write-at-spec : {M : Type 1} → statement M
+write-at-spec =
+    tie.close
+    (tie.spec
+    mul-t
+    array-copy-out-t
+    write-count-requires
+    mul-from
+    index-of-requires
+    add-value
+    mul-value
+    slice-set-from-value
+    accepted-requires
+    same-length
+    same-length-2
+    returns
+    holder-requires
+    enum-told
+    unchanged-requires
+    same-length-3
+    returns-2
+    enum-told-2
+    mul-if2
+    shared-slice-read-if2
+    stale-requires
+    same-length-4
+    returns-3
+    unchanged-requires-2
+    same-length-5
+    returns-4
+    insert-requires
+    accepted-requires-2
+    same-length-6
+    same-length-7
+    returns-5)

@@ -1,0 +1,2 @@
+-- What the contracts of the client's calls say beside the definitions of the calls.
+pub mod Lent

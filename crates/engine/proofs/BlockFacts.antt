@@ -1,0 +1,73 @@
+-- A block that the reader takes: its slot and replicas, a message's kind and count, and no ticket is 0. Assumes nothing.
+use Prim.Native.Nat.{ℕ, _+_, _*_, _≤_, _<_}
+use mathlib.Core.Path.{_≡_, refl}
+use mathlib.Core.Bool.{Bool, true, false, cond, _&&_}
+use mathlib.Core.List.{List}
+use native.Mathlib.Omega.{arith}
+use lib.Dec.{eqb}
+use lib.ListN.{length, getD, take, drop}
+use lib.Seq.{slice, take-take}
+use borrow.Author.Tests.{eqb-true, eqb-false, eq-eqb, lt-ltb}
+use Rattle.block.specs.Message.{Message, within, kindFits, valid}
+use Rattle.block.specs.Form.{recordOf, recordsOf, messageOf}
+use Rattle.block.specs.Answers.{readRefusal, headerOf, recordAt}
+use Rattle.block.specs.Theorems.{noRecord}
+use Rattle.block.proofs.BoolLaws.{both, is-within}
+use Rattle.block.proofs.ListLaws.{part-in}
+use Rattle.block.proofs.MessageLaws.{message-facts, record-facts-at}
+use Rattle.block.proofs.AnswerLaws.{is-taken, is-formed}
+use Rattle.block.proofs.ReadLaws.{length-recordsOf, record-at}
+
+-- a *next* has no record, any other message 1 to 6
+kind-counted : (k n : ℕ) → kindFits k n ≡ true → (k ≡ 1 → n ≡ 0) × ((k ≡ 1 → ⊥) → 0 < n) × (n ≤ 6)
+unfolding kindFits
+kind-counted k n h = go (eqb k 1) refl h
+  where
+    go : (b : Bool) → eqb k 1 ≡ b → cond b (eqb n 0) (eqb k 2 && within 1 6 n) ≡ true → (k ≡ 1 → n ≡ 0) × ((k ≡ 1 → ⊥) → 0 < n) × (n ≤ 6)
+    go true e q = let z = eqb-true n 0 q in ((λ p. z), (λ p. absurd (p (eqb-true k 1 e))), omega arith)
+    go false e q =
+        let w = is-within 1 6 n (both (eqb k 2) (within 1 6 n) q .right) in
+        ((λ p. absurd (eqb-false k 1 e p)), (λ p. omega arith), w .below)
+
+kind-fits : (m : Message) → valid m ≡ true → kindFits (m .kind) (length (m .records)) ≡ true
+unfolding valid
+kind-fits m h = both _ _ h .left
+
+-- record j's ticket, read from the block
+ticket-read : (b : List ℕ) (j : ℕ) → length b ≡ 512 → j < 6 → recordOf (take 72 (drop (72 * j) (slice 16 508 b))) .ticket ≡ recordAt b j .ticket
+unfolding recordOf recordAt
+ticket-read b j long h =
+    rw (
+      eq-eqb (length b) 512 long,
+      lt-ltb j 6 h,
+      take-take 4 72 (drop (72 * j) (slice 16 508 b)) (omega arith),
+      part-in b 16 508 (72 * j) 4 (16 + 72 * j) (20 + 72 * j) refl (omega arith) (omega arith),
+    )
+
+pub record TakenBlock (b : List ℕ) : Type 0 where
+  pub replicas : 2 ≤ headerOf b .replicas
+  pub slot : headerOf b .slot ≤ 99_999_999
+  pub count : getD b 3 0 ≤ 6
+  pub next : getD b 0 0 ≡ 1 → getD b 3 0 ≡ 0
+  pub some : (getD b 0 0 ≡ 1 → ⊥) → 0 < getD b 3 0
+  pub ticket : (j : ℕ) → j < getD b 3 0 → 1 ≤ recordAt b j .ticket
+
+pub taken-block : (b : List ℕ) → readRefusal b ≡ 0 → TakenBlock b
+unfolding messageOf headerOf
+taken-block b e =
+    let t = is-taken b e in
+    let v = is-formed b (t .forms) .fields in
+    let f = message-facts (messageOf b) v in
+    let l = slice 16 508 b in
+    let n = length-recordsOf (getD b 3 0) l in
+    let k = kind-counted (getD b 0 0) (getD b 3 0) (rw n at (kind-fits (messageOf b) v)) in
+    record {
+      replicas = f .replicas .above;
+      slot = f .slot;
+      count = k .2;
+      next = k .0;
+      some = k .1;
+      ticket = λ j h.
+          let r = record-facts-at (recordsOf (getD b 3 0) l) j noRecord (f .records) (omega arith) .ticket .above in
+          rw (record-at (getD b 3 0) j l noRecord h, ticket-read b j (t .long) (omega (arith, k .2))) at r;
+    }

@@ -1,0 +1,33 @@
+-- What belongs to no one function. Laws over plain lists and numbers: tests and refusals, what a list has, its parts, the rows, the rows hit, the
+-- queue, the places, a block that the reader takes.
+pub mod Tests
+pub mod HasLaws
+pub mod PartLaws
+pub mod RowLaws
+pub mod HitLaws
+pub mod QueueLaws
+pub mod PlaceLaws
+pub mod BlockFacts
+-- what a call does, and what its tests say
+pub mod Steps
+pub mod Passed
+-- the shape: its parts, one row changed, rows closed; then a replica just made and what each call does
+pub mod Shaping
+pub mod ShapeRow
+pub mod ShapeClose
+pub mod ShapeMade
+pub mod ShapeBegin
+pub mod ShapeWrite
+pub mod ShapeEnd
+pub mod ShapeAsk
+pub mod ShapeSend
+pub mod ShapeDeliver
+pub mod ShapeTurn
+pub mod ShapeWriteset
+pub mod ShapeWork
+-- the theorems
+pub mod Refusals
+pub mod Frames
+pub mod Shapes
+pub mod Reports
+pub mod Worked

@@ -1,0 +1,163 @@
+-- What a call's tests say where it is not refused. Assumes nothing.
+use Prim.Native.Nat.{ℕ, _+_, _*_, _≤_, _<_}
+use mathlib.Core.Path.{_≡_, refl}
+use mathlib.Core.Bool.{Bool, true, false, not, _&&_}
+use mathlib.Core.List.{List}
+use native.Mathlib.Omega.{arith}
+use lib.Dec.{eqb}
+use lib.ListN.{length, getD}
+use borrow.Author.Tests.{eqb-true, eqb-false, eq-eqb, ne-eqb, ltb-false, leb-false, not-false}
+use Rattle.block.proofs.AnswerLaws.{not-refused}
+use Rattle.block.proofs.BoolLaws.{Both, both}
+use Rattle.block.specs.Answers.{readRefusal, headerOf, recordAt}
+use Rattle.memory.specs.Memory.{Memory, maxTickets}
+use Rattle.memory.specs.Rows.{freeRow, writeCount}
+use Rattle.memory.specs.Turns.{isEmpty}
+use Rattle.engine.specs.Client.{rowNo, rowWith, isOwn, notOpen, notActive, heldByOther, beginRefusal, writeRefusal, askRefusal, withdrawRefusal}
+use Rattle.engine.specs.Moves.{deliverRefusal, blockAtTurn, isSent, workRefusal}
+use Rattle.engine.proofs.Tests.{clash, passes}
+
+-- two tests joined, where their joint denial does not hold
+both-so : (a b : Bool) → not (a && b) ≡ false → Both a b
+both-so a b h = both a b (not-false (a && b) h)
+
+-- ---- begin
+
+pub record BeginPassed (m : Memory) : Type 0 where
+  pub values : length (m .store .values) ≡ 128
+  pub snapshots : length (m .txns .snapshots) ≡ 768
+  pub row : freeRow (m .txns .table) < 6
+  pub tickets : m .counts .tickets < maxTickets
+
+pub begin-passed : (m : Memory) → beginRefusal m ≡ 0 → BeginPassed m
+unfolding beginRefusal
+begin-passed m e =
+    let a = passes _ _ refl e in
+    let b = passes _ _ refl (a .1) in
+    let c = passes _ _ refl (b .1) in
+    let l = both-so _ _ (a .0) in
+    record {
+      values = eqb-true _ _ (l .left);
+      snapshots = eqb-true _ _ (l .right);
+      row = leb-false 6 _ (b .0);
+      tickets = leb-false maxTickets _ (c .0);
+    }
+
+-- ---- the calls of an active transaction
+
+-- the ticket's row
+pub record RowPassed (m : Memory) (t : ℕ) : Type 0 where
+  pub row : rowNo m t < 6
+  pub active : rowWith m t .stage ≡ 0
+
+row-passed : (m : Memory) (t : ℕ) → notOpen m t ≡ false → notActive m t ≡ false → RowPassed m t
+row-passed m t a b = record { row = leb-false 6 (rowNo m t) a; active = eqb-true (rowWith m t .stage) 0 (not-false _ b) }
+
+pub record WritePassed (m : Memory) (t i : ℕ) : Type 0 where
+  pub items : length (m .txns .items) ≡ 48
+  pub writes : length (m .txns .writes) ≡ 48
+  pub item : i < 128
+  pub own : RowPassed m t
+  pub unheld : isOwn m t i ≡ false → heldByOther m t i ≡ false
+  pub room : isOwn m t i ≡ false → writeCount (rowWith m t) < 8
+
+pub write-passed : (m : Memory) (t i : ℕ) → writeRefusal m t i ≡ 0 → WritePassed m t i
+unfolding writeRefusal
+write-passed m t i e =
+    let a = passes _ _ refl e in
+    let b = passes _ _ refl (a .1) in
+    let c = passes _ _ refl (b .1) in
+    let d = passes _ _ refl (c .1) in
+    let f = passes _ _ refl (d .1) in
+    let k = both _ _ (both-so _ _ (a .0) .left) in
+    record {
+      items = eqb-true _ _ (k .left);
+      writes = eqb-true _ _ (k .right);
+      item = leb-false 128 i (b .0);
+      own = row-passed m t (c .0) (d .0);
+      unheld = λ o. passes _ _ refl (rw o at (f .1)) .0;
+      room = λ o. let g = passes _ _ refl (rw o at (f .1)) in
+          let h = passes _ _ refl (g .1) in
+          let j = passes _ _ refl (h .1) in
+          omega (arith, eqb-false (writeCount (rowWith m t)) 8 (j .0));
+    }
+
+pub stale-passed : (m : Memory) (t i : ℕ) → writeRefusal m t i ≡ 9 → RowPassed m t
+unfolding writeRefusal
+stale-passed m t i e =
+    let a = passes _ _ refl e in
+    let b = passes _ _ refl (a .1) in
+    let c = passes _ _ refl (b .1) in
+    let d = passes _ _ refl (c .1) in
+    row-passed m t (c .0) (d .0)
+
+pub ask-passed : (m : Memory) (t : ℕ) → askRefusal m t ≡ 0 → RowPassed m t
+unfolding askRefusal
+ask-passed m t e =
+    let a = passes _ _ refl e in
+    let b = passes _ _ refl (a .1) in
+    row-passed m t (b .0) (passes _ _ refl (b .1) .0)
+
+pub withdraw-passed : (m : Memory) (t : ℕ) → withdrawRefusal m t ≡ 0 → RowPassed m t
+unfolding withdrawRefusal
+withdraw-passed m t e =
+    let a = passes _ _ refl e in
+    row-passed m t (a .0) (passes _ _ refl (a .1) .0)
+
+-- ---- deliver
+
+pub record DeliverPassed (m : Memory) (b : List ℕ) : Type 0 where
+  pub places : length (m .blocks .places) ≡ 512 * m .counts .replicas
+  pub long : length b ≡ 512
+  pub taken : readRefusal b ≡ 0
+  pub replicas : headerOf b .replicas ≡ m .counts .replicas
+  pub low : m .turn .slot ≤ headerOf b .slot
+  pub high : headerOf b .slot < m .turn .slot + m .counts .replicas
+  pub empty : isEmpty (m .counts .replicas) (headerOf b .slot) (m .blocks .places) ≡ true
+
+pub deliver-passed : (m : Memory) (b : List ℕ) → deliverRefusal m b ≡ 0 → DeliverPassed m b
+unfolding deliverRefusal
+deliver-passed m b e =
+    let p = passes _ _ refl e in
+    let q = passes _ _ refl (p .1) in
+    let r = passes _ _ refl (q .1) in
+    let s = passes _ _ refl (r .1) in
+    let t = passes _ _ refl (s .1) in
+    let u = passes _ _ refl (t .1) in
+    let v = passes _ _ refl (u .1) in
+    let w = passes _ _ refl (v .1) in
+    let l = both-so _ _ (p .0) in
+    let long = eqb-true (length b) 512 (both (eqb (length (m .blocks .outbox)) 512) (eqb (length b) 512) (l .right) .right) in
+    record {
+      places = eqb-true _ _ (l .left);
+      long = long;
+      taken = not-refused b (record { long = long; checks = not-false _ (q .0); forms = not-false _ (r .0) });
+      replicas = eqb-true _ _ (not-false _ (s .0));
+      low = ltb-false _ _ (t .0);
+      high = leb-false _ _ (u .0);
+      empty = not-false _ (w .0);
+    }
+
+-- ---- work
+
+-- a block waits at the turn, and the replica's own record is open as sent
+pub record WorkPassed (m : Memory) : Type 0 where
+  pub waits : isEmpty (m .counts .replicas) (m .turn .slot) (m .blocks .places) ≡ false
+  pub sent : (getD (blockAtTurn m) 0 0 ≡ 1 → ⊥) → getD (blockAtTurn m) 1 0 ≡ m .counts .own
+      → isSent m (recordAt (blockAtTurn m) (m .counts .done) .ticket) ≡ true
+
+sent-own : (a b c : Bool) → not a && (b && not c) ≡ false → a ≡ false → b ≡ true → c ≡ true
+sent-own true b c h p q = clash {b = true} refl p
+sent-own false true c h p q = not-false c h
+sent-own false false c h p q = clash {b = false} q refl
+
+pub work-passed : (m : Memory) → workRefusal m ≡ 0 → WorkPassed m
+unfolding workRefusal
+work-passed m e =
+    let a = passes _ _ refl e in
+    let b = passes _ _ refl (a .1) in
+    let c = passes _ _ refl (b .1) in
+    record {
+      waits = b .0;
+      sent = λ p q. sent-own _ _ _ (c .0) (ne-eqb (getD (blockAtTurn m) 0 0) 1 p) (eq-eqb (getD (blockAtTurn m) 1 0) (m .counts .own) q);
+    }

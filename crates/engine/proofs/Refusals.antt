@@ -1,0 +1,79 @@
+-- A refused call changes nothing, except under 9. Assumes nothing.
+use Prim.Native.Nat.{ℕ, suc}
+use mathlib.Core.Path.{_≡_, refl, sym}
+use mathlib.Core.Bool.{true}
+use native.Mathlib.Omega.{arith}
+use lib.IntN.{ℤ}
+use lib.ListN.{length, set}
+use borrow.Author.Tests.{eq-eqb}
+use Rattle.memory.specs.Memory.{Memory, bump, withAborted, withTable, withTxns}
+use Rattle.memory.specs.Rows.{closed, openCount}
+use Rattle.engine.specs.Calls.{Outcome, numberOf}
+use Rattle.engine.specs.Client.{rowNo, beginRefusal, beginAt, readRefusal, writeRefusal, rewriteAt, insertWrite, staleAt, writeStep, askRefusal, readOnlyAt, queueAt, withdrawRefusal, withdrawAt, reportStep}
+use Rattle.engine.specs.Moves.{sendRefusal, sendNow, deliverRefusal, deliverNow, workRefusal, passNext, commitWriteset}
+use Rattle.engine.specs.Step.{Call, step, refusalOf}
+use Rattle.engine.specs.Step.Call.{begin, read, write, ask, withdraw, report, send, deliver, work}
+use Rattle.engine.specs.Frames.{Refusals, isWrite}
+use Rattle.engine.proofs.Tests.{not-first}
+use Rattle.engine.proofs.Steps.{begin-by, read-by, write-by, ask-by, withdraw-by, send-by, deliver-by, work-by}
+use Rattle.engine.proofs.Passed.{stale-passed}
+use Rattle.engine.proofs.RowLaws.{row-found, open-close}
+
+-- the answer's number is n
+abbrev Numbered : ℕ → Outcome → Type 0
+Numbered n o = numberOf (o .answer) ≡ n
+
+number : (m : Memory) (c : Call) → numberOf (step m c .answer) ≡ refusalOf m c
+unfolding refusalOf beginAt staleAt rewriteAt insertWrite readOnlyAt queueAt withdrawAt sendNow deliverNow passNext commitWriteset
+number m begin = begin-by (Numbered (beginRefusal m)) m (λ e. sym e) (λ e. refl)
+number m (read t i) = read-by (Numbered (readRefusal m t i)) m t i (λ e. sym e) (λ e. refl)
+number m (write t i v) = write-by (Numbered (writeRefusal m t i)) m t i v (λ e. sym e) (λ e o. sym e) (λ e o. sym e) (λ k e. refl)
+number m (ask t) = ask-by (Numbered (askRefusal m t)) m t (λ e. sym e) (λ e n. sym e) (λ e. refl)
+number m (withdraw t) = withdraw-by (Numbered (withdrawRefusal m t)) m t (λ e. sym e) (λ e. refl)
+number m report = unfold step reportStep in refl
+number m (send b) = send-by (Numbered (sendRefusal m b)) m b (λ e. sym e) (λ e. refl)
+number m (deliver b) = deliver-by (Numbered (deliverRefusal m b)) m b (λ e. sym e) (λ e. refl)
+number m work = work-by (Numbered (workRefusal m)) m (λ e k. sym e) (λ e k. sym e) (λ e. refl)
+
+-- the memory is as it was
+abbrev Left : Memory → Outcome → Type 0
+Left m o = o .memory ≡ m
+
+unchanged : (m : Memory) (c : Call) → (refusalOf m c ≡ 0 → ⊥) → (refusalOf m c ≡ 9 → ⊥) → step m c .memory ≡ m
+unfolding refusalOf
+unchanged m begin h k = begin-by (Left m) m (λ e. absurd (h e)) (λ e. refl)
+unchanged m (read t i) h k = read-by (Left m) m t i (λ e. absurd (h e)) (λ e. refl)
+unchanged m (write t i v) h k = write-by (Left m) m t i v (λ e. absurd (k e)) (λ e o. absurd (h e)) (λ e o. absurd (h e)) (λ n e. refl)
+unchanged m (ask t) h k = ask-by (Left m) m t (λ e. absurd (h e)) (λ e n. absurd (h e)) (λ e. refl)
+unchanged m (withdraw t) h k = withdraw-by (Left m) m t (λ e. absurd (h e)) (λ e. refl)
+unchanged m report h k = unfold step reportStep in refl
+unchanged m (send b) h k = send-by (Left m) m b (λ e. absurd (h e)) (λ e. refl)
+unchanged m (deliver b) h k = deliver-by (Left m) m b (λ e. absurd (h e)) (λ e. refl)
+unchanged m work h k = work-by (Left m) m (λ e n. absurd (h e)) (λ e o. absurd (h e)) (λ e. refl)
+
+nine : (m : Memory) (c : Call) → refusalOf m c ≡ 9 → isWrite c ≡ true
+unfolding refusalOf beginRefusal readRefusal askRefusal withdrawRefusal sendRefusal deliverRefusal workRefusal
+nine m begin e = absurd (not-first 9 _ refl e)
+nine m (read t i) e = absurd (not-first 9 _ refl e)
+nine m (write t i v) e = refl
+nine m (ask t) e = absurd (not-first 9 _ refl e)
+nine m (withdraw t) e = absurd (not-first 9 _ refl e)
+nine m report e = absurd (omega arith)
+nine m (send b) e = absurd (not-first 9 _ refl e)
+nine m (deliver b) e = absurd (not-first 9 _ refl e)
+nine m work e = absurd (not-first 9 _ refl e)
+
+stale : (m : Memory) (ticket item : ℕ) (value : ℤ) → writeRefusal m ticket item ≡ 9
+    → step m (write ticket item value) .memory
+    ≡ withTxns m (withAborted (m .counts) (bump (m .counts .aborted))) (withTable (m .txns) (set (m .txns .table) (rowNo m ticket) closed))
+unfolding step writeStep staleAt
+stale m ticket item value e = rw (eq-eqb (writeRefusal m ticket item) 9 e)
+
+stale-open : (m : Memory) (ticket item : ℕ) (value : ℤ) → length (m .txns .table) ≡ 6 → writeRefusal m ticket item ≡ 9
+    → openCount (m .txns .table) ≡ suc (openCount (step m (write ticket item value) .memory .txns .table))
+stale-open m ticket item value l e =
+    let h = stale-passed m ticket item e .row in
+    rw (stale m ticket item value e) (open-close (m .txns .table) (rowNo m ticket) (omega arith) (row-found ticket (m .txns .table) l h .live))
+
+pub refusals : Refusals
+refusals = record { number = number; unchanged = unchanged; nine = nine; stale = stale; stale-open = stale-open }

@@ -1,0 +1,58 @@
+-- A replica just made has the shape. Assumes nothing.
+use Prim.Native.Nat.{ℕ, _*_, _≤_, _<_}
+use mathlib.Core.Path.{_≡_, refl, ap}
+use mathlib.Core.List.{List}
+use native.Mathlib.Omega.{arith}
+use lib.IntN.{ℤ, pos}
+use lib.ListN.{length, getD, replicate, length-replicate, getD-replicate, List·getD-eq-default}
+use borrow.Author.Tests.{eq-eqb}
+use Rattle.memory.specs.declared.Txn.{Txn}
+use Rattle.memory.specs.Rows.{closed, openCount, rowAt}
+use Rattle.memory.specs.Turns.{placeStart}
+use Rattle.engine.specs.Make.{madeMemory}
+use Rattle.engine.specs.Moves.{waiting}
+use Rattle.engine.specs.Shape.{Shape}
+use Rattle.engine.proofs.Tests.{less-by, clash}
+use Rattle.engine.proofs.Shaping.{row-of-fits, fits-closed, single-of}
+
+-- any element of zeros, and any past them
+getD-zeros : (n i : ℕ) → _≡_ {A = ℕ} (getD (replicate n 0) i 0) 0
+getD-zeros n i = less-by i n (λ h. getD-replicate {A = ℕ} n i 0 0 h) (λ h. List·getD-eq-default {A = ℕ} (replicate n 0) 0 (rw length-replicate h))
+
+pub shape-made : (n own : ℕ) (values : List ℤ) → 2 ≤ n → n ≤ 6 → own < n → length values ≡ 128 → Shape (madeMemory n own values)
+unfolding madeMemory openCount waiting
+shape-made n own values least most among long = record {
+  lengths = record {
+    table = refl;
+    queue = refl;
+    items = length-replicate {A = ℕ} 48 0;
+    writes = length-replicate 48 (pos 0);
+    snapshots = length-replicate 768 (pos 0);
+    values = long;
+    stamps = length-replicate {A = ℕ} 128 0;
+    places = length-replicate {A = ℕ} (512 * n) 0;
+    outbox = length-replicate {A = ℕ} 512 0;
+  };
+  ranges = record { least = least; most = most; own = among; slot = omega arith; tickets = omega arith; commits = omega arith; endings = refl };
+  rows = λ r h. row-of-fits (madeMemory n own values) r (rw (is-closed r h) (fits-closed 0 0 _));
+  distinct = λ i j h u d some. absurd (some (ap (λ (t : Txn). t .ticket) (is-closed i h)));
+  queue = record {
+    zeros = refl;
+    asked = λ k h. absurd (let z : ⊥ = omega arith in z);
+    queued = λ r h e. absurd (let q : rowAt (replicate 6 closed) r .stage ≡ 0 = ap (λ (t : Txn). t .stage) (is-closed r h) in let z : ⊥ = omega arith in z);
+    once = λ j k u h. absurd (let z : ⊥ = omega arith in z);
+  };
+  places = record {
+    waits = λ s h u e. clash (eq-eqb _ 0 (getD-zeros (512 * n) (placeStart n s))) e;
+    done = λ h. absurd (let z : ⊥ = omega arith in z);
+  };
+  single = single-of (replicate 6 closed) (replicate 48 0) (length-replicate {A = ℕ} 48 0)
+      (λ r h. let q = none r h in omega arith)
+      (λ i j h u d a b v. absurd (let q = none i h in let z : ⊥ = omega arith in z));
+}
+  where
+    is-closed : (r : ℕ) → r < 6 → rowAt (replicate 6 closed) r ≡ closed
+    is-closed r h = getD-replicate 6 r closed closed h
+
+    none : (r : ℕ) → r < 6 → rowAt (replicate 6 closed) r .writes ≡ 0
+    none r h = ap (λ (t : Txn). t .writes) (is-closed r h)

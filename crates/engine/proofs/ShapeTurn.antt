@@ -1,0 +1,104 @@
+-- The block at the turn, the places after a work, and a *next*, which keeps the shape. Assumes nothing.
+use Prim.Native.Nat.{ℕ, suc, _+_, _*_, _≤_, _<_}
+use mathlib.Core.Path.{_≡_, refl, sym, ap, _∙_}
+use mathlib.Core.Bool.{true, false}
+use mathlib.Core.List.{List}
+use native.Mathlib.Omega.{arith}
+use lib.Dec.{eqb}
+use lib.ListN.{length, getD, length-set}
+use Rattle.block.specs.Answers.{readRefusal, headerOf, recordAt}
+use Rattle.memory.specs.Memory.{Memory, bump}
+use Rattle.memory.specs.Turns.{advance, placeStart, blockIn, isEmpty, emptied}
+use Rattle.engine.specs.Moves.{blockAtTurn, isSent, workRefusal, passNext}
+use Rattle.engine.specs.Shape.{PlaceShape, Shape}
+use Rattle.engine.proofs.Tests.{same-by, clash, bump-is}
+use Rattle.engine.proofs.PlaceLaws.{place-again, empty-same, emptied-empty, emptied-beside}
+use Rattle.engine.proofs.BlockFacts.{taken-block}
+use Rattle.engine.proofs.Passed.{work-passed}
+use Rattle.engine.proofs.Shaping.{shape-besides, bumps}
+
+-- ---- what an accepted work's tests say
+
+pub record Working (m : Memory) : Type 0 where
+  pub waits : isEmpty (m .counts .replicas) (m .turn .slot) (m .blocks .places) ≡ false
+  pub slot : m .turn .slot ≤ 99_999_999
+  pub few : getD (blockAtTurn m) 3 0 ≤ 6
+  pub next : getD (blockAtTurn m) 0 0 ≡ 1 → m .counts .done ≡ 0
+  -- the writeset to commit next: one of the block's, with a ticket, and sent where it is the replica's own
+  pub more : (getD (blockAtTurn m) 0 0 ≡ 1 → ⊥) → m .counts .done < getD (blockAtTurn m) 3 0
+  pub ticket : (getD (blockAtTurn m) 0 0 ≡ 1 → ⊥) → 1 ≤ recordAt (blockAtTurn m) (m .counts .done) .ticket
+  pub sent : (getD (blockAtTurn m) 0 0 ≡ 1 → ⊥) → getD (blockAtTurn m) 1 0 ≡ m .counts .own
+      → isSent m (recordAt (blockAtTurn m) (m .counts .done) .ticket) ≡ true
+  pub commits : bump (m .counts .commits) ≡ suc (m .counts .commits)
+
+pub working : (m : Memory) → Shape m → workRefusal m ≡ 0 → Working m
+working m S e =
+    let p = work-passed m e in
+    let w = S .places .waits (m .turn .slot) (omega arith) (omega (arith, S .ranges .least)) (p .waits) in
+    let k = taken-block (blockAtTurn m) (w .0) in
+    let n = m .counts .done in
+    let begun : (n ≡ 0 → ⊥) → n < getD (blockAtTurn m) 3 0 = λ d. S .places .done (omega (arith, d)) .1 in
+    let more : (getD (blockAtTurn m) 0 0 ≡ 1 → ⊥) → n < getD (blockAtTurn m) 3 0 = λ h. same-by n 0 (λ q. omega (arith, k .some h)) begun in
+    let few : n < 6 = same-by n 0 (λ q. omega arith) (λ d. omega (arith, begun d, k .count)) in
+    record {
+      waits = p .waits;
+      slot = omega (arith, k .slot, w .1);
+      few = k .count;
+      next = λ h. same-by n 0 (λ q. q) (λ d. absurd (omega (arith, begun d, k .next h)));
+      more = more;
+      ticket = λ h. k .ticket n (more h);
+      sent = p .sent;
+      commits = bump-is (m .counts .commits) (omega (arith, S .ranges .commits, S .ranges .slot));
+    }
+
+-- ---- the places after
+
+module _ (m : Memory) (S : Shape m) (w : Working m) where
+  abbrev n : ℕ
+  n = m .counts .replicas
+
+  abbrev turn : ℕ
+  turn = m .turn .slot
+
+  abbrev old : List ℕ
+  old = m .blocks .places
+
+  abbrev new : List ℕ
+  new = emptied n turn old
+
+  beside : (s : ℕ) → suc turn ≤ s → s < turn + n → blockIn n s new ≡ blockIn n s old
+  beside s p q =
+      emptied-beside n old (omega (arith, S .ranges .least)) (S .lengths .places) turn s turn (omega arith) q (omega arith) (omega arith) (λ e. omega arith)
+
+  again : isEmpty n (turn + n) new ≡ true
+  again = ap (λ (k : ℕ). eqb (getD new k 0) 0) (place-again n turn) ∙ emptied-empty n old (omega (arith, S .ranges .least)) (S .lengths .places) turn
+
+  waits-after : (s : ℕ) → suc turn ≤ s → s < suc turn + n → isEmpty n s new ≡ false
+      → (readRefusal (blockIn n s new) ≡ 0) × (headerOf (blockIn n s new) .slot ≡ s) × (headerOf (blockIn n s new) .replicas ≡ n)
+  waits-after s p q e =
+      same-by s (turn + n)
+      (λ z. clash again (rw z at e))
+      (λ d. let b = beside s p (omega (arith, d)) in
+      rw b (S .places .waits s (omega arith) (omega (arith, d)) (sym (empty-same n s new old b) ∙ e)))
+
+  -- the turn went up, and the place is empty
+  pub places-turned : (k : Memory) → k .counts .replicas ≡ n → k .turn .slot ≡ suc turn → k .counts .done ≡ 0 → k .blocks .places ≡ new → PlaceShape k
+  places-turned k a b c d = record { waits = rw (a, b, d) waits-after; done = rw c (λ h. absurd (omega arith)) }
+
+  -- one more writeset is done, and it was not the last
+  pub places-done : (k : Memory) → k .counts .replicas ≡ n → k .turn .slot ≡ turn → k .counts .done ≡ m .counts .done + 1 → k .blocks .places ≡ old
+      → m .counts .done + 1 < getD (blockAtTurn m) 3 0 → PlaceShape k
+  places-done k a b c d l = record { waits = rw (a, b, d) (S .places .waits); done = rw (a, b, c, d) (λ h. (w .waits, l)) }
+
+  pub length-emptied : length new ≡ 512 * n
+  length-emptied = length-set old (placeStart n turn) 0 ∙ S .lengths .places
+
+  -- ---- a *next*
+  pub shape-next : m .counts .done ≡ 0 → Shape (passNext m .memory)
+  unfolding passNext
+  shape-next z =
+      let l = w .slot in
+      let b = bumps m S .slot in
+      let c = S .ranges .commits in
+      shape-besides m S (advance (m .turn)) 0 new (m .txns .writes) length-emptied (S .lengths .writes) (omega arith) (omega arith)
+      (places-turned (passNext m .memory) refl b refl refl)

@@ -1,0 +1,125 @@
+-- A writeset committed: the memory after it, and all of its shape but that of the transactions. Assumes nothing.
+use Prim.Native.Nat.{ℕ, _+_, _*_, _≤_, _<_, min}
+use mathlib.Core.Path.{_≡_, refl, _∙_}
+use mathlib.Core.Bool.{Bool, true, false, cond}
+use mathlib.Core.List.{List, [], _∷_}
+use native.Mathlib.Omega.{arith}
+use lib.IntN.{ℤ}
+use lib.ListN.{length, getD, set, length-set}
+use borrow.Author.Tests.{leb-false}
+use Rattle.block.specs.declared.Entry.{Entry}
+use Rattle.block.specs.Message.{Record}
+use Rattle.memory.specs.Memory.{Memory, bump, withDone, withCommit}
+use Rattle.memory.specs.Rows.{closed, openCount, rowOf, rowAt, itemsOf, has}
+use Rattle.memory.specs.Turns.{markApplying, advance}
+use Rattle.engine.specs.Moves.{blockAtTurn, applied, stamped, spared, hitTickets, queueWithout, turnBlocks, isLast, commitWriteset}
+use Rattle.engine.specs.Shape.{Lengths, RowShape, QueueShape, PlaceShape, Shape}
+use Rattle.engine.proofs.Shaping.{bumps}
+use Rattle.engine.proofs.ShapeTurn.{Working, places-turned, places-done, length-emptied}
+
+-- `mine` where the replica sent it itself, `last` where it is the block's last
+abbrev pub committed : Memory → Bool → Bool → Record → Memory
+committed m mine last w =
+    let gone = cond mine [] (hitTickets (w .entries) (m .txns .items) 0 (m .txns .table)) in
+    record {
+      turn = cond last (advance (m .turn)) (cond mine (m .turn) (markApplying (m .turn)));
+      counts = withDone
+          (withCommit (m .counts) (bump (m .counts .commits)) (cond mine (bump (m .counts .committed)) (m .counts .committed))
+          (min (m .counts .aborted + length gone) 4_294_967_295))
+          (cond last 0 (m .counts .done + 1));
+      txns = record {
+        table = cond mine (set (m .txns .table) (rowOf (w .ticket) (m .txns .table)) closed) (spared (w .entries) (m .txns .items) 0 (m .txns .table));
+        queue = cond mine (m .txns .queue) (queueWithout gone (m .txns .queue));
+        items = m .txns .items;
+        writes = m .txns .writes;
+        snapshots = m .txns .snapshots;
+      };
+      store = record { values = applied (w .entries) (m .store .values); stamps = stamped (bump (m .counts .commits)) (w .entries) (m .store .stamps) };
+      blocks = cond last (turnBlocks m) (m .blocks);
+    }
+
+-- the transactions' part of the shape
+pub record TxnShape (k : Memory) : Type 0 where
+  pub table : length (k .txns .table) ≡ 6
+  pub waiting : length (k .txns .queue) ≡ 6
+  pub endings : k .counts .tickets
+      ≡ openCount (k .txns .table) + k .counts .committed + k .counts .«read_only» + k .counts .aborted + k .counts .withdrawn
+  pub rows : (r : ℕ) → r < 6 → RowShape k r
+  pub distinct : (i j : ℕ) → i < 6 → j < 6 → (i ≡ j → ⊥) → (rowAt (k .txns .table) i .ticket ≡ 0 → ⊥)
+      → rowAt (k .txns .table) i .ticket ≡ rowAt (k .txns .table) j .ticket → ⊥
+  pub queue : QueueShape k
+  pub single : (i j : ℕ) → i < 6 → j < 6 → (i ≡ j → ⊥) → (x : ℕ) → has x (itemsOf i (rowAt (k .txns .table) i) (k .txns .items)) ≡ true
+      → has x (itemsOf j (rowAt (k .txns .table) j) (k .txns .items)) ≡ true → ⊥
+
+length-applied : (es : List Entry) (l : List ℤ) → length (applied es l) ≡ length l
+unfolding applied
+length-applied [] l = refl
+length-applied (e ∷ es) l = length-applied es (set l (e .item) (e .value)) ∙ length-set l (e .item) (e .value)
+
+length-stamped : (n : ℕ) (es : List Entry) (l : List ℕ) → length (stamped n es l) ≡ length l
+unfolding stamped
+length-stamped n [] l = refl
+length-stamped n (e ∷ es) l = length-stamped n es (set l (e .item) n) ∙ length-set l (e .item) n
+
+module _ (m : Memory) (S : Shape m) (k : Working m) (more : m .counts .done < getD (blockAtTurn m) 3 0) where
+  lengths-of : (mine last : Bool) (w : Record) → TxnShape (committed m mine last w) → length (committed m mine last w .blocks .places) ≡ 512 * m .counts .replicas
+      → length (committed m mine last w .blocks .outbox) ≡ 512 → Lengths (committed m mine last w)
+  lengths-of mine last w t p o = record {
+    table = t .table;
+    queue = t .waiting;
+    items = S .lengths .items;
+    writes = S .lengths .writes;
+    snapshots = S .lengths .snapshots;
+    values = length-applied (w .entries) (m .store .values) ∙ S .lengths .values;
+    stamps = length-stamped (bump (m .counts .commits)) (w .entries) (m .store .stamps) ∙ S .lengths .stamps;
+    places = p;
+    outbox = o;
+  }
+
+  shape-of : (mine last : Bool) (w : Record) → TxnShape (committed m mine last w) → Lengths (committed m mine last w)
+      → committed m mine last w .turn .slot ≤ 100_000_000
+      → bump (m .counts .commits) ≤ 6 * committed m mine last w .turn .slot + committed m mine last w .counts .done
+      → PlaceShape (committed m mine last w) → Shape (committed m mine last w)
+  shape-of mine last w t l s c p = record {
+    lengths = l;
+    ranges = record {
+      least = S .ranges .least;
+      most = S .ranges .most;
+      own = S .ranges .own;
+      slot = s;
+      tickets = S .ranges .tickets;
+      commits = c;
+      endings = t .endings;
+    };
+    rows = t .rows;
+    distinct = t .distinct;
+    queue = t .queue;
+    places = p;
+    single = t .single;
+  }
+
+  slot-stays : (mine : Bool) (w : Record) → committed m mine false w .turn .slot ≡ m .turn .slot
+  slot-stays true w = refl
+  slot-stays false w = refl
+
+  by-last : (mine last : Bool) (w : Record) → isLast m ≡ last → TxnShape (committed m mine last w) → Shape (committed m mine last w)
+  by-last mine true w e t =
+      let u = bumps m S .slot in
+      let a = S .ranges .commits in
+      let b = k .commits in
+      let c = k .few in
+      let d = k .slot in
+      shape-of mine true w t (lengths-of mine true w t (length-emptied m S k) (S .lengths .outbox)) (omega arith) (omega arith)
+      (places-turned m S k (committed m mine true w) refl u refl refl)
+  by-last mine false w e t =
+      let u = slot-stays mine w in
+      let a = S .ranges .commits in
+      let b = k .commits in
+      let c = S .ranges .slot in
+      let l = leb-false (getD (blockAtTurn m) 3 0) (m .counts .done + 1) e in
+      shape-of mine false w t (lengths-of mine false w t (S .lengths .places) (S .lengths .outbox)) (omega arith) (omega arith)
+      (places-done m S k (committed m mine false w) refl u refl refl l)
+
+  pub shape-writeset : (mine : Bool) (w : Record) → TxnShape (committed m mine (isLast m) w) → Shape (commitWriteset m mine w .memory)
+  unfolding commitWriteset
+  shape-writeset mine w t = by-last mine (isLast m) w refl t

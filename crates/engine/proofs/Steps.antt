@@ -1,0 +1,74 @@
+-- To prove P of a call's outcome, prove it of each thing the call may do, with what the tests tell there. Assumes nothing.
+use Prim.Native.Nat.{ℕ}
+use mathlib.Core.Path.{_≡_}
+use mathlib.Core.Bool.{true, false}
+use mathlib.Core.List.{List}
+use lib.Dec.{eqb}
+use lib.IntN.{ℤ}
+use lib.ListN.{getD}
+use borrow.Author.Tests.{eqb-true, eqb-false}
+use Rattle.memory.specs.Memory.{Memory}
+use Rattle.memory.specs.Rows.{freeRow, writeCount}
+use Rattle.engine.specs.Calls.{Outcome, outcome}
+use Rattle.engine.specs.Calls.Answer.{refused, got}
+use Rattle.engine.specs.Client.{rowNo, rowWith, ownIndex, isOwn, beginRefusal, beginAt, beginStep, readRefusal, valueFor, readStep, writeRefusal, rewriteAt, insertWrite, staleAt, writeStep, askRefusal, readOnlyAt, queueAt, askStep, withdrawRefusal, withdrawAt, withdrawStep}
+use Rattle.engine.specs.Moves.{sendRefusal, sendNow, sendStep, deliverRefusal, deliverNow, deliverStep, blockAtTurn, writesetAt, workRefusal, passNext, commitWriteset, workStep}
+use Rattle.engine.specs.Step.{step}
+use Rattle.engine.specs.Step.Call.{begin, read, write, ask, withdraw, send, deliver, work}
+use Rattle.engine.proofs.Tests.{cond-by, unless-by}
+
+module _ (P : Outcome → Type 0) (m : Memory) where
+  -- refused, with the memory as it was
+  abbrev pub Refused : ℕ → Type 0
+  Refused n = (n ≡ 0 → ⊥) → P (outcome (refused n) m)
+
+  pub begin-by : (beginRefusal m ≡ 0 → P (beginAt m (freeRow (m .txns .table)))) → Refused (beginRefusal m) → P (step m begin)
+  unfolding step beginStep
+  begin-by f r = unless-by P _ m f r
+
+  pub read-by : (t i : ℕ) → (readRefusal m t i ≡ 0 → P (outcome (got (valueFor m t i)) m)) → Refused (readRefusal m t i) → P (step m (read t i))
+  unfolding step readStep
+  read-by t i f r = unless-by P _ m f r
+
+  pub write-by : (t i : ℕ) (v : ℤ)
+      → (writeRefusal m t i ≡ 9 → P (staleAt m (rowNo m t)))
+      → (writeRefusal m t i ≡ 0 → isOwn m t i ≡ true → P (rewriteAt m (rowNo m t) (ownIndex m t i) v))
+      → (writeRefusal m t i ≡ 0 → isOwn m t i ≡ false → P (insertWrite m (rowNo m t) (rowWith m t) i v))
+      → ((writeRefusal m t i ≡ 9 → ⊥) → Refused (writeRefusal m t i))
+      → P (step m (write t i v))
+  unfolding step writeStep
+  write-by t i v s f g r =
+      let n = writeRefusal m t i in
+      cond-by P (eqb n 9) (λ e. s (eqb-true n 9 e)) (λ e. unless-by P n m (λ z. cond-by P (isOwn m t i) (f z) (g z)) (r (eqb-false n 9 e)))
+
+  pub ask-by : (t : ℕ)
+      → (askRefusal m t ≡ 0 → P (readOnlyAt m (rowNo m t)))
+      → (askRefusal m t ≡ 0 → (writeCount (rowWith m t) ≡ 0 → ⊥) → P (queueAt m (rowNo m t) (rowWith m t)))
+      → Refused (askRefusal m t)
+      → P (step m (ask t))
+  unfolding step askStep
+  ask-by t f g r =
+      let n = writeCount (rowWith m t) in
+      unless-by P _ m (λ z. cond-by P (eqb n 0) (λ e. f z) (λ e. g z (eqb-false n 0 e))) r
+
+  pub withdraw-by : (t : ℕ) → (withdrawRefusal m t ≡ 0 → P (withdrawAt m (rowNo m t))) → Refused (withdrawRefusal m t) → P (step m (withdraw t))
+  unfolding step withdrawStep
+  withdraw-by t f r = unless-by P _ m f r
+
+  pub send-by : (b : List ℕ) → (sendRefusal m b ≡ 0 → P (sendNow m)) → Refused (sendRefusal m b) → P (step m (send b))
+  unfolding step sendStep
+  send-by b f r = unless-by P _ m f r
+
+  pub deliver-by : (b : List ℕ) → (deliverRefusal m b ≡ 0 → P (deliverNow m b)) → Refused (deliverRefusal m b) → P (step m (deliver b))
+  unfolding step deliverStep
+  deliver-by b f r = unless-by P _ m f r
+
+  pub work-by : (workRefusal m ≡ 0 → getD (blockAtTurn m) 0 0 ≡ 1 → P (passNext m))
+      → (workRefusal m ≡ 0 → (getD (blockAtTurn m) 0 0 ≡ 1 → ⊥)
+      → P (commitWriteset m (eqb (getD (blockAtTurn m) 1 0) (m .counts .own)) (writesetAt (blockAtTurn m) (m .counts .done))))
+      → Refused (workRefusal m)
+      → P (step m work)
+  unfolding step workStep
+  work-by f g r =
+      let k = getD (blockAtTurn m) 0 0 in
+      unless-by P _ m (λ z. cond-by P (eqb k 1) (λ e. f z (eqb-true k 1 e)) (λ e. g z (eqb-false k 1 e))) r

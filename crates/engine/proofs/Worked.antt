@@ -1,0 +1,36 @@
+-- Document 01's marked cases, computed from the definitions. Assumes nothing.
+use mathlib.Core.Path.{refl}
+use Rattle.block.specs.Numbers.{bytesOf, numberOf, valueBytes, valueOf}
+use Rattle.block.specs.Check.{word, sumTo, weightedTo, firstCheck, secondCheck, checkBytes, checkMatches}
+use Rattle.block.specs.Message.{ownerOf, within, kindFits, entriesFit, recordFits, recordsFit, ticketAbsent, ticketsDiffer, valid}
+use Rattle.block.specs.Bytes.{entryBytes, entriesBytes, recordBytes, recordsBytes, headerFor, headerBytes, bodyBytes, blockOf}
+use Rattle.block.specs.Form.{entryOf, entriesOf, recordOf, recordsOf, messageOf, allZero, entriesPadded, recordPadded, recordsPadded, padded, wellFormed}
+use Rattle.block.specs.Answers.{firstOf, headerOf, recordAt, entryAt}
+use Rattle.block.specs.Writing.{entriesFrom}
+use Rattle.block.proofs.Worked.{worked-blocks}
+use Rattle.memory.specs.Memory.{bump}
+use Rattle.memory.specs.Rows.{openCount, rowFrom, rowOf, freeRow, indexFrom, has, holderFrom, countBelow}
+use Rattle.memory.specs.Turns.{placeStart}
+use Rattle.engine.specs.Make.{madeMemory, placesFit, partsFit, makeRefusal, makeStep}
+use Rattle.engine.specs.Client.{beginRefusal, beginAt, beginStep, readRefusal, valueFor, readStep, writeRefusal, rewriteAt, insertWrite, staleAt, writeStep, askRefusal, readOnlyAt, queueAt, askStep, withdrawRefusal, withdrawAt, withdrawStep}
+use Rattle.engine.specs.Moves.{waiting, writesetOf, messageFor, sendRefusal, sendNow, sendStep, sameBytes, deliverRefusal, deliverNow, deliverStep, entriesFor, applied, stamped, shares, spared, insertRising, hitTickets, without, workRefusal, passNext, commitWriteset, workStep}
+use Rattle.engine.specs.Step.{step}
+use Rattle.engine.specs.Worked.{WorkedCases, answers}
+
+pub worked-cases : WorkedCases
+unfolding bytesOf numberOf valueBytes valueOf word sumTo weightedTo firstCheck secondCheck checkBytes checkMatches ownerOf within kindFits entriesFit recordFits recordsFit ticketAbsent ticketsDiffer valid entryBytes entriesBytes recordBytes recordsBytes headerFor headerBytes bodyBytes blockOf entryOf entriesOf recordOf recordsOf messageOf allZero entriesPadded recordPadded recordsPadded padded wellFormed firstOf headerOf recordAt entryAt entriesFrom bump openCount rowFrom rowOf freeRow indexFrom has holderFrom countBelow placeStart madeMemory placesFit partsFit makeRefusal makeStep beginRefusal beginAt beginStep readRefusal valueFor readStep writeRefusal rewriteAt insertWrite staleAt writeStep askRefusal readOnlyAt queueAt askStep withdrawRefusal withdrawAt withdrawStep waiting writesetOf messageFor sendRefusal sendNow sendStep sameBytes deliverRefusal deliverNow deliverStep entriesFor applied stamped shares spared insertRising hitTickets without workRefusal passNext commitWriteset workStep step answers
+worked-cases = record {
+  blocks = worked-blocks;
+  size-1 = refl;
+  size-7 = refl;
+  size-2 = refl;
+  size-6 = refl;
+  items = refl;
+  ninth = refl;
+  seventh = refl;
+  ahead = refl;
+  twice = refl;
+  own-early = refl;
+  aborted = refl;
+  stale = refl;
+}

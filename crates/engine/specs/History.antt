@@ -1,0 +1,110 @@
+-- Report's numbers, counted from what calls answered.
+use Prim.Native.Nat.{ℕ, suc, _+_, _-_, _≤_, _<_}
+use mathlib.Core.Path.{_≡_}
+use mathlib.Core.Bool.{cond, not, _&&_}
+use mathlib.Core.List.{List, [], _∷_}
+use lib.Dec.{eqb}
+use lib.IntN.{ℤ}
+use lib.ListN.{length}
+use Rattle.memory.specs.Memory.{Memory}
+use Rattle.engine.specs.declared.Report.{Report}
+use Rattle.engine.specs.Calls.{Answer, Step}
+use Rattle.engine.specs.Calls.Answer.{refused, made, began, got, wrote, queued, readOnly, withdrew, reported, sent, kept, worked}
+use Rattle.engine.specs.Make.{madeMemory}
+use Rattle.engine.specs.Client.{reportOf}
+use Rattle.engine.specs.Step.{Call, step, after}
+
+pub record Tally : Type 0 where
+  pub turn : ℕ
+  pub commits : ℕ
+  pub tickets : ℕ
+  pub committed : ℕ
+  pub readOnlies : ℕ
+  pub aborted : ℕ
+  pub withdrawn : ℕ
+
+abbrev pub noCalls : Tally
+noCalls = record { turn = 0; commits = 0; tickets = 0; committed = 0; readOnlies = 0; aborted = 0; withdrawn = 0 }
+
+-- one more answer, at replica `own`: a begin gives a ticket; an ask of an empty writeset, a withdraw and a write answered 9 each end one transaction;
+-- a work moves the turn, commits a writeset where its ticket is not 0, its own where the replica sent it, and aborts those it names
+unfoldable pub counted : ℕ → Tally → Answer → Tally
+counted own t (refused n) = record {
+  turn = t .turn;
+  commits = t .commits;
+  tickets = t .tickets;
+  committed = t .committed;
+  readOnlies = t .readOnlies;
+  aborted = cond (eqb n 9) (suc (t .aborted)) (t .aborted);
+  withdrawn = t .withdrawn;
+}
+counted own t made = t
+counted own t (began k) = record {
+  turn = t .turn;
+  commits = t .commits;
+  tickets = suc (t .tickets);
+  committed = t .committed;
+  readOnlies = t .readOnlies;
+  aborted = t .aborted;
+  withdrawn = t .withdrawn;
+}
+counted own t (got v) = t
+counted own t wrote = t
+counted own t queued = t
+counted own t readOnly = record {
+  turn = t .turn;
+  commits = t .commits;
+  tickets = t .tickets;
+  committed = t .committed;
+  readOnlies = suc (t .readOnlies);
+  aborted = t .aborted;
+  withdrawn = t .withdrawn;
+}
+counted own t withdrew = record {
+  turn = t .turn;
+  commits = t .commits;
+  tickets = t .tickets;
+  committed = t .committed;
+  readOnlies = t .readOnlies;
+  aborted = t .aborted;
+  withdrawn = suc (t .withdrawn);
+}
+counted own t (reported r) = t
+counted own t (sent b) = t
+counted own t kept = t
+counted own t (worked s) = record {
+  turn = cond (s .moved) (suc (t .turn)) (t .turn);
+  commits = cond (eqb (s .ticket) 0) (t .commits) (suc (t .commits));
+  tickets = t .tickets;
+  committed = cond (not (eqb (s .ticket) 0) && eqb (s .sender) own) (suc (t .committed)) (t .committed);
+  readOnlies = t .readOnlies;
+  aborted = t .aborted + length (s .aborted);
+  withdrawn = t .withdrawn;
+}
+
+unfoldable pub tally : ℕ → Tally → Memory → List Call → Tally
+tally own t m [] = t
+tally own t m (c ∷ cs) = tally own (counted own t (step m c .answer)) (step m c .memory) cs
+
+-- all endings of the replica's own transactions
+abbrev pub endings : Tally → ℕ
+endings t = t .committed + t .readOnlies + t .aborted + t .withdrawn
+
+abbrev pub reportFrom : Tally → Report
+reportFrom t = record {
+  turn = t .turn;
+  commits = t .commits;
+  tickets = t .tickets;
+  active = t .tickets - endings t;
+  committed = t .committed;
+  «read_only» = t .readOnlies;
+  aborted = t .aborted;
+  withdrawn = t .withdrawn;
+}
+
+pub record Reports : Type 0 where
+  pub report : (n own : ℕ) (values : List ℤ) → 2 ≤ n → n ≤ 6 → own < n → length values ≡ 128 → (cs : List Call)
+      → reportOf (after (madeMemory n own values) cs) ≡ reportFrom (tally own noCalls (madeMemory n own values) cs)
+  -- tickets given equal open plus all endings
+  pub sum : (n own : ℕ) (values : List ℤ) → 2 ≤ n → n ≤ 6 → own < n → length values ≡ 128 → (cs : List Call)
+      → let r = reportOf (after (madeMemory n own values) cs) in r .tickets ≡ r .active + r .committed + r .«read_only» + r .aborted + r .withdrawn

@@ -1,0 +1,88 @@
+-- A replica just made.
+use Prim.Native.Nat.{ℕ, _*_}
+use mathlib.Core.Bool.{Bool, true, false, cond, not, _&&_, _||_}
+use mathlib.Core.List.{List, [], _∷_}
+use lib.Dec.{eqb, leb}
+use lib.IntN.{ℤ, pos}
+use lib.ListN.{length, replicate}
+use Rattle.block.specs.Answers.{Refusal, refuse, firstOf}
+use Rattle.block.specs.Message.{within}
+use Rattle.memory.specs.declared.Counts.{Counts}
+use Rattle.memory.specs.declared.Turn.{Turn}
+use Rattle.memory.specs.Memory.{Transactions, Store, Blocks, Memory}
+use Rattle.memory.specs.Rows.{closed}
+use Rattle.engine.specs.Calls.{Outcome, outcome}
+use Rattle.engine.specs.Calls.Answer.{refused, made}
+
+abbrev pub turnZero : Turn
+turnZero = record { slot = 0; sent = false; applying = false }
+
+abbrev pub countsFor : ℕ → ℕ → Counts
+countsFor n own = record {
+  replicas = n;
+  own = own;
+  commits = 0;
+  done = 0;
+  tickets = 0;
+  committed = 0;
+  «read_only» = 0;
+  aborted = 0;
+  withdrawn = 0;
+}
+
+-- turn, counts and stamps 0, places empty, marks off, the starting values
+unfoldable pub madeMemory : ℕ → ℕ → List ℤ → Memory
+madeMemory n own values = record {
+  turn = turnZero;
+  counts = countsFor n own;
+  txns = record {
+    table = replicate 6 closed;
+    queue = replicate 6 0;
+    items = replicate 48 0;
+    writes = replicate 48 (pos 0);
+    snapshots = replicate 768 (pos 0);
+  };
+  store = record { values = values; stamps = replicate 128 0 };
+  blocks = record { places = replicate (512 * n) 0; outbox = replicate 512 0 };
+}
+
+-- N blocks; an N out of range gives the places no length
+unfoldable pub placesFit : List ℕ → ℕ → Bool
+placesFit places n = not (within 2 6 n) || eqb (length places) (512 * n)
+
+-- the lent parts have their lengths
+abbrev pub slicesFit : Memory → Bool
+slicesFit m =
+    eqb (length (m .txns .queue)) 6
+    && (eqb (length (m .txns .items)) 48
+    && (eqb (length (m .txns .writes)) 48
+    && (eqb (length (m .txns .snapshots)) 768
+    && (eqb (length (m .store .values)) 128 && (eqb (length (m .store .stamps)) 128 && eqb (length (m .blocks .outbox)) 512)))))
+
+unfoldable pub partsFit : Memory → ℕ → Bool
+partsFit m n = slicesFit m && placesFit (m .blocks .places) n
+
+-- 2: N or own number out of range
+abbrev pub sizeOut : ℕ → ℕ → Bool
+sizeOut n own = not (within 2 6 n) || leb n own
+
+unfoldable pub makeRefusal : Memory → ℕ → ℕ → List ℤ → ℕ
+makeRefusal m n own values =
+    firstOf
+    (refuse 1 (not (eqb (length values) 128 && partsFit m n))
+    ∷ refuse 2 (sizeOut n own)
+    ∷ [])
+
+-- on the memory lent; refused, its slices stay, and turn, counts and table are those of no replica
+unfoldable pub makeStep : Memory → ℕ → ℕ → List ℤ → Outcome
+makeStep m n own values =
+    cond (eqb (makeRefusal m n own values) 0)
+    (outcome made (madeMemory n own values))
+    (outcome (refused (makeRefusal m n own values))
+    (record {
+      turn = turnZero;
+      counts = countsFor 0 0;
+      txns = record { table = replicate 6 closed; queue = m .txns .queue; items = m .txns .items; writes = m .txns .writes; snapshots = m .txns .snapshots };
+      store = m .store;
+      blocks = m .blocks;
+    }))

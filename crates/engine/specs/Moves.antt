@@ -1,0 +1,268 @@
+-- What moves the turn: send, deliver, work. Each call's refusals stand in the order of document 01's table.
+use Prim.Native.Nat.{ℕ, zero, suc, _+_, _*_, _-_, min}
+use mathlib.Core.Bool.{Bool, true, false, cond, not, _&&_, _||_}
+use mathlib.Core.List.{List, [], _∷_, _++_, map}
+use lib.Dec.{eqb, ltb, leb}
+use lib.IntN.{ℤ}
+use lib.ListN.{length, getD, set, replicate}
+use lib.Seq.{slice, paste}
+use Rattle.block.specs.declared.Entry.{Entry}
+use Rattle.block.specs.Message.{Record, Message, ownerOf}
+use Rattle.block.specs.Bytes.{blockOf}
+use Rattle.block.specs.Check.{checkMatches}
+use Rattle.block.specs.Form.{wellFormed}
+use Rattle.block.specs.Answers.{Refusal, refuse, firstOf, headerOf, recordAt, entryAt}
+use Rattle.block.specs.Writing.{entriesFrom}
+use Rattle.memory.specs.declared.Counts.{Counts}
+use Rattle.memory.specs.declared.Turn.{Turn}
+use Rattle.memory.specs.declared.Txn.{Txn}
+use Rattle.memory.specs.Memory.{Transactions, Store, Blocks, Memory, maxSlots, bump, writesLent, placesLent, withDone, withCommit, withTable, withTxns, withBlocks, withTurn}
+use Rattle.memory.specs.Rows.{closed, isOpen, rowOf, rowAt, writeCount, itemsOf, has}
+use Rattle.memory.specs.Turns.{markSent, markApplying, advance, placeStart, blockIn, isEmpty, emptied}
+use Rattle.engine.specs.Calls.{Step, Outcome, outcome, unless}
+use Rattle.engine.specs.Calls.Answer.{sent, kept, worked}
+
+-- ---- send
+
+-- the tickets asked, in the order asked: document 01's *asked list*
+unfoldable pub waiting : List ℕ → List ℕ
+waiting [] = []
+waiting (t ∷ ts) = cond (eqb t 0) [] (t ∷ waiting ts)
+
+-- the writeset of the transaction with the ticket, empty where none is open
+unfoldable pub writesetOf : Transactions → ℕ → Record
+writesetOf x ticket =
+    let r = rowOf ticket (x .table) in
+    let t = rowAt (x .table) r in
+    record { ticket = ticket; entries = entriesFrom (itemsOf r t (x .items)) (slice (8 * r) (8 * r + writeCount t) (x .writes)) }
+
+-- a *next* where nothing is asked, else a *tocommit* with the whole list
+unfoldable pub messageFor : Memory → Message
+messageFor m = record {
+  kind = cond (eqb (length (waiting (m .txns .queue))) 0) 1 2;
+  sender = m .counts .own;
+  replicas = m .counts .replicas;
+  slot = m .turn .slot;
+  records = map (writesetOf (m .txns)) (waiting (m .txns .queue));
+}
+
+-- an asked transaction becomes sent
+abbrev pub sendRow : Txn → Txn
+sendRow t = record { ticket = t .ticket; stage = cond (eqb (t .stage) 1) 2 (t .stage); snapshot = t .snapshot; writes = t .writes }
+
+abbrev pub sendLent : Memory → List ℕ → Bool
+sendLent m block = writesLent m && (eqb (length (m .txns .queue)) 6 && (eqb (length (m .blocks .outbox)) 512 && eqb (length block) 512))
+
+-- 13: slots spent
+abbrev pub slotsSpent : Memory → Bool
+slotsSpent m = leb maxSlots (m .turn .slot)
+
+-- 11: the turn is another's slot
+abbrev pub othersTurn : Memory → Bool
+othersTurn m = not (eqb (ownerOf (m .counts .replicas) (m .turn .slot)) (m .counts .own))
+
+-- 12: sent already for this slot
+abbrev pub sentAlready : Memory → Bool
+sentAlready m = m .turn .sent
+
+unfoldable pub sendRefusal : Memory → List ℕ → ℕ
+sendRefusal m block =
+    firstOf (refuse 1 (not (sendLent m block)) ∷ refuse 13 (slotsSpent m) ∷ refuse 11 (othersTurn m) ∷ refuse 12 (sentAlready m) ∷ [])
+
+unfoldable pub sendNow : Memory → Outcome
+sendNow m =
+    let block = blockOf (messageFor m) in
+    let x = m .txns in
+    outcome (sent block)
+    (record {
+      turn = markSent (m .turn);
+      counts = m .counts;
+      txns = record { table = map sendRow (x .table); queue = replicate 6 0; items = x .items; writes = x .writes; snapshots = x .snapshots };
+      store = m .store;
+      blocks = record { places = m .blocks .places; outbox = block };
+    })
+
+unfoldable pub sendStep : Memory → List ℕ → Outcome
+sendStep m block = unless (sendRefusal m block) m (sendNow m)
+
+-- ---- deliver
+
+unfoldable pub sameBytes : List ℕ → List ℕ → Bool
+sameBytes [] [] = true
+sameBytes [] (y ∷ ys) = false
+sameBytes (x ∷ xs) [] = false
+sameBytes (x ∷ xs) (y ∷ ys) = eqb x y && sameBytes xs ys
+
+-- the block that the replica sent for its present turn
+abbrev pub isOwnBlock : Memory → List ℕ → Bool
+isOwnBlock m bytes = m .turn .sent && sameBytes bytes (m .blocks .outbox)
+
+abbrev pub deliverLent : Memory → List ℕ → Bool
+deliverLent m bytes = placesLent m && (eqb (length (m .blocks .outbox)) 512 && eqb (length bytes) 512)
+
+-- 16: its N is not ours
+abbrev pub otherGroup : Memory → List ℕ → Bool
+otherGroup m bytes = not (eqb (headerOf bytes .replicas) (m .counts .replicas))
+
+-- 17: slot below the turn
+abbrev pub slotPast : Memory → List ℕ → Bool
+slotPast m bytes = ltb (headerOf bytes .slot) (m .turn .slot)
+
+-- 18: slot at or above turn + N
+abbrev pub slotAhead : Memory → List ℕ → Bool
+slotAhead m bytes = leb (m .turn .slot + m .counts .replicas) (headerOf bytes .slot)
+
+-- 19: sender is this replica, and the block is not the one it sent for its present turn
+abbrev pub notSentHere : Memory → List ℕ → Bool
+notSentHere m bytes = eqb (headerOf bytes .sender) (m .counts .own) && not (isOwnBlock m bytes)
+
+-- 20: its place is taken
+abbrev pub placeTaken : Memory → List ℕ → Bool
+placeTaken m bytes = not (isEmpty (m .counts .replicas) (headerOf bytes .slot) (m .blocks .places))
+
+unfoldable pub deliverRefusal : Memory → List ℕ → ℕ
+deliverRefusal m bytes =
+    firstOf
+    (refuse 1 (not (deliverLent m bytes))
+    ∷ refuse 14 (not (checkMatches bytes))
+    ∷ refuse 15 (not (wellFormed bytes))
+    ∷ refuse 16 (otherGroup m bytes)
+    ∷ refuse 17 (slotPast m bytes)
+    ∷ refuse 18 (slotAhead m bytes)
+    ∷ refuse 19 (notSentHere m bytes)
+    ∷ refuse 20 (placeTaken m bytes)
+    ∷ [])
+
+unfoldable pub deliverNow : Memory → List ℕ → Outcome
+deliverNow m bytes =
+    outcome kept
+    (withBlocks m
+    (record {
+      places = paste (m .blocks .places) (placeStart (m .counts .replicas) (headerOf bytes .slot)) bytes 512;
+      outbox = m .blocks .outbox;
+    }))
+
+unfoldable pub deliverStep : Memory → List ℕ → Outcome
+deliverStep m bytes = unless (deliverRefusal m bytes) m (deliverNow m bytes)
+
+-- ---- work
+
+-- the block at the turn
+abbrev pub blockAtTurn : Memory → List ℕ
+blockAtTurn m = blockIn (m .counts .replicas) (m .turn .slot) (m .blocks .places)
+
+-- n entries of record j, from entry e on
+unfoldable pub entriesFor : List ℕ → ℕ → ℕ → ℕ → List Entry
+entriesFor b j e zero = []
+entriesFor b j e (suc n) = entryAt b j e ∷ entriesFor b j (suc e) n
+
+-- the writeset to commit next: record j of a block, of at most 8 entries
+abbrev pub writesetAt : List ℕ → ℕ → Record
+writesetAt b j = record { ticket = recordAt b j .ticket; entries = entriesFor b j 0 (min (recordAt b j .writes) 8) }
+
+-- values and stamps of its items; an item past the last changes nothing
+unfoldable pub applied : List Entry → List ℤ → List ℤ
+applied [] l = l
+applied (e ∷ es) l = applied es (set l (e .item) (e .value))
+
+unfoldable pub stamped : ℕ → List Entry → List ℕ → List ℕ
+stamped n [] l = l
+stamped n (e ∷ es) l = stamped n es (set l (e .item) n)
+
+-- the row has written an item of the entries
+unfoldable pub shares : List ℕ → List Entry → Bool
+shares items [] = false
+shares items (e ∷ es) = has (e .item) items || shares items es
+
+-- active or asked, with an item of another's writeset: it is aborted
+abbrev pub isHit : List Entry → List ℕ → ℕ → Txn → Bool
+isHit es items r t = isOpen t && (ltb (t .stage) 2 && shares (itemsOf r t items) es)
+
+-- the table with those rows closed, and their tickets, rising
+unfoldable pub spared : List Entry → List ℕ → ℕ → List Txn → List Txn
+spared es items r [] = []
+spared es items r (t ∷ ts) = cond (isHit es items r t) closed t ∷ spared es items (suc r) ts
+
+unfoldable pub insertRising : ℕ → List ℕ → List ℕ
+insertRising x [] = x ∷ []
+insertRising x (y ∷ ys) = cond (ltb x y) (x ∷ (y ∷ ys)) (y ∷ insertRising x ys)
+
+unfoldable pub hitTickets : List Entry → List ℕ → ℕ → List Txn → List ℕ
+hitTickets es items r [] = []
+hitTickets es items r (t ∷ ts) = cond (isHit es items r t) (insertRising (t .ticket) (hitTickets es items (suc r) ts)) (hitTickets es items (suc r) ts)
+
+-- the list without those tickets
+unfoldable pub without : List ℕ → List ℕ → List ℕ
+without gone [] = []
+without gone (t ∷ ts) = cond (has t gone) (without gone ts) (t ∷ without gone ts)
+
+-- the queue without them, with zeros behind
+abbrev pub queueWithout : List ℕ → List ℕ → List ℕ
+queueWithout gone queue = without gone queue ++ replicate (length queue - length (without gone queue)) 0
+
+-- open as sent
+abbrev pub isSent : Memory → ℕ → Bool
+isSent m ticket = ltb (rowOf ticket (m .txns .table)) 6 && eqb (rowAt (m .txns .table) (rowOf ticket (m .txns .table)) .stage) 2
+
+abbrev pub workLent : Memory → Bool
+workLent m =
+    placesLent m
+    && (eqb (length (m .txns .items)) 48
+    && (eqb (length (m .txns .queue)) 6 && (eqb (length (m .store .values)) 128 && eqb (length (m .store .stamps)) 128)))
+
+-- 21: the turn's place is empty
+abbrev pub nothingWaits : Memory → Bool
+nothingWaits m = isEmpty (m .counts .replicas) (m .turn .slot) (m .blocks .places)
+
+-- 22: an own writeset whose ticket is not open as sent
+abbrev pub ownNotSent : Memory → Bool
+ownNotSent m =
+    not (eqb (getD (blockAtTurn m) 0 0) 1)
+    && (eqb (getD (blockAtTurn m) 1 0) (m .counts .own) && not (isSent m (recordAt (blockAtTurn m) (m .counts .done) .ticket)))
+
+unfoldable pub workRefusal : Memory → ℕ
+workRefusal m = firstOf (refuse 1 (not (workLent m)) ∷ refuse 21 (nothingWaits m) ∷ refuse 22 (ownNotSent m) ∷ [])
+
+-- after the last writeset, or a *next*: the place empties, the turn goes up by one, the marks go off
+abbrev pub turnBlocks : Memory → Blocks
+turnBlocks m = record { places = emptied (m .counts .replicas) (m .turn .slot) (m .blocks .places); outbox = m .blocks .outbox }
+
+unfoldable pub passNext : Memory → Outcome
+passNext m =
+    outcome (worked (record { sender = getD (blockAtTurn m) 1 0; ticket = 0; moved = true; aborted = [] }))
+    (withTurn m (advance (m .turn)) (withDone (m .counts) 0) (turnBlocks m))
+
+-- whether the writeset is the block's last
+abbrev pub isLast : Memory → Bool
+isLast m = leb (getD (blockAtTurn m) 3 0) (m .counts .done + 1)
+
+-- one writeset of the block at the turn; `mine` where the replica sent it itself
+unfoldable pub commitWriteset : Memory → Bool → Record → Outcome
+commitWriteset m mine w =
+    let x = m .txns in
+    let es = w .entries in
+    let n = bump (m .counts .commits) in
+    let gone = cond mine [] (hitTickets es (x .items) 0 (x .table)) in
+    let c = withCommit (m .counts) n
+    (cond mine (bump (m .counts .committed)) (m .counts .committed))
+    (min (m .counts .aborted + length gone) 4_294_967_295) in
+    outcome (worked (record { sender = getD (blockAtTurn m) 1 0; ticket = w .ticket; moved = isLast m; aborted = gone }))
+    (record {
+      turn = cond (isLast m) (advance (m .turn)) (cond mine (m .turn) (markApplying (m .turn)));
+      counts = withDone c (cond (isLast m) 0 (m .counts .done + 1));
+      txns = record {
+        table = cond mine (set (x .table) (rowOf (w .ticket) (x .table)) closed) (spared es (x .items) 0 (x .table));
+        queue = cond mine (x .queue) (queueWithout gone (x .queue));
+        items = x .items;
+        writes = x .writes;
+        snapshots = x .snapshots;
+      };
+      store = record { values = applied es (m .store .values); stamps = stamped n es (m .store .stamps) };
+      blocks = cond (isLast m) (turnBlocks m) (m .blocks);
+    })
+
+unfoldable pub workStep : Memory → Outcome
+workStep m =
+    unless (workRefusal m) m
+    (cond (eqb (getD (blockAtTurn m) 0 0) 1) (passNext m)
+    (commitWriteset m (eqb (getD (blockAtTurn m) 1 0) (m .counts .own)) (writesetAt (blockAtTurn m) (m .counts .done))))

@@ -1,0 +1,86 @@
+-- The memory's shape: what holds of every memory that calls lead to from a replica just made, with any bytes and any arguments.
+use Prim.Native.Nat.{ℕ, _+_, _*_, _-_, _≤_, _<_}
+use mathlib.Core.Path.{_≡_}
+use mathlib.Core.Bool.{true, false}
+use mathlib.Core.List.{List, _++_}
+use lib.IntN.{ℤ}
+use lib.ListN.{length, getD, replicate}
+use Rattle.block.specs.Answers.{readRefusal, headerOf}
+use Rattle.memory.specs.Memory.{Memory, maxTickets, maxSlots}
+use Rattle.memory.specs.Rows.{closed, openCount, rowOf, rowAt, writeCount, itemsOf, has}
+use Rattle.memory.specs.Turns.{blockIn, isEmpty}
+use Rattle.engine.specs.Make.{madeMemory}
+use Rattle.engine.specs.Moves.{waiting, blockAtTurn}
+use Rattle.engine.specs.Step.{Call, step, after}
+
+pub record Lengths (m : Memory) : Type 0 where
+  pub table : length (m .txns .table) ≡ 6
+  pub queue : length (m .txns .queue) ≡ 6
+  pub items : length (m .txns .items) ≡ 48
+  pub writes : length (m .txns .writes) ≡ 48
+  pub snapshots : length (m .txns .snapshots) ≡ 768
+  pub values : length (m .store .values) ≡ 128
+  pub stamps : length (m .store .stamps) ≡ 128
+  pub places : length (m .blocks .places) ≡ 512 * m .counts .replicas
+  pub outbox : length (m .blocks .outbox) ≡ 512
+
+pub record Ranges (m : Memory) : Type 0 where
+  pub least : 2 ≤ m .counts .replicas
+  pub most : m .counts .replicas ≤ 6
+  pub own : m .counts .own < m .counts .replicas
+  pub slot : m .turn .slot ≤ maxSlots
+  pub tickets : m .counts .tickets ≤ maxTickets
+  pub commits : m .counts .commits ≤ 6 * m .turn .slot + m .counts .done
+  -- tickets given equal open plus all endings
+  pub endings : m .counts .tickets
+      ≡ openCount (m .txns .table) + m .counts .committed + m .counts .«read_only» + m .counts .aborted + m .counts .withdrawn
+
+-- row r
+pub record RowShape (m : Memory) (r : ℕ) : Type 0 where
+  -- a free row is all zero
+  pub free : rowAt (m .txns .table) r .ticket ≡ 0 → rowAt (m .txns .table) r ≡ closed
+  pub given : rowAt (m .txns .table) r .ticket ≤ m .counts .tickets
+  pub stage : rowAt (m .txns .table) r .stage ≤ 2
+  pub since : rowAt (m .txns .table) r .snapshot ≤ m .counts .commits
+  pub few : rowAt (m .txns .table) r .writes ≤ 8
+  -- asked or sent, it has writes
+  pub some : 0 < rowAt (m .txns .table) r .stage → 0 < rowAt (m .txns .table) r .writes
+  -- its items rise and are items
+  pub rising : (j k : ℕ) → j < k → k < rowAt (m .txns .table) r .writes → getD (m .txns .items) (8 * r + j) 0 < getD (m .txns .items) (8 * r + k) 0
+  pub items : (j : ℕ) → j < rowAt (m .txns .table) r .writes → getD (m .txns .items) (8 * r + j) 0 < 128
+
+-- the queue is the asked rows' tickets, each once, and zeros behind
+pub record QueueShape (m : Memory) : Type 0 where
+  pub zeros : m .txns .queue ≡ waiting (m .txns .queue) ++ replicate (6 - length (waiting (m .txns .queue))) 0
+  pub asked : (k : ℕ) → k < length (waiting (m .txns .queue))
+      → (rowOf (getD (m .txns .queue) k 0) (m .txns .table) < 6)
+      × (rowAt (m .txns .table) (rowOf (getD (m .txns .queue) k 0) (m .txns .table)) .stage ≡ 1)
+  pub queued : (r : ℕ) → r < 6 → rowAt (m .txns .table) r .stage ≡ 1 → has (rowAt (m .txns .table) r .ticket) (waiting (m .txns .queue)) ≡ true
+  pub once : (j k : ℕ) → j < k → k < length (waiting (m .txns .queue)) → getD (m .txns .queue) j 0 ≡ getD (m .txns .queue) k 0 → ⊥
+
+-- a block that waits is an accepted one, for its slot and this group; writesets done are fewer than the block at the turn has
+pub record PlaceShape (m : Memory) : Type 0 where
+  pub waits : (s : ℕ) → m .turn .slot ≤ s → s < m .turn .slot + m .counts .replicas
+      → isEmpty (m .counts .replicas) s (m .blocks .places) ≡ false
+      → (readRefusal (blockIn (m .counts .replicas) s (m .blocks .places)) ≡ 0)
+      × (headerOf (blockIn (m .counts .replicas) s (m .blocks .places)) .slot ≡ s)
+      × (headerOf (blockIn (m .counts .replicas) s (m .blocks .places)) .replicas ≡ m .counts .replicas)
+  pub done : 0 < m .counts .done
+      → (isEmpty (m .counts .replicas) (m .turn .slot) (m .blocks .places) ≡ false) × (m .counts .done < getD (blockAtTurn m) 3 0)
+
+pub record Shape (m : Memory) : Type 0 where
+  pub lengths : Lengths m
+  pub ranges : Ranges m
+  pub rows : (r : ℕ) → r < 6 → RowShape m r
+  pub distinct : (i j : ℕ) → i < 6 → j < 6 → (i ≡ j → ⊥) → (rowAt (m .txns .table) i .ticket ≡ 0 → ⊥)
+      → rowAt (m .txns .table) i .ticket ≡ rowAt (m .txns .table) j .ticket → ⊥
+  pub queue : QueueShape m
+  pub places : PlaceShape m
+  -- at most one open transaction holds an item
+  pub single : (i j : ℕ) → i < 6 → j < 6 → (i ≡ j → ⊥) → (x : ℕ) → has x (itemsOf i (rowAt (m .txns .table) i) (m .txns .items)) ≡ true
+      → has x (itemsOf j (rowAt (m .txns .table) j) (m .txns .items)) ≡ true → ⊥
+
+pub record Shapes : Type 0 where
+  pub made : (n own : ℕ) (values : List ℤ) → 2 ≤ n → n ≤ 6 → own < n → length values ≡ 128 → Shape (madeMemory n own values)
+  pub each : (m : Memory) → Shape m → (c : Call) → Shape (step m c .memory)
+  pub all : (n own : ℕ) (values : List ℤ) → 2 ≤ n → n ≤ 6 → own < n → length values ≡ 128 → (cs : List Call) → Shape (after (madeMemory n own values) cs)

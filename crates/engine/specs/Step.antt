@@ -1,0 +1,48 @@
+-- The calls at a replica that was made, as data, and the step of each.
+use Prim.Native.Nat.{ℕ}
+use mathlib.Core.List.{List, [], _∷_}
+use lib.IntN.{ℤ}
+use Rattle.memory.specs.Memory.{Memory}
+use Rattle.engine.specs.Calls.{Outcome}
+use Rattle.engine.specs.Client.{beginRefusal, beginStep, readRefusal, readStep, writeRefusal, writeStep, askRefusal, askStep, withdrawRefusal, withdrawStep, reportStep}
+use Rattle.engine.specs.Moves.{sendRefusal, sendStep, deliverRefusal, deliverStep, workRefusal, workStep}
+
+-- tickets, items, values, the lent block of a send and the bytes of a deliver are any
+pub data Call : Type 0 where
+  begin : Call
+  read : ℕ → ℕ → Call
+  write : ℕ → ℕ → ℤ → Call
+  ask : ℕ → Call
+  withdraw : ℕ → Call
+  report : Call
+  send : List ℕ → Call
+  deliver : List ℕ → Call
+  work : Call
+
+unfoldable pub step : Memory → Call → Outcome
+step m begin = beginStep m
+step m (read ticket item) = readStep m ticket item
+step m (write ticket item value) = writeStep m ticket item value
+step m (ask ticket) = askStep m ticket
+step m (withdraw ticket) = withdrawStep m ticket
+step m report = reportStep m
+step m (send block) = sendStep m block
+step m (deliver bytes) = deliverStep m bytes
+step m work = workStep m
+
+-- the first refusal of each call's list that holds, 0 where none does
+unfoldable pub refusalOf : Memory → Call → ℕ
+refusalOf m begin = beginRefusal m
+refusalOf m (read ticket item) = readRefusal m ticket item
+refusalOf m (write ticket item value) = writeRefusal m ticket item
+refusalOf m (ask ticket) = askRefusal m ticket
+refusalOf m (withdraw ticket) = withdrawRefusal m ticket
+refusalOf m report = 0
+refusalOf m (send block) = sendRefusal m block
+refusalOf m (deliver bytes) = deliverRefusal m bytes
+refusalOf m work = workRefusal m
+
+-- the memory that a list of calls leaves
+unfoldable pub after : Memory → List Call → Memory
+after m [] = m
+after m (c ∷ cs) = after (step m c .memory) cs

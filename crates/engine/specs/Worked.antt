@@ -1,0 +1,72 @@
+-- Document 01's marked cases, each as what a list of calls answers at a replica just made.
+use Prim.Native.Nat.{ℕ}
+use mathlib.Core.Path.{_≡_}
+use mathlib.Core.Bool.{Bool, true, false}
+use mathlib.Core.List.{List, [], _∷_, _++_, map}
+use lib.IntN.{ℤ, pos}
+use lib.ListN.{replicate, drop}
+use Rattle.block.specs.Message.{Message}
+use Rattle.block.specs.Bytes.{blockOf}
+use Rattle.block.specs.Worked.{WorkedBlocks, exampleCommit}
+use Rattle.memory.specs.Memory.{Memory}
+use Rattle.engine.specs.Calls.{Answer, numberOf}
+use Rattle.engine.specs.Calls.Answer.{sent, kept, worked}
+use Rattle.engine.specs.Make.{madeMemory, makeStep}
+use Rattle.engine.specs.Step.{Call, step}
+use Rattle.engine.specs.Step.Call.{begin, write, ask, withdraw, send, deliver, work}
+
+-- what each call of a list answers, one after the other
+unfoldable pub answers : Memory → List Call → List Answer
+answers m [] = []
+answers m (c ∷ cs) = step m c .answer ∷ answers (step m c .memory) cs
+
+abbrev pub numbers : Memory → List Call → List ℕ
+numbers m cs = map numberOf (answers m cs)
+
+abbrev pub zeros : List ℤ
+zeros = replicate 128 (pos 0)
+
+-- a replica of a group of n, all values 0
+abbrev pub fresh : ℕ → ℕ → Memory
+fresh n own = madeMemory n own zeros
+
+abbrev pub makeNumber : ℕ → ℕ
+makeNumber n = numberOf (makeStep (fresh n 0) n 0 zeros .answer)
+
+-- a *next* of slot s in a group of n, from its owner
+abbrev pub nextBlock : ℕ → ℕ → ℕ → List ℕ
+nextBlock n owner s = blockOf (record { kind = 1; sender = owner; replicas = n; slot = s; records = [] })
+
+-- the calls by which replica 0 of 2 passes its own slot 0 with a *next*
+abbrev pub firstTurn : List Call
+firstTurn = send (replicate 512 0) ∷ deliver (nextBlock 2 0 0) ∷ work ∷ []
+
+-- eight items written by ticket 1
+abbrev pub writeEight : List Call
+writeEight =
+    write 1 0 (pos 1)
+    ∷ write 1 1 (pos 1)
+    ∷ write 1 2 (pos 1)
+    ∷ write 1 3 (pos 1)
+    ∷ write 1 4 (pos 1)
+    ∷ write 1 5 (pos 1)
+    ∷ write 1 6 (pos 1)
+    ∷ write 1 7 (pos 1)
+    ∷ []
+
+pub record WorkedCases : Type 0 where
+  pub blocks : WorkedBlocks
+  pub size-1 : makeNumber 1 ≡ 2
+  pub size-7 : makeNumber 7 ≡ 2
+  pub size-2 : makeNumber 2 ≡ 0
+  pub size-6 : makeNumber 6 ≡ 0
+  pub items : numbers (fresh 2 0) (begin ∷ write 1 127 (pos 1) ∷ write 1 128 (pos 1) ∷ []) ≡ 0 ∷ 0 ∷ 2 ∷ []
+  pub ninth : numbers (fresh 2 0) (begin ∷ (writeEight ++ (write 1 8 (pos 1) ∷ write 1 7 (pos 2) ∷ []))) ≡ replicate 9 0 ++ (10 ∷ 0 ∷ [])
+  pub seventh : numbers (fresh 2 0) (replicate 7 begin ++ (withdraw 3 ∷ begin ∷ [])) ≡ replicate 6 0 ++ (5 ∷ 0 ∷ 0 ∷ [])
+  pub ahead : numbers (fresh 3 0) (deliver (nextBlock 3 2 2) ∷ deliver (nextBlock 3 0 3) ∷ []) ≡ 0 ∷ 18 ∷ []
+  pub twice : numbers (fresh 2 1) (deliver (nextBlock 2 0 0) ∷ deliver (nextBlock 2 0 0) ∷ work ∷ deliver (nextBlock 2 0 0) ∷ []) ≡ 0 ∷ 20 ∷ 0 ∷ 17 ∷ []
+  pub own-early : numbers (fresh 2 0) (deliver (nextBlock 2 0 0) ∷ []) ≡ 19 ∷ []
+  pub aborted : drop 6 (answers (fresh 2 0) (firstTurn ++ (begin ∷ write 1 5 (pos 9) ∷ ask 1 ∷ deliver (blockOf exampleCommit) ∷ work ∷ send (replicate 512 0) ∷ [])))
+      ≡ kept ∷ worked (record { sender = 1; ticket = 1; moved = true; aborted = 1 ∷ [] }) ∷ sent (nextBlock 2 0 2) ∷ []
+  pub stale : numbers (fresh 2 0) (firstTurn ++ (begin ∷ deliver (blockOf exampleCommit) ∷ work ∷ write 1 5 (pos 9) ∷ write 1 5 (pos 9) ∷ []))
+      ≡ replicate 6 0 ++ (9 ∷ 3 ∷ [])

@@ -1,0 +1,2 @@
+-- One law for each answer of a make, over plain variables.
+pub mod MakeLaws

@@ -1,0 +1,2 @@
+-- What belongs to no one function: the laws, over plain lists and numbers, that the proofs cite.
+pub mod RowLaws

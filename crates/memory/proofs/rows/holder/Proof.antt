@@ -1,0 +1,155 @@
+-- `rows::holder` meets its contract. Invariants: the holder is among the rows from i on; it is row i if the item is among its items from j on. Assumes nothing.
+use Prim.Native.Nat.{_+_, _-_, _*_, _≤_, _<_}
+use mathlib.Core.Path.{_≡_, refl, sym, ap, _∙_}
+use mathlib.Core.Bool.{cond}
+use mathlib.Core.Logic.{⊎-elim}
+use native.Mathlib.Nat.{add-assoc}
+use native.Mathlib.Omega.{arith}
+use borrow.Author.Needs.{needs}
+use lib.ListN.{length, drop}
+use lib.Seq.{slice}
+use Rattle.memory.specs.declared.Held.the-variants.{By}
+use Rattle.memory.specs.Rows.{closed, has, holderFrom, holderOf}
+use Rattle.memory.proofs.RowLaws.{has-found, has-next, has-end, holder-me, holder-closed, holder-open, holder-end}
+use Rattle.memory.proofs.rows.holder.Statement.{statement}
+use Rattle.memory.proofs.rows.holder.Tie as tie
+
+abbrev Inv-loop : tie.InvT-loop
+Inv-loop items me item table found₀ i n j₀ found j =
+    (j ≤ n) × (i < 6) × (n ≤ 8) × (found ≡ 6)
+    × (holderOf table items me item
+    ≡ cond (has item (slice (8 * i + j) (8 * i + n) items)) (By i) (holderFrom items me item (i + 1) (drop (i + 1) table)))
+
+abbrev μ-loop : tie.MeasureT-loop
+μ-loop items me item table found₀ i n j₀ found j = n - j
+
+abbrev Inv-search : tie.InvT-search
+Inv-search items me item table found₀ i₀ found i = (i ≤ 6) × (found ≡ 6) × (holderOf table items me item ≡ holderFrom items me item i (drop i table))
+
+abbrev μ-search : tie.MeasureT-search
+μ-search items me item table found₀ i₀ found i = 6 - i
+
+search-holds : tie.Need-search-holds Inv-loop μ-loop Inv-search μ-search
+search-holds c = (omega arith, refl, refl)
+
+mul-t : tie.Need-mul-t Inv-loop μ-loop Inv-search μ-search
+mul-t c = search needs
+
+array-copy-out-t : tie.Need-array-copy-out-t Inv-loop μ-loop Inv-search μ-search
+array-copy-out-t c = search needs
+
+write-count-requires : tie.Need-write-count-requires Inv-loop μ-loop Inv-search μ-search
+write-count-requires c κs = search needs
+
+loop-holds : tie.Need-loop-holds Inv-loop μ-loop Inv-search μ-search
+loop-holds c =
+    let b = c .before .before .before .before .before .before in
+    let s = b .before .before in
+    let a = s .args in (
+      omega arith,
+      omega arith,
+      omega (arith, c .write-count .ensures),
+      omega arith,
+      b .search .inv .2
+          ∙ holder-open _ (a .t1) (b .search .i) (omega arith) (a .items .now) (a .me) (a .item)
+          (c .before .before .before .if1 .taken) (c .before .if2 .taken) (c .write-count .result) (c .write-count .ensures),
+    )
+
+mul-if3 : tie.Need-mul-if3 Inv-loop μ-loop Inv-search μ-search
+mul-if3 c = search needs
+
+add-if3 : tie.Need-add-if3 Inv-loop μ-loop Inv-search μ-search
+add-if3 c = search needs
+
+shared-slice-read-if3 : tie.Need-shared-slice-read-if3 Inv-loop μ-loop Inv-search μ-search
+shared-slice-read-if3 c = search needs
+
+add-j : tie.Need-add-j Inv-loop μ-loop Inv-search μ-search
+add-j c = search needs
+
+loop-less : tie.Need-loop-less Inv-loop μ-loop Inv-search μ-search
+loop-less c = search needs
+
+loop-again : tie.Need-loop-again Inv-loop μ-loop Inv-search μ-search
+loop-again c =
+    let l = c .before .before .before in
+    let b = l .before .before .before .before .before .before .before in
+    let a = b .before .before .args in
+    let p = 8 * b .search .i in (
+      omega arith,
+      omega arith,
+      omega arith,
+      omega arith,
+      rw (← add-assoc p (l .loop .j) 1)
+          (l .loop .inv .4
+          ∙ rw (has-next (a .items .now) (p + l .loop .j) (p + l .before .write-count .result) (omega arith) (omega arith) (a .item) (c .if3 .left))),
+    )
+
+add-i : tie.Need-add-i Inv-loop μ-loop Inv-search μ-search
+add-i c = search needs
+
+search-less : tie.Need-search-less Inv-loop μ-loop Inv-search μ-search
+search-less c = search needs
+
+search-again : tie.Need-search-again Inv-loop μ-loop Inv-search μ-search
+search-again c =
+    let b = c .before .before .before in
+    let a = b .before .before .args in
+    let h : b .search .i < length (a .t1) = omega arith in
+    ⊎-elim
+    (λ w.
+    let e : w .4 .j ≡ w .3 .result = omega arith in
+    (omega arith, omega arith, w .4 .inv .4 ∙ rw (e, has-end (a .items .now) (8 * b .search .i + w .3 .result) (a .item))))
+    (⊎-elim
+    (λ w.
+    (omega arith, omega arith, b .search .inv .2 ∙ holder-closed _ (a .t1) (b .search .i) h (a .items .now) (a .me) (a .item) (w .0 .taken) (w .2 .left)))
+    (λ w. (omega arith, omega arith, b .search .inv .2 ∙ holder-me closed (a .t1) (b .search .i) h (a .items .now) (a .me) (a .item) (w .0 .left))))
+    (c .if1 .came)
+
+returns : tie.Need-returns Inv-loop μ-loop Inv-search μ-search
+returns c =
+    let b = c .before .before in
+    let a = b .before .before .args in
+    let p = 8 * b .search .i in
+    ⊎-elim
+    (λ w. absurd (omega arith))
+    (λ w.
+    ap By (w .10)
+    ∙ sym (w .6 .inv .4 ∙ rw (has-found (a .items .now) (p + w .6 .j) (p + w .5 .result) (omega arith) (omega arith) (a .item) (w .9 .taken))))
+    (c .before .search-test .came)
+
+returns-2 : tie.Need-returns-2 Inv-loop μ-loop Inv-search μ-search
+returns-2 c =
+    let b = c .before .before in
+    let a = b .before .before .args in
+    ⊎-elim
+    (λ w.
+    let e : b .search .i ≡ 6 = omega arith in
+    sym (b .search .inv .2 ∙ rw e (holder-end (a .t1) 6 (omega arith) (a .items .now) (a .me) (a .item))))
+    (λ w. absurd (omega arith))
+    (c .before .search-test .came)
+
+pub holder-spec : {M : Type 1} → statement M
+holder-spec =
+    tie.close
+    (tie.spec
+    Inv-loop
+    μ-loop
+    Inv-search
+    μ-search
+    search-holds
+    mul-t
+    array-copy-out-t
+    write-count-requires
+    loop-holds
+    mul-if3
+    add-if3
+    shared-slice-read-if3
+    add-j
+    loop-less
+    loop-again
+    add-i
+    search-less
+    search-again
+    returns
+    returns-2)

@@ -1,0 +1,146 @@
+-- A replica's memory.
+use Prim.Native.Nat.{ℕ, _+_, _*_, min}
+use mathlib.Core.Bool.{Bool, _&&_}
+use mathlib.Core.List.{List}
+use lib.Dec.{eqb}
+use lib.IntN.{ℤ}
+use lib.ListN.{length}
+use Rattle.memory.specs.declared.Counts.{Counts}
+use Rattle.memory.specs.declared.Turn.{Turn}
+use Rattle.memory.specs.declared.Txn.{Txn}
+
+-- the open transactions: six rows; the tickets asked and not yet sent, in the order asked, zeros behind; for row r the items it wrote, rising, and the
+-- value of each, from 8·r on, and the 128 values of its snapshot, from 128·r on
+pub record Transactions : Type 0 where
+  pub table : List Txn
+  pub queue : List ℕ
+  pub items : List ℕ
+  pub writes : List ℤ
+  pub snapshots : List ℤ
+
+-- the 128 items: the value of each, and document 01's *stamp*, the commit count just after its last write
+pub record Store : Type 0 where
+  pub values : List ℤ
+  pub stamps : List ℕ
+
+-- document 01's *places*, N blocks, the first byte 0 where one is empty; and the block sent last
+pub record Blocks : Type 0 where
+  pub places : List ℕ
+  pub outbox : List ℕ
+
+pub record Memory : Type 0 where
+  pub turn : Turn
+  pub counts : Counts
+  pub txns : Transactions
+  pub store : Store
+  pub blocks : Blocks
+
+abbrev pub maxTickets : ℕ
+maxTickets = 100_000_000
+
+abbrev pub maxSlots : ℕ
+maxSlots = 100_000_000
+
+-- one more; at its type's limit, where no list of calls leads, a count stays
+unfoldable pub bump : ℕ → ℕ
+bump n = min (n + 1) 4_294_967_295
+
+-- the items of all rows and their values have their lengths
+abbrev pub writesLent : Memory → Bool
+writesLent m = eqb (length (m .txns .items)) 48 && eqb (length (m .txns .writes)) 48
+
+-- N blocks
+abbrev pub placesLent : Memory → Bool
+placesLent m = eqb (length (m .blocks .places)) (512 * m .counts .replicas)
+
+-- ---- a number or a part put in place of another
+
+abbrev pub withTickets : Counts → ℕ → Counts
+withTickets c n = record {
+  replicas = c .replicas;
+  own = c .own;
+  commits = c .commits;
+  done = c .done;
+  tickets = n;
+  committed = c .committed;
+  «read_only» = c .«read_only»;
+  aborted = c .aborted;
+  withdrawn = c .withdrawn;
+}
+
+abbrev pub withReadOnly : Counts → ℕ → Counts
+withReadOnly c n = record {
+  replicas = c .replicas;
+  own = c .own;
+  commits = c .commits;
+  done = c .done;
+  tickets = c .tickets;
+  committed = c .committed;
+  «read_only» = n;
+  aborted = c .aborted;
+  withdrawn = c .withdrawn;
+}
+
+abbrev pub withAborted : Counts → ℕ → Counts
+withAborted c n = record {
+  replicas = c .replicas;
+  own = c .own;
+  commits = c .commits;
+  done = c .done;
+  tickets = c .tickets;
+  committed = c .committed;
+  «read_only» = c .«read_only»;
+  aborted = n;
+  withdrawn = c .withdrawn;
+}
+
+abbrev pub withWithdrawn : Counts → ℕ → Counts
+withWithdrawn c n = record {
+  replicas = c .replicas;
+  own = c .own;
+  commits = c .commits;
+  done = c .done;
+  tickets = c .tickets;
+  committed = c .committed;
+  «read_only» = c .«read_only»;
+  aborted = c .aborted;
+  withdrawn = n;
+}
+
+abbrev pub withDone : Counts → ℕ → Counts
+withDone c n = record {
+  replicas = c .replicas;
+  own = c .own;
+  commits = c .commits;
+  done = n;
+  tickets = c .tickets;
+  committed = c .committed;
+  «read_only» = c .«read_only»;
+  aborted = c .aborted;
+  withdrawn = c .withdrawn;
+}
+
+abbrev pub withCommit : Counts → ℕ → ℕ → ℕ → Counts
+withCommit c n k a = record {
+  replicas = c .replicas;
+  own = c .own;
+  commits = n;
+  done = c .done;
+  tickets = c .tickets;
+  committed = k;
+  «read_only» = c .«read_only»;
+  aborted = a;
+  withdrawn = c .withdrawn;
+}
+
+abbrev pub withTable : Transactions → List Txn → Transactions
+withTable x t = record { table = t; queue = x .queue; items = x .items; writes = x .writes; snapshots = x .snapshots }
+
+abbrev pub withTxns : Memory → Counts → Transactions → Memory
+withTxns m c x = record { turn = m .turn; counts = c; txns = x; store = m .store; blocks = m .blocks }
+
+abbrev pub withBlocks : Memory → Blocks → Memory
+withBlocks m b = record { turn = m .turn; counts = m .counts; txns = m .txns; store = m .store; blocks = b }
+
+abbrev pub withTurn : Memory → Turn → Counts → Blocks → Memory
+withTurn m t c b = record { turn = t; counts = c; txns = m .txns; store = m .store; blocks = b }

@@ -1,0 +1,47 @@
+// A replica's memory: the rows of its open transactions, its turn and its numbers, and the functions that look at them and change them.
+pub mod cursor;
+pub mod rows;
+
+// Document 01's record of an open transaction; ticket 0 is a free row. Stage 0 is active, 1 asked, 2 sent.
+#[repr(C)]
+pub struct Txn {
+    pub ticket: u32,
+    pub stage: u8,
+    pub snapshot: u32,
+    pub writes: u8,
+}
+
+// The turn: the slot that the replica processes next, whether it sent its block for it, and whether it is applying another's.
+#[repr(C)]
+pub struct Turn {
+    pub slot: u32,
+    pub sent: bool,
+    pub applying: bool,
+}
+
+// Numbers of a replica: the group's size and its own number, the commit count, the writesets done of the block at the turn,
+// the tickets given, and how its own transactions ended.
+#[repr(C)]
+pub struct Counts {
+    pub replicas: u8,
+    pub own: u8,
+    pub commits: u32,
+    pub done: u8,
+    pub tickets: u32,
+    pub committed: u32,
+    pub read_only: u32,
+    pub aborted: u32,
+    pub withdrawn: u32,
+}
+
+// Who holds an item's lock.
+pub enum Held {
+    By(usize),
+    Nobody,
+}
+
+// Whose slot a turn is, beside the turn.
+pub struct Owned {
+    pub turn: Turn,
+    pub replica: u32,
+}

@@ -1,0 +1,42 @@
+//! The numbers that refuse a call: document 01's table ("Answers when a call is turned away").
+
+pub use crate::block::{WRONG_CHECK, WRONG_FORM, WRONG_LENGTH};
+
+/// N, own number or item out of range.
+pub const OUT_OF_RANGE: u8 = 2;
+/// No open transaction has this ticket.
+pub const NOT_OPEN: u8 = 3;
+/// The transaction is asked or sent already.
+pub const NOT_ACTIVE: u8 = 4;
+/// 6 transactions are open.
+pub const ALL_OPEN: u8 = 5;
+/// 100,000,000 tickets are given.
+pub const TICKETS_SPENT: u8 = 6;
+/// A block of another replica is committed in part.
+pub const APPLYING: u8 = 7;
+/// Another open transaction holds the item.
+pub const LOCKED: u8 = 8;
+/// The item changed after the snapshot; the transaction ends as aborted.
+pub const STALE: u8 = 9;
+/// It would be a ninth item.
+pub const WRITESET_FULL: u8 = 10;
+/// The turn is another's slot.
+pub const NOT_OUR_TURN: u8 = 11;
+/// Sent already for this slot.
+pub const ALREADY_SENT: u8 = 12;
+/// The turn is 100,000,000.
+pub const SLOTS_SPENT: u8 = 13;
+/// The block's N is not ours.
+pub const WRONG_GROUP: u8 = 16;
+/// The block's slot is below the turn.
+pub const PAST_SLOT: u8 = 17;
+/// The block's slot is at or above turn + N.
+pub const FAR_SLOT: u8 = 18;
+/// The sender is this replica, and it did not send this block for its present turn.
+pub const NOT_SENT: u8 = 19;
+/// A message waits for the block's slot already.
+pub const SLOT_TAKEN: u8 = 20;
+/// No message waits for the turn.
+pub const NOTHING_WAITS: u8 = 21;
+/// An own writeset whose ticket is not open as sent.
+pub const NOT_OPEN_AS_SENT: u8 = 22;

@@ -1,0 +1,70 @@
+//! States that no list of calls leads to.
+
+use super::*;
+
+/// A replica 0 of 2 with its own block of two writesets back in its inbox.
+fn with_own_block() -> Replica {
+    let mut replica = Replica::make(2, 0, &[0; ITEMS]).unwrap();
+    for item in 0..2 {
+        let ticket = replica.begin().unwrap();
+        replica.write(ticket, item, 7).unwrap();
+        replica.ask(ticket).unwrap();
+    }
+    let block = replica.send().unwrap();
+    replica.deliver(&block).unwrap();
+    replica
+}
+
+/// No list of calls leads here: the sent transaction is taken out of the open ones.
+#[test]
+fn own_writeset_that_is_not_open() {
+    let mut replica = with_own_block();
+    assert_eq!(replica.work().map(|work| work.ticket), Ok(1));
+    replica.open.clear();
+    let before = replica.clone();
+    assert_eq!(replica.work(), Err(NOT_OPEN_AS_SENT));
+    assert_eq!(replica, before);
+}
+
+/// Nor here: it is open, but at another stage.
+#[test]
+fn own_writeset_that_is_not_sent() {
+    for stage in [Stage::Active, Stage::Asked] {
+        let mut replica = with_own_block();
+        replica.open[0].stage = stage;
+        let before = replica.clone();
+        assert_eq!(replica.work(), Err(NOT_OPEN_AS_SENT));
+        assert_eq!(replica, before);
+        // Without a message the number is 21, whatever is open.
+        replica.inbox[0] = None;
+        assert_eq!(replica.work(), Err(NOTHING_WAITS));
+    }
+}
+
+/// Nor here: a message of another replica at the turn, and a transaction that is sent. It is beyond
+/// the reach of the writeset, and its item stays locked.
+#[test]
+fn sent_and_a_remote_writeset() {
+    let mut replica = Replica::make(2, 1, &[0; ITEMS]).unwrap();
+    for item in [5, 6, 7] {
+        let ticket = replica.begin().unwrap();
+        replica.write(ticket, item, 7).unwrap();
+    }
+    replica.ask(2).unwrap();
+    replica.open[2].stage = Stage::Sent;
+    let header = Header {
+        kind: TO_COMMIT,
+        sender: 0,
+        replicas: 2,
+        count: 1,
+        slot: 0,
+    };
+    let entries = [(5, 1), (6, 1), (7, 1)].into_iter();
+    let mut block = [0; BLOCK];
+    block::encode_records(&header, [(9, entries)].into_iter(), &mut block);
+    replica.deliver(&block).unwrap();
+    assert_eq!(replica.work().unwrap().aborted, [1, 2]);
+    assert_eq!(replica.open.len(), 1);
+    let later = replica.begin().unwrap();
+    assert_eq!(replica.write(later, 7, 0), Err(LOCKED));
+}

@@ -1,0 +1,222 @@
+//! Groups of replicas that are driven by hand or at random, under an observer.
+
+use std::collections::BTreeMap;
+
+use model::block::{self, BLOCK, MAX_TICKET};
+use model::observer::Observer;
+use model::samples::{self, Random};
+use model::trace::{Answer, Call};
+
+use crate::common::{block_of, start_values, Seen, Subject, Tally};
+
+/// How the random calls of a run are chosen.
+#[derive(Clone, Copy)]
+pub struct Style {
+    /// Items below this number are used: the fewer, the more conflicts.
+    pub items: usize,
+    /// Of a hundred calls, so many are about transactions: the more, the fuller the blocks.
+    pub local: usize,
+    /// Of a hundred of these, so many ask: the fewer, the larger the writesets.
+    pub asks: usize,
+}
+
+/// Two styles with many conflicts, one with full blocks, one with large writesets.
+pub const STYLES: [Style; 4] = [
+    Style::new(6, 40, 20),
+    Style::new(24, 40, 15),
+    Style::new(128, 75, 30),
+    Style::new(128, 50, 5),
+];
+
+impl Style {
+    pub const fn new(items: usize, local: usize, asks: usize) -> Style {
+        Style { items, local, asks }
+    }
+}
+
+/// A group, what its calls said, and the blocks that it handed out.
+pub struct Group<S> {
+    pub members: Vec<S>,
+    pub tallies: Vec<Tally>,
+    pub observer: Observer,
+    /// By slot. Of a slot that is sent twice, the first.
+    blocks: BTreeMap<u32, Box<[u8; BLOCK]>>,
+    pub seen: Seen,
+    style: Style,
+    /// The member that gets no block for now.
+    withheld: usize,
+}
+
+impl<S: Subject> Group<S> {
+    pub fn new(members: Vec<S>, style: Style) -> Group<S> {
+        let tallies = members.iter().enumerate();
+        Group {
+            tallies: tallies.map(|(k, m)| Tally::new(k, m.report())).collect(),
+            observer: Observer::new(members.len(), start_values()),
+            blocks: BTreeMap::new(),
+            seen: Seen::default(),
+            style,
+            withheld: members.len(),
+            members,
+        }
+    }
+
+    /// One call at one member.
+    pub fn call(&mut self, k: usize, call: &Call) -> Result<Answer, u8> {
+        let answer = self.members[k].call(call);
+        self.observer.feed(k, call, &answer);
+        self.tallies[k].feed(call, &answer);
+        self.seen.feed(call, &answer);
+        if let Ok(Answer::Block(block)) = &answer {
+            let slot = block::header(block).slot;
+            self.blocks.entry(slot).or_insert_with(|| block.clone());
+        }
+        answer
+    }
+
+    /// One random call. Blocks arrive late, early, repeated, damaged, or not at all for a while.
+    pub fn random_call(&mut self, random: &mut Random) {
+        let n = self.members.len();
+        if random.below(200) == 0 {
+            self.withheld = random.below(3 * n);
+        }
+        let mut k = random.below(n);
+        let call = match random.below(60) {
+            _ if random.below(100) < self.style.local => {
+                local_call(random, &self.tallies[k], self.style)
+            }
+            0..10 => {
+                // Most sends would be at another's slot; so let the owner send.
+                let owner = |&m: &usize| self.tallies[m].report.turn as usize % n == m;
+                if random.below(4) > 0 {
+                    k = (0..n).find(owner).unwrap_or(k);
+                }
+                Call::Send
+            }
+            10..35 if self.withheld != k => match self.random_bytes(random, k) {
+                Some(bytes) => Call::Deliver { bytes },
+                None => Call::Work,
+            },
+            _ => Call::Work,
+        };
+        // A refused call answers, and no more; an answer is checked by the tests.
+        let _ = self.call(k, &call);
+    }
+
+    /// A block that was handed out, or bytes that no replica may take; `None` before any send.
+    fn random_bytes(&self, random: &mut Random, k: usize) -> Option<Vec<u8>> {
+        let turn = self.tallies[k].report.turn;
+        let n = self.members.len();
+        let first = *self.blocks.keys().next()?;
+        let near = self.blocks.range(turn..).count();
+        let slot = match random.below(10) {
+            1.. if near > 0 => turn + random.below(near) as u32,
+            _ => first + random.below(self.blocks.len()) as u32,
+        };
+        let mut block = **self.blocks.get(&slot)?;
+        match random.below(50) {
+            0 => damage(random, &mut block),
+            1 => {
+                let mut bytes = block.to_vec();
+                bytes.resize(random.below(BLOCK), 0);
+                return Some(bytes);
+            }
+            2 => break_form(random, &mut block),
+            // Of another group.
+            3 => {
+                let message = samples::message(random);
+                if usize::from(message.replicas) != n {
+                    block = block::encode(&message);
+                }
+            }
+            // Past the window; and of the member itself, with a record that it never had.
+            4 | 5 => {
+                let own = (turn..).find(|slot| *slot as usize % n == k)?;
+                let far = turn + (n + random.below(2 * n)) as u32;
+                let slot = random.pick(&[own, far]);
+                block = block_of(n as u32, slot, &[(MAX_TICKET, &[(0, 0)])]);
+            }
+            _ => {}
+        }
+        Some(block.to_vec())
+    }
+
+    /// Lets every member send, gives all blocks to all, and works them off, `rounds` times; then
+    /// once more without sending, so that all end at the same turn.
+    pub fn settle(&mut self, rounds: usize) {
+        for round in 0..=rounds {
+            for _ in 0..self.members.len() {
+                for k in 0..self.members.len() {
+                    if round < rounds {
+                        let _ = self.call(k, &Call::Send);
+                    }
+                    let turn = self.tallies[k].report.turn;
+                    let blocks = self.blocks.range(turn..).map(|(_, block)| block.to_vec());
+                    for bytes in blocks.collect::<Vec<_>>() {
+                        let _ = self.call(k, &Call::Deliver { bytes });
+                    }
+                    while self.call(k, &Call::Work).is_ok() {}
+                }
+            }
+        }
+    }
+
+    /// What the observer objects to.
+    pub fn violations(&self) -> Vec<String> {
+        let ends: Vec<_> = self
+            .members
+            .iter()
+            .map(|m| (m.report(), m.values()))
+            .collect();
+        self.observer.violations(&ends)
+    }
+}
+
+/// A call that is about the replica's own transactions.
+pub fn local_call(random: &mut Random, tally: &Tally, style: Style) -> Call {
+    let last = tally.report.tickets;
+    let ticket = if random.below(20) == 0 || tally.open.is_empty() {
+        let any = random.below(last as usize + 2) as u32;
+        random.pick(&[0, last, last + 1, any, u32::MAX])
+    } else {
+        random.pick(&tally.open)
+    };
+    let any = random.below(style.items) as u32;
+    let item = match random.below(60) {
+        0 => random.pick(&[127, 128, 256 + any, u32::MAX]),
+        _ => any,
+    };
+    let value = samples::value(random);
+    if random.below(100) < style.asks {
+        return Call::Ask { ticket };
+    }
+    match random.below(100) {
+        0..20 => Call::Begin,
+        20..35 => Call::Read { ticket, item },
+        35..92 => Call::Write {
+            ticket,
+            item,
+            value,
+        },
+        92..96 => Call::Withdraw { ticket },
+        _ => Call::Report,
+    }
+}
+
+/// Changes one bit.
+pub fn damage(random: &mut Random, bytes: &mut [u8]) {
+    let bit = random.below(8 * bytes.len());
+    bytes[bit / 8] ^= 1 << (bit % 8);
+}
+
+/// Breaks the form of a well-formed block, under a right check.
+pub fn break_form(random: &mut Random, block: &mut [u8; BLOCK]) {
+    match random.below(5) {
+        0 => block[0] = random.pick(&[0, 3, 255]),
+        1 => block[1] = block[1].wrapping_add(random.non_zero_byte()),
+        2 => block[2] = random.pick(&[0, 1, 7, 255]),
+        3 => block[3] = random.pick(&[7, 255]),
+        _ => block[8 + random.below(8)] = random.non_zero_byte(),
+    }
+    block::put_check(block);
+}

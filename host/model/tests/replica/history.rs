@@ -1,0 +1,416 @@
+//! A replica that keeps its history and works every answer out of it: no counts, no values and no
+//! stamps are kept. It is slow, and it can be told to commit a fault.
+
+use model::block::{self, Entry, Message, Record, BLOCK, MAX_TICKET, NEXT, TO_COMMIT};
+use model::replica::{Report, Work, ITEMS, SLOTS};
+use model::trace::{Answer, Call};
+
+use crate::common::Subject;
+
+/// What a replica by history does wrong (the list of document 01's "Misdrawn replicas").
+#[derive(Clone, Copy, Debug, PartialEq, Eq)]
+pub enum Fault {
+    None,
+    /// The block that arrived first is processed, not that of the turn.
+    ArrivalOrder,
+    /// A remote writeset does not abort asked transactions.
+    SparesAsked,
+    /// Staleness is tested at ask, not at write.
+    StaleAtAsk,
+    /// A transaction's locks are free once its block is sent.
+    FreesSentLocks,
+    /// What is asked after a send is committed with that block.
+    LateIntoBlock,
+    /// Every block sent is without records.
+    AlwaysNext,
+    /// Only the first writeset of a block is committed.
+    FirstOnly,
+    /// Every block is processed as if it had no records.
+    DropsBlocks,
+    /// No value ever changes.
+    NoValues,
+    /// No abort is ever reported.
+    InventedCounts,
+    /// No transaction is ever begun.
+    RefusesBegin,
+}
+
+pub struct Historical {
+    pub fault: Fault,
+    n: u32,
+    own: u32,
+    values: [i32; ITEMS],
+    /// Slots and tickets before the first call.
+    slots: u32,
+    tickets: u32,
+    /// Every transaction begun, by ticket.
+    begun: Vec<Begun>,
+    /// Every ticket asked that had writes, in order.
+    asked: Vec<u32>,
+    /// Every block sent.
+    sent: Vec<[u8; BLOCK]>,
+    /// Every message accepted, in order of arrival.
+    received: Vec<Message>,
+    /// Every work done.
+    works: Vec<Work>,
+    /// Every writeset committed.
+    commits: Vec<Vec<Entry>>,
+}
+
+#[derive(Clone)]
+struct Begun {
+    ticket: u32,
+    snapshot: usize,
+    writes: Vec<(u32, i32)>,
+    state: State,
+}
+
+#[derive(Clone, Copy, PartialEq, Eq)]
+enum State {
+    Active,
+    Asked,
+    Sent,
+    Committed,
+    ReadOnly,
+    Aborted,
+    Withdrawn,
+}
+
+impl Begun {
+    fn open(&self) -> bool {
+        matches!(self.state, State::Active | State::Asked | State::Sent)
+    }
+
+    fn last_write(&self, item: u32) -> Option<i32> {
+        let mut writes = self.writes.iter().rev();
+        writes.find(|(i, _)| *i == item).map(|&(_, value)| value)
+    }
+
+    fn record(&self) -> Record {
+        let written = (0..ITEMS as u8).filter_map(|item| {
+            let value = self.last_write(u32::from(item))?;
+            Some(Entry { item, value })
+        });
+        Record {
+            ticket: self.ticket,
+            entries: written.collect(),
+        }
+    }
+}
+
+impl Historical {
+    pub fn make(n: u32, own: u32, values: [i32; ITEMS], fault: Fault) -> Historical {
+        Historical {
+            fault,
+            n,
+            own,
+            values,
+            slots: 0,
+            tickets: 0,
+            begun: Vec::new(),
+            asked: Vec::new(),
+            sent: Vec::new(),
+            received: Vec::new(),
+            works: Vec::new(),
+            commits: Vec::new(),
+        }
+    }
+
+    pub fn fast_forward(mut self, slots: u32, tickets: u32) -> Historical {
+        self.slots = slots;
+        self.tickets = tickets;
+        self
+    }
+
+    /// The value of an item after so many commits.
+    fn value(&self, item: u32, commits: usize) -> i32 {
+        let mut entries = self.commits[..commits].iter().rev().flatten();
+        let last = entries.find(|entry| u32::from(entry.item) == item);
+        match last {
+            Some(entry) if self.fault != Fault::NoValues => entry.value,
+            _ => self.values[item as usize],
+        }
+    }
+
+    /// The number of the last commit that wrote an item, 0 if none did.
+    pub fn stamp(&self, item: u32) -> usize {
+        let wrote = |entries: &Vec<Entry>| entries.iter().any(|e| u32::from(e.item) == item);
+        self.commits.iter().rposition(wrote).map_or(0, |at| at + 1)
+    }
+
+    fn turn(&self) -> u32 {
+        self.slots + self.works.iter().filter(|work| work.moved).count() as u32
+    }
+
+    /// The writesets of the turn's message that are committed.
+    fn done(&self) -> usize {
+        self.works.iter().rev().take_while(|w| !w.moved).count()
+    }
+
+    fn waiting(&self) -> Option<&Message> {
+        let turn = self.turn();
+        if self.fault == Fault::ArrivalOrder {
+            return self.received.get((turn - self.slots) as usize);
+        }
+        self.received.iter().find(|message| message.slot == turn)
+    }
+
+    fn applying(&self) -> bool {
+        let remote = |m: &Message| u32::from(m.sender) != self.own;
+        self.done() > 0 && self.waiting().is_some_and(remote)
+    }
+
+    /// The block sent for the present turn.
+    fn present_block(&self) -> Option<&[u8; BLOCK]> {
+        let turn = self.turn();
+        let present = |block: &&[u8; BLOCK]| block::header(block).slot == turn;
+        self.sent.last().filter(present)
+    }
+
+    fn count(&self, state: State) -> u32 {
+        self.begun.iter().filter(|t| t.state == state).count() as u32
+    }
+
+    fn active(&self, ticket: u32) -> Result<usize, u8> {
+        let open = |t: &Begun| t.ticket == ticket && t.open();
+        let at = self.begun.iter().position(open).ok_or(3)?;
+        match self.begun[at].state {
+            State::Active => Ok(at),
+            _ => Err(4),
+        }
+    }
+
+    /// The tickets asked and not sent or aborted since.
+    fn queue(&self) -> Vec<u32> {
+        let asked = |ticket: &u32| self.by_ticket(*ticket).state == State::Asked;
+        self.asked.iter().copied().filter(asked).collect()
+    }
+
+    fn by_ticket(&self, ticket: u32) -> &Begun {
+        &self.begun[(ticket - self.tickets - 1) as usize]
+    }
+
+    fn begin(&mut self) -> Result<u32, u8> {
+        let given = self.tickets + self.begun.len() as u32;
+        let open = self.begun.iter().filter(|t| t.open()).count();
+        if open == 6 || self.fault == Fault::RefusesBegin {
+            return Err(5);
+        }
+        if given == MAX_TICKET {
+            return Err(6);
+        }
+        self.begun.push(Begun {
+            ticket: given + 1,
+            snapshot: self.commits.len(),
+            writes: Vec::new(),
+            state: State::Active,
+        });
+        Ok(given + 1)
+    }
+
+    fn read(&self, ticket: u32, item: u32) -> Result<i32, u8> {
+        if item > 127 {
+            return Err(2);
+        }
+        let transaction = &self.begun[self.active(ticket)?];
+        let written = transaction.last_write(item);
+        Ok(written.unwrap_or_else(|| self.value(item, transaction.snapshot)))
+    }
+
+    fn write(&mut self, ticket: u32, item: u32, value: i32) -> Result<(), u8> {
+        if item > 127 {
+            return Err(2);
+        }
+        let at = self.active(ticket)?;
+        if self.applying() {
+            return Err(7);
+        }
+        let own = self.begun[at].last_write(item).is_some();
+        let locks = |t: &Begun| match t.state {
+            State::Active | State::Asked => true,
+            State::Sent => self.fault != Fault::FreesSentLocks,
+            _ => false,
+        };
+        let holds = |t: &Begun| locks(t) && t.last_write(item).is_some();
+        if !own && self.begun.iter().any(holds) {
+            return Err(8);
+        }
+        let stale = self.stamp(item) > self.begun[at].snapshot;
+        if !own && stale && self.fault != Fault::StaleAtAsk {
+            self.begun[at].state = State::Aborted;
+            return Err(9);
+        }
+        if !own && self.begun[at].record().entries.len() == 8 {
+            return Err(10);
+        }
+        self.begun[at].writes.push((item, value));
+        Ok(())
+    }
+
+    fn ask(&mut self, ticket: u32) -> Result<bool, u8> {
+        let at = self.active(ticket)?;
+        let transaction = &self.begun[at];
+        let mut writes = transaction.writes.iter();
+        let stale = writes.any(|&(item, _)| self.stamp(item) > transaction.snapshot);
+        if stale && self.fault == Fault::StaleAtAsk {
+            self.begun[at].state = State::Aborted;
+            return Err(9);
+        }
+        let read_only = transaction.writes.is_empty();
+        if read_only {
+            self.begun[at].state = State::ReadOnly;
+        } else {
+            self.begun[at].state = State::Asked;
+            self.asked.push(ticket);
+        }
+        Ok(read_only)
+    }
+
+    fn withdraw(&mut self, ticket: u32) -> Result<(), u8> {
+        let at = self.active(ticket)?;
+        self.begun[at].state = State::Withdrawn;
+        Ok(())
+    }
+
+    fn send(&mut self) -> Result<[u8; BLOCK], u8> {
+        let turn = self.turn();
+        if turn == SLOTS {
+            return Err(13);
+        }
+        if turn % self.n != self.own {
+            return Err(11);
+        }
+        if self.present_block().is_some() {
+            return Err(12);
+        }
+        let records = self.take_queue();
+        let block = block::encode(&Message {
+            kind: if records.is_empty() { NEXT } else { TO_COMMIT },
+            sender: self.own as u8,
+            replicas: self.n as u8,
+            slot: turn,
+            records,
+        });
+        self.sent.push(block);
+        Ok(block)
+    }
+
+    /// The records of what is asked, which becomes sent.
+    fn take_queue(&mut self) -> Vec<Record> {
+        if self.fault == Fault::AlwaysNext {
+            return Vec::new();
+        }
+        let queue = self.queue();
+        let records = queue.iter().map(|&t| self.by_ticket(t).record()).collect();
+        for t in self.begun.iter_mut().filter(|t| queue.contains(&t.ticket)) {
+            t.state = State::Sent;
+        }
+        records
+    }
+
+    fn deliver(&mut self, bytes: &[u8]) -> Result<(), u8> {
+        let mut message = block::decode(bytes)?;
+        let turn = self.turn();
+        if u32::from(message.replicas) != self.n {
+            return Err(16);
+        }
+        if message.slot < turn {
+            return Err(17);
+        }
+        if message.slot >= turn + self.n {
+            return Err(18);
+        }
+        let own = u32::from(message.sender) == self.own;
+        if own && self.present_block().is_none_or(|block| block != bytes) {
+            return Err(19);
+        }
+        if self.received.iter().any(|m| m.slot == message.slot) {
+            return Err(20);
+        }
+        if own && self.fault == Fault::LateIntoBlock {
+            let late = self.take_queue();
+            message.records.extend(late);
+        }
+        self.received.push(message);
+        Ok(())
+    }
+
+    fn work(&mut self) -> Result<Work, u8> {
+        let message = self.waiting().ok_or(21)?.clone();
+        let mut work = Work {
+            sender: message.sender,
+            ticket: 0,
+            moved: true,
+            aborted: Vec::new(),
+        };
+        let done = self.done();
+        let record = message.records.get(done);
+        if let Some(record) = record.filter(|_| self.fault != Fault::DropsBlocks) {
+            work.ticket = record.ticket;
+            work.moved = done + 1 == message.records.len() || self.fault == Fault::FirstOnly;
+            let own = u32::from(message.sender) == self.own;
+            for t in &mut self.begun {
+                let spared = t.state == State::Asked && self.fault == Fault::SparesAsked;
+                let in_reach = matches!(t.state, State::Active | State::Asked) && !spared;
+                let written = |e: &Entry| t.last_write(u32::from(e.item)).is_some();
+                if own && t.ticket == record.ticket {
+                    t.state = State::Committed;
+                } else if !own && in_reach && record.entries.iter().any(written) {
+                    t.state = State::Aborted;
+                    work.aborted.push(t.ticket);
+                }
+            }
+            self.commits.push(record.entries.clone());
+        }
+        self.works.push(work.clone());
+        Ok(work)
+    }
+}
+
+impl Subject for Historical {
+    fn call(&mut self, call: &Call) -> Result<Answer, u8> {
+        Ok(match *call {
+            Call::Begin => Answer::Ticket(self.begin()?),
+            Call::Read { ticket, item } => Answer::Value(self.read(ticket, item)?),
+            Call::Write {
+                ticket,
+                item,
+                value,
+            } => self.write(ticket, item, value).map(|()| Answer::Done)?,
+            Call::Ask { ticket } => Answer::ReadOnly(self.ask(ticket)?),
+            Call::Withdraw { ticket } => self.withdraw(ticket).map(|()| Answer::Done)?,
+            Call::Report => Answer::Report(self.report()),
+            Call::Send => Answer::Block(Box::new(self.send()?)),
+            Call::Deliver { ref bytes } => self.deliver(bytes).map(|()| Answer::Done)?,
+            Call::Work => Answer::Work(self.work()?),
+        })
+    }
+
+    fn report(&self) -> Report {
+        let invented = self.fault == Fault::InventedCounts;
+        Report {
+            turn: self.turn(),
+            commits: self.commits.len() as u32,
+            tickets: self.tickets + self.begun.len() as u32,
+            open: self.begun.iter().filter(|t| t.open()).count() as u32,
+            committed: self.count(State::Committed),
+            read_only: self.count(State::ReadOnly),
+            aborted: if invented {
+                0
+            } else {
+                self.count(State::Aborted)
+            },
+            withdrawn: self.tickets + self.count(State::Withdrawn),
+        }
+    }
+
+    fn values(&self) -> [i32; ITEMS] {
+        let mut values = self.values;
+        if self.fault != Fault::NoValues {
+            for entry in self.commits.iter().flatten() {
+                values[usize::from(entry.item)] = entry.value;
+            }
+        }
+        values
+    }
+}
