@@ -30,4 +30,5 @@ pub mod Refusals
 pub mod Frames
 pub mod Shapes
 pub mod Reports
+pub mod Queues
 pub mod Worked

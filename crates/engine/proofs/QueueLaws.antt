@@ -224,7 +224,7 @@ pub record Left (gone q left : List ℕ) : Type 0 where
 module _ (gone q left : List ℕ) (z : has 0 gone ≡ false) (six : length q ≡ 6) (few : length (waiting q) ≤ 6)
     (zeros : q ≡ waiting q ++ replicate (6 - length (waiting q)) 0)
     (once : (j k : ℕ) → j < k → k < length (waiting q) → getD q j 0 ≡ getD q k 0 → ⊥) (is : left ≡ queueWithout gone q) where
-  abbrev front : List ℕ
+  abbrev pub front : List ℕ
   front = without gone (waiting q)
 
   whole : left ≡ front ++ replicate (6 - length front) 0
@@ -236,7 +236,7 @@ module _ (gone q left : List ℕ) (z : has 0 gone ≡ false) (six : length q ≡
       let w = has-where (getD front k 0) (waiting q) (a .0) in
       (w .place, w .within, w .is, a .1)
 
-  front-is : waiting left ≡ front
+  pub front-is : waiting left ≡ front
   front-is = ap waiting whole ∙ waiting-zeros front (6 - length front) (λ k h e. let f = found k h in waiting-some q (f .0) (f .1) (f .2 ∙ e))
 
   front-at : (k : ℕ) → k < length front → getD left k 0 ≡ getD front k 0

@@ -113,6 +113,11 @@ module _ (m : Memory) (s : Shape m) (r : ℕ) (h : r < 6) (active : rowAt (m .tx
     alone = λ i u d. alone (m .txns .table) (m .txns .items) (s .lengths .items) (λ j v. s .rows j v .few) (s .single) r i h u (λ q. d (sym q));
   }
 
+  -- the ticket stands last in the queue
+  pub queued-last : waiting (queueAt m r (rowAt (m .txns .table) r) .memory .txns .queue) ≡ waiting (m .txns .queue) ++ (rowAt (m .txns .table) r .ticket ∷ [])
+  unfolding queueAt
+  queued-last = waiting-joined (m .txns .queue) (rowAt (m .txns .table) r .ticket) room some
+
   pub shape-queued : 0 < rowAt (m .txns .table) r .writes → Shape (queueAt m r (rowAt (m .txns .table) r) .memory)
   unfolding queueAt
   shape-queued wrote = shape-changed m s r h row active apart parts (change wrote) queue-joined

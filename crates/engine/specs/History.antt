@@ -2,7 +2,7 @@
 use Prim.Native.Nat.{ℕ, suc, _+_, _-_, _≤_, _<_}
 use mathlib.Core.Path.{_≡_}
 use mathlib.Core.Bool.{cond, not, _&&_}
-use mathlib.Core.List.{List, [], _∷_}
+use mathlib.Core.List.{List, [], _∷_, _++_}
 use lib.Dec.{eqb}
 use lib.IntN.{ℤ}
 use lib.ListN.{length}
@@ -12,7 +12,9 @@ use Rattle.engine.specs.Calls.{Answer, Step}
 use Rattle.engine.specs.Calls.Answer.{refused, made, began, got, wrote, queued, readOnly, withdrew, reported, sent, kept, worked}
 use Rattle.engine.specs.Make.{madeMemory}
 use Rattle.engine.specs.Client.{reportOf}
+use Rattle.engine.specs.Moves.{waiting, without}
 use Rattle.engine.specs.Step.{Call, step, after}
+use Rattle.engine.specs.Step.Call.{begin, read, write, ask, withdraw, report, send, deliver, work}
 
 pub record Tally : Type 0 where
   pub turn : ℕ
@@ -108,3 +110,41 @@ pub record Reports : Type 0 where
   -- tickets given equal open plus all endings
   pub sum : (n own : ℕ) (values : List ℤ) → 2 ≤ n → n ≤ 6 → own < n → length values ≡ 128 → (cs : List Call)
       → let r = reportOf (after (madeMemory n own values) cs) in r .tickets ≡ r .active + r .committed + r .«read_only» + r .aborted + r .withdrawn
+
+-- ---- the queue
+
+-- the ticket of an ask
+abbrev pub askedTicket : Call → ℕ
+askedTicket begin = 0
+askedTicket (read t i) = 0
+askedTicket (write t i v) = 0
+askedTicket (ask t) = t
+askedTicket (withdraw t) = 0
+askedTicket report = 0
+askedTicket (send b) = 0
+askedTicket (deliver b) = 0
+askedTicket work = 0
+
+-- the tickets asked and not yet sent, in the order asked, after one more call and its answer
+unfoldable pub pendingAfter : List ℕ → Call → Answer → List ℕ
+pendingAfter l c (refused n) = l
+pendingAfter l c made = l
+pendingAfter l c (began k) = l
+pendingAfter l c (got v) = l
+pendingAfter l c wrote = l
+pendingAfter l c queued = l ++ (askedTicket c ∷ [])
+pendingAfter l c readOnly = l
+pendingAfter l c withdrew = l
+pendingAfter l c (reported r) = l
+pendingAfter l c (sent b) = []
+pendingAfter l c kept = l
+pendingAfter l c (worked s) = without (s .aborted) l
+
+unfoldable pub pending : List ℕ → Memory → List Call → List ℕ
+pending l m [] = l
+pending l m (c ∷ cs) = pending (pendingAfter l c (step m c .answer)) (step m c .memory) cs
+
+-- the queue is the asked transactions in the order asked
+pub record Queues : Type 0 where
+  pub queue : (n own : ℕ) (values : List ℤ) → 2 ≤ n → n ≤ 6 → own < n → length values ≡ 128 → (cs : List Call)
+      → waiting (after (madeMemory n own values) cs .txns .queue) ≡ pending [] (madeMemory n own values) cs
