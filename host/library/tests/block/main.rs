@@ -6,6 +6,7 @@
 mod bits;
 mod both;
 mod check;
+mod families;
 mod form;
 mod lengths;
 mod messages;
