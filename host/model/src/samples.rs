@@ -1,4 +1,4 @@
-//! Seeded random messages, for tests and benchmarks.
+//! Messages for tests and benchmarks: the marked ones, and random ones by seed.
 
 use crate::block::{
     Entry, Message, Record, ENTRIES, MAX_ITEM, MAX_SLOT, MAX_TICKET, NEXT, RECORDS, TO_COMMIT,
@@ -45,6 +45,31 @@ impl Random {
 
     pub fn fill(&mut self, bytes: &mut [u8]) {
         bytes.fill_with(|| self.byte());
+    }
+}
+
+/// Document 01's marked message without records.
+pub fn marked_next() -> Message {
+    Message {
+        kind: NEXT,
+        sender: 0,
+        replicas: 2,
+        slot: 0,
+        records: vec![],
+    }
+}
+
+/// Document 01's marked message with one record.
+pub fn marked_record() -> Message {
+    Message {
+        kind: TO_COMMIT,
+        sender: 1,
+        replicas: 2,
+        slot: 1,
+        records: vec![Record {
+            ticket: 1,
+            entries: vec![Entry { item: 5, value: 40 }],
+        }],
     }
 }
 

@@ -2,7 +2,7 @@
 
 use crate::both::{compare, rounds, Case};
 use library::block as proved;
-use model::block::{self, Entry, Message, Record, BLOCK, NEXT, TO_COMMIT};
+use model::block::{self, Message, BLOCK};
 use model::samples::{self, Random};
 
 /// Asserts that both refuse the good block by 14 under each change of one bit. Gives how many
@@ -26,25 +26,8 @@ fn one_bit() {
         test: "one bit of a marked block",
         seed: 0,
     };
-    let next = Message {
-        kind: NEXT,
-        sender: 0,
-        replicas: 2,
-        slot: 0,
-        records: vec![],
-    };
-    let one = Message {
-        kind: TO_COMMIT,
-        sender: 1,
-        replicas: 2,
-        slot: 1,
-        records: vec![Record {
-            ticket: 1,
-            entries: vec![Entry { item: 5, value: 40 }],
-        }],
-    };
-    changes += every_bit(&next, case);
-    changes += every_bit(&one, case);
+    changes += every_bit(&samples::marked_next(), case);
+    changes += every_bit(&samples::marked_record(), case);
     rounds("one bit", 20, 6, |random, case| {
         changes += every_bit(&samples::message(random), case);
         changes += every_bit(&samples::full(random), case);

@@ -2,9 +2,7 @@
 
 use crate::both::{compare, decode_proved, lend, rounds, to_proved, Arrays, Case};
 use library::block as proved;
-use model::block::{
-    self, Entry, Header, Message, Record, BLOCK, MAX_ITEM, MAX_SLOT, MAX_TICKET, NEXT, TO_COMMIT,
-};
+use model::block::{self, Header, Message, BLOCK, MAX_ITEM, MAX_SLOT, MAX_TICKET};
 use model::samples::{self, Random};
 
 /// Writes the message by both, in one call and part by part, reads it back by both, and gives its
@@ -50,33 +48,22 @@ fn marked_blocks() {
         seed: 0,
     };
 
-    let next = Message {
-        kind: NEXT,
-        sender: 0,
-        replicas: 2,
-        slot: 0,
-        records: vec![],
-    };
     let mut expected = [0u8; BLOCK];
     expected[..4].copy_from_slice(&[1, 0, 2, 0]);
     expected[508..].copy_from_slice(&[0x03, 0x00, 0xF8, 0x02]);
-    assert_eq!(through_both(&next, random, case), expected);
+    assert_eq!(
+        through_both(&samples::marked_next(), random, case),
+        expected
+    );
 
-    let one = Message {
-        kind: TO_COMMIT,
-        sender: 1,
-        replicas: 2,
-        slot: 1,
-        records: vec![Record {
-            ticket: 1,
-            entries: vec![Entry { item: 5, value: 40 }],
-        }],
-    };
     let mut expected = [0u8; BLOCK];
     expected[..5].copy_from_slice(&[2, 1, 2, 1, 1]);
     expected[16..29].copy_from_slice(&[1, 0, 0, 0, 1, 0, 0, 0, 5, 0, 0, 0, 40]);
     expected[508..].copy_from_slice(&[0x34, 0x02, 0x18, 0x2C]);
-    assert_eq!(through_both(&one, random, case), expected);
+    assert_eq!(
+        through_both(&samples::marked_record(), random, case),
+        expected
+    );
 }
 
 #[test]
