@@ -180,14 +180,33 @@ impl Arrays {
         }
     }
 
-    fn library_header(&self) -> proved::Header {
-        proved::Header {
+    fn write_by_library(&self, block: &mut [u8; BLOCK]) -> u8 {
+        let header = proved::Header {
             kind: self.header.kind,
             sender: self.header.sender,
             replicas: self.header.replicas,
             count: self.header.count,
             slot: self.header.slot,
-        }
+        };
+        proved::write(
+            block,
+            header,
+            &self.tickets,
+            &self.writes,
+            &self.items,
+            &self.values,
+        )
+    }
+
+    fn write_by_model(&self, block: &mut [u8; BLOCK]) {
+        block::encode_arrays(
+            &self.header,
+            &self.tickets,
+            &self.writes,
+            &self.items,
+            &self.values,
+            block,
+        )
     }
 }
 
@@ -195,14 +214,7 @@ fn write_by_library(inputs: &[Arrays; INPUTS]) -> impl FnMut(usize) -> u8 + '_ {
     let mut block = [0u8; BLOCK];
     move |i| {
         let arrays = black_box(&inputs[i]);
-        proved::write(
-            black_box(&mut block),
-            arrays.library_header(),
-            &arrays.tickets,
-            &arrays.writes,
-            &arrays.items,
-            &arrays.values,
-        )
+        arrays.write_by_library(black_box(&mut block))
     }
 }
 
@@ -210,14 +222,7 @@ fn write_by_model(inputs: &[Arrays; INPUTS]) -> impl FnMut(usize) + '_ {
     let mut block = [0u8; BLOCK];
     move |i| {
         let arrays = black_box(&inputs[i]);
-        block::encode_arrays(
-            &arrays.header,
-            &arrays.tickets,
-            &arrays.writes,
-            &arrays.items,
-            &arrays.values,
-            black_box(&mut block),
-        )
+        arrays.write_by_model(black_box(&mut block))
     }
 }
 
@@ -245,24 +250,10 @@ fn agree(
     }
     for (arrays, expected) in arrays.iter().zip(full) {
         let mut block = [255; BLOCK];
-        let number = proved::write(
-            &mut block,
-            arrays.library_header(),
-            &arrays.tickets,
-            &arrays.writes,
-            &arrays.items,
-            &arrays.values,
-        );
+        let number = arrays.write_by_library(&mut block);
         assert_eq!((number, &block), (0, expected));
         let mut block = [255; BLOCK];
-        block::encode_arrays(
-            &arrays.header,
-            &arrays.tickets,
-            &arrays.writes,
-            &arrays.items,
-            &arrays.values,
-            &mut block,
-        );
+        arrays.write_by_model(&mut block);
         assert_eq!(&block, expected);
     }
 }
