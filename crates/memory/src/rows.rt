@@ -186,7 +186,7 @@ pub fn clear_bytes(part: &mut [u8])
 {
     let mut i: usize = 0;
     while i < part.len() {
-        part[i] = 0;
+        part[i] = 0u8;
         i += 1;
     }
 }
@@ -196,7 +196,7 @@ pub fn clear_numbers(part: &mut [u32])
 {
     let mut i: usize = 0;
     while i < part.len() {
-        part[i] = 0;
+        part[i] = 0u32;
         i += 1;
     }
 }
@@ -206,7 +206,7 @@ pub fn clear_values(part: &mut [i32])
 {
     let mut i: usize = 0;
     while i < part.len() {
-        part[i] = 0;
+        part[i] = 0i32;
         i += 1;
     }
 }
