@@ -1,27 +1,178 @@
--- Agreement: the statement's proof. Assumes nothing.
-use mathlib.Core.Path.{_∙_, sym}
-use Rattle.agreement.specs.Replica.{Setup}
-use Rattle.agreement.specs.System.{System, run, fresh}
-use Rattle.agreement.specs.Statement.{Agreed, AgreementTheorem}
-use Rattle.agreement.proofs.Tracking.{within, holds-below}
-use Rattle.agreement.proofs.Invariant.{SystemInv}
-use Rattle.agreement.proofs.Keep.{inv-run, inv-fresh}
-use Rattle.agreement.proofs.ClaimLaws.{claims-hold}
+-- Agreement: the statement's proof, from what each call owes. Assumes nothing.
+use Prim.Native.Nat.{ℕ, suc, _-_, _<_, _≤_}
+use mathlib.Core.Path.{_≡_, refl, sym, ap, _∙_, subst}
+use mathlib.Core.List.{List, List·Memᴰ·head, List·Memᴰ·tail, List·Memᴰ·not-nil, Memᴰ·append-left, Memᴰ·append-right, [], _∷_, _++_}
+use native.Mathlib.Omega.{arith}
+use lib.IntN.{ℤ}
+use lib.ListN.{length, length-map, take}
+use lib.Seq.{length-take-le}
+use borrow.Author.Tests.{ne-eqb}
+use Rattle.memory.specs.Memory.{Memory}
+use Rattle.engine.specs.Calls.{Answer, Step, Outcome}
+use Rattle.engine.specs.Calls.Answer.{refused, made, began, got, wrote, queued, readOnly, withdrew, reported, sent, kept, worked}
+use Rattle.engine.specs.Client.{reportOf}
+use Rattle.engine.specs.Moves.{passNext, commitWriteset}
+use Rattle.engine.specs.Step.{Call, step}
+use Rattle.engine.specs.Step.Call.{read, write, work}
+use Rattle.engine.proofs.Tests.{same-by}
+use Rattle.engine.proofs.Steps.{work-by}
+use Rattle.engine.proofs.ShapeTurn.{working}
+use Rattle.protocol.specs.Lists.{Mem}
+use Rattle.protocol.specs.Observer.{Observed, Placed, Handout, sequence, idOf, noPlaced}
+use Rattle.protocol.specs.Statement.{NotHandedOut, Committed, WorkClaim, WriteClaim, ReadClaim, Agreed}
+use Rattle.protocol.specs.Machine.{MachineSystem, MachineAgreement, CommandClaims, systemOf, runCommands}
+use Rattle.protocol.proofs.ListLaws.{update-by}
+use Rattle.protocol.proofs.Refinement.{machine-agreement}
+use Rattle.protocol.proofs.SequenceLaws.{mem-at}
+use Rattle.agreement.specs.Group.{heard, Group, CallAt, fresh, run, did, next, Comes, Calls, Premise}
+use Rattle.agreement.specs.Statement.{placed, PutDown, Share, Agrees, FirstCommitter, groupAfter, Agreement}
+use Rattle.agreement.proofs.View.{setup, Sound, Owed}
+use Rattle.agreement.proofs.Soundness.{sound-each, sound-made}
+use Rattle.agreement.proofs.Replicas.{places-apart}
+use Rattle.agreement.proofs.Runs.{machine, machineOf, commands, runs, premise, Said, said}
 
-module _ {X : Type 0} (S : Setup X) where
-  pub agreed : (w : System X) → SystemInv S w → Agreed S w
-  agreed w I = record {
-    slots = λ i j h g e. sym (I .whole .inOrder .slot i h) ∙ e ∙ I .whole .inOrder .slot j g;
-    rising = I .whole .inOrder .slot;
-    messages = I .whole .messages;
-    agree = λ k. let M = I .each k in let T = M .track in record {
-      commits = T .logged;
-      within = within S (w .handouts) (w .observed k .commits) k (w .replicas k .cursor) (w .replicas k .store) (w .replicas k .blocks) T;
-      below = holds-below S (w .handouts) (w .observed k .commits) k (w .replicas k .cursor) (w .replicas k .store) (w .replicas k .blocks) T (I .whole .inOrder);
-      values = T .values;
-    };
-    first = I .whole .first;
+-- ---- places counted from 1, and what was put down
+
+next-place : (c : ℕ) → suc c - 1 ≡ c
+next-place c = omega arith
+
+put-down : (D : List (Handout ℤ)) (k t : ℕ) → NotHandedOut D k t → PutDown D k t → ⊥
+put-down D k t free p =
+    let a = mem-at noPlaced (sequence D) (p .0) (p .1) in
+    free (a .0) (a .1 .0) (ap (λ (e : Placed ℤ). e .sender) (sym (a .1 .1)) ∙ p .2) (ap (λ (e : Placed ℤ). e .ticket) (sym (a .1 .1)) ∙ p .3)
+
+first-committer : (F : List (Placed ℤ)) (p : ℕ) → 0 < p → Rattle.protocol.specs.Statement.FirstCommitter F (p - 1) → FirstCommitter F p
+first-committer F p h f = record { before = omega (arith, f .before); apart = λ q a b. f .apart (q - 1) (omega arith) (omega arith) }
+
+-- ---- the memory of each replica, before each call
+
+sound-run : (n : ℕ) (cs : List CallAt) → Calls n cs → (g : Group) → ((k : ℕ) → k < n → Sound n (g .memories k)) → (k : ℕ) → k < n → Sound n (run g cs .memories k)
+unfolding run
+sound-run n [] f g s = s
+sound-run n (c ∷ cs) f g s =
+    let h = f c (List·Memᴰ·head refl) in
+    sound-run n cs (λ d q. f d (List·Memᴰ·tail q)) (next g c)
+    (update-by (λ (k : ℕ) (m : Memory). k < n → Sound n m) (g .memories) (c .at) (did g c .memory)
+    (λ l. sound-each n (g .memories (c .at)) (s (c .at) (h .0)) (c .does) (h .1)) (λ j d. s j))
+
+-- the tickets that an answer names as aborted, and its ticket
+abbrev namedBy : Answer → List ℕ
+namedBy (refused n) = []
+namedBy made = []
+namedBy (began t) = []
+namedBy (got v) = []
+namedBy wrote = []
+namedBy queued = []
+namedBy readOnly = []
+namedBy withdrew = []
+namedBy (reported r) = []
+namedBy (sent b) = []
+namedBy kept = []
+namedBy (worked s) = s .aborted
+
+abbrev workedOn : Answer → ℕ
+workedOn (refused n) = 0
+workedOn made = 0
+workedOn (began t) = 0
+workedOn (got v) = 0
+workedOn wrote = 0
+workedOn queued = 0
+workedOn readOnly = 0
+workedOn withdrew = 0
+workedOn (reported r) = 0
+workedOn (sent b) = 0
+workedOn kept = 0
+workedOn (worked s) = s .ticket
+
+-- a work on a *next* aborts nobody
+none-named : (n : ℕ) (m : Memory) → Sound n m → (t : ℕ) → workedOn (step m work .answer) ≡ 0 → Mem t (namedBy (step m work .answer)) → ⊥
+unfolding passNext commitWriteset
+none-named n m s t =
+    work-by (λ (o : Outcome). workedOn (o .answer) ≡ 0 → Mem t (namedBy (o .answer)) → ⊥) m
+    (λ e k z q. List·Memᴰ·not-nil q)
+    (λ e k z q. absurd (let a = working m (s .shape) e .ticket k in let b : ⊥ = omega arith in b))
+    (λ e z q. List·Memᴰ·not-nil q)
+
+-- ---- the theorem
+
+module _ (n : ℕ) (start : List ℤ) (least : 2 ≤ n) (most : n ≤ 6) (long : length start ≡ 128)
+    (owes : (m : Memory) → Sound n m → (c : Call) → Owed n start m c (step m c))
+    (cs : List CallAt) (f : Calls n cs) (p : Premise n start cs) where
+  abbrev g : Group
+  g = run (fresh n start) cs
+
+  abbrev F : List (Placed ℤ)
+  F = sequence (run (fresh n start) cs .handouts)
+
+  whole : MachineAgreement (setup n start) (machine n start least most long owes) (commands n start least most long owes cs f)
+  whole = machine-agreement (setup n start) (places-apart n start) (machine n start least most long owes) (commands n start least most long owes cs f)
+      (premise n start least most long owes cs f (fresh n start) p)
+
+  group : Agreed (setup n start) (systemOf (setup n start) (machine n start least most long owes) (machineOf n start least most long owes g))
+  group = subst (λ (s : MachineSystem (setup n start) (machine n start least most long owes)). Agreed (setup n start) (systemOf (setup n start) (machine n start least most long owes) s))
+      (runs n start least most long owes cs f (fresh n start)) (whole .group)
+
+  claims : CommandClaims (setup n start) (machine n start least most long owes) F (machineOf n start least most long owes (fresh n start)) (commands n start least most long owes cs f)
+  claims = subst (λ (s : MachineSystem (setup n start) (machine n start least most long owes)).
+      CommandClaims (setup n start) (machine n start least most long owes) (sequence (s .handouts)) (machineOf n start least most long owes (fresh n start)) (commands n start least most long owes cs f))
+      (runs n start least most long owes cs f (fresh n start)) (whole .calls)
+
+  -- what is claimed of the call c that has `before` in front of it
+  at-call : (before : List CallAt) (c : CallAt) → Comes cs before c → Said n start least most long owes F (run (fresh n start) before) c
+  at-call before c e = said n start least most long owes F cs f (fresh n start) claims before c e
+
+  -- a call of the list is at a replica of the group, whose memory is sound
+  sound-at : (before : List CallAt) (c : CallAt) → Comes cs before c → Sound n (run (fresh n start) before .memories (c .at))
+  sound-at before c e =
+      sound-run n before (λ d q. f d (subst (Mem d) (sym (e .1)) (Memᴰ·append-left (c ∷ e .0) q))) (fresh n start)
+      (λ k h. sound-made n k start least most h long) (c .at)
+      (f c (subst (Mem c) (sym (e .1)) (Memᴰ·append-right before (List·Memᴰ·head refl))) .0)
+
+  module _ (before : List CallAt) (k : ℕ) (s : Step) (e : Comes cs before (record { at = k; does = work })) (a : step (groupAfter n start cs before .memories k) work .answer ≡ worked s) where
+    abbrev seen : Observed ℤ
+    seen = run (fresh n start) before .observed k
+
+    committing : (s .ticket ≡ 0 → ⊥) → Committed F (run (fresh n start) before .handouts) seen k (s .sender) (s .ticket) (s .aborted)
+    unfolding heard
+    committing z =
+        rw (ne-eqb (s .ticket) 0 z) at
+        (subst (λ (o : Answer). WorkClaim F (run (fresh n start) before .handouts) seen k (heard work o)) a (at-call before (record { at = k; does = work }) e))
+
+    -- a work that names a ticket as aborted commits a writeset
+    naming : (t : ℕ) → Mem t (s .aborted) → s .ticket ≡ 0 → ⊥
+    naming t q z = none-named n _ (sound-at before (record { at = k; does = work }) e) t (ap workedOn a ∙ z) (subst (Mem t) (sym (ap namedBy a)) q)
+
+  reading : (before : List CallAt) (k t i : ℕ) (v : ℤ) → Comes cs before (record { at = k; does = read t i })
+      → step (groupAfter n start cs before .memories k) (read t i) .answer ≡ got v → ReadClaim (setup n start) F (run (fresh n start) before .observed k) t i (Rattle.protocol.specs.Replica.Event.got t i v)
+  unfolding heard
+  reading before k t i v e a = subst (λ (o : Answer). ReadClaim (setup n start) F (run (fresh n start) before .observed k) t i (heard (read t i) o)) a (at-call before (record { at = k; does = read t i }) e)
+
+  writing : (before : List CallAt) (k t i : ℕ) (v : ℤ) → Comes cs before (record { at = k; does = write t i v })
+      → step (groupAfter n start cs before .memories k) (write t i v) .answer ≡ refused 9 → NotHandedOut (run (fresh n start) before .handouts) k t
+  unfolding heard
+  writing before k t i v e a =
+      subst (λ (o : Answer). WriteClaim (run (fresh n start) before .handouts) k t (heard (write t i v) o)) a (at-call before (record { at = k; does = write t i v }) e) refl
+
+  agrees : (k : ℕ) → Agrees start F (g .handouts) (g .observed k) (g .memories k .store .values) (reportOf (g .memories k))
+  unfolding reportOf
+  agrees k = let a = group .agree k in record {
+    commits = a .commits;
+    counted = ap length (a .commits) ∙ length-map (take (g .memories k .counts .commits) F) idOf ∙ length-take-le (g .memories k .counts .commits) F (a .within);
+    below = a .below;
+    values = a .values;
   }
 
-  pub agreement : AgreementTheorem S
-  agreement A cs f = record { group = agreed (run S (fresh S) cs) (inv-run S A cs (fresh S) (inv-fresh S) f); calls = claims-hold S A cs (fresh S) (inv-fresh S) f }
+  pub agreement-from : Agreement n start cs
+  agreement-from = record {
+    slots = λ i j h u. rw (group .rising i (omega arith), group .rising j u) h;
+    blocks = group .messages;
+    replicas = λ k h. agrees k;
+    reads = reading;
+    first = λ q h u. first-committer F q h (group .first (q - 1) (omega arith));
+    works = λ before k s e a z. rw (next-place (length (run (fresh n start) before .observed k .commits))) (committing before k s e a z .named);
+    aborts = λ before k s e a t q.
+        let b = committing before k s e a (naming before k s e a t q) .aborts t q in
+        rw (next-place (length (run (fresh n start) before .observed k .commits))) (b .item, b .written, b .committed);
+    spared = λ before k s e a t q. put-down (run (fresh n start) before .handouts) k t (committing before k s e a (naming before k s e a t q) .aborts t q .free);
+    never-stale = λ before k t i v e a. put-down (run (fresh n start) before .handouts) k t (writing before k t i v e a);
+  }

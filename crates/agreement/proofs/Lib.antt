@@ -1,14 +1,27 @@
--- The proof of agreement, in the order of use. Assumes nothing.
-pub mod ListLaws
-pub mod WriteLaws
-pub mod SequenceLaws
-pub mod Tracking
-pub mod OpenLaws
-pub mod SendLaws
-pub mod Invariant
-pub mod KeepClient
-pub mod KeepMoves
-pub mod Keep
-pub mod ClaimLaws
+-- From the replicas' memory and bytes to the protocol's model, and the theorem. Assumes nothing.
+-- the memory as the model sees it: its rows, the writes of a row, its places, a block's writesets; what holds of it after every call
+pub mod View
+pub mod RowView
+pub mod RowChange
+pub mod RowWrites
+pub mod PutLaws
+pub mod PlaceView
+pub mod BlockView
+pub mod AbortLaws
+pub mod Soundness
+-- what each call owes
+pub mod ClientStep
+pub mod BeginStep
+pub mod ReadStep
+pub mod WriteStep
+pub mod AskStep
+pub mod WithdrawStep
+pub mod Sendable
+pub mod SendStep
+pub mod DeliverStep
+pub mod WorkStep
+-- the replicas as a machine of the protocol, its runs, the theorem
+pub mod Replicas
+pub mod Runs
 pub mod Agreement
-pub mod Refinement
+pub mod Theorem

@@ -1,10 +1,4 @@
--- Agreement of a group of replicas: lists, the model of one replica and its calls, the observer, the group, the statement, and the statement for a machine.
-pub mod Lists
-pub mod Writesets
-pub mod Replica
-pub mod Client
-pub mod Moves
-pub mod Observer
-pub mod System
+-- Agreement, document 01's demand 3, in the order of reading: the group, its calls and the premise; then what is claimed. The observer is that of
+-- `protocol/specs/Observer.antt`.
+pub mod Group
 pub mod Statement
-pub mod Machine

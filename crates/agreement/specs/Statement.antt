@@ -1,141 +1,93 @@
--- Agreement, document 01's demand 3: what the observer may say after every list of calls. `proofs/Agreement.antt` has the proof.
-use Prim.Native.Nat.{_<_, _≤_, ℕ}
+-- What demand 3 claims after every list of calls. `proofs/Agreement.antt` has the proof.
+use Prim.Native.Nat.{ℕ, suc, _-_, _<_, _≤_}
 use mathlib.Core.Path.{_≡_}
 use mathlib.Core.Bool.{true}
-use mathlib.Core.List.{List, [], _∷_, map}
-use lib.ListN.{getD, length, take}
-use Rattle.agreement.specs.Lists.{Mem}
-use Rattle.agreement.specs.Writesets.{has, lookup, Disjoint}
-use Rattle.agreement.specs.Replica.{Setup, Replica, Event, refused, began, got, wrote, requested, withdrew, reported, handedOut, accepted, passed, committed}
-use Rattle.agreement.specs.Observer.{TxnId, Observed, Placed, Handout, sequence, idOf, applyAll, messageOf, noHandout, nth}
-use Rattle.agreement.specs.System.{Call, begin, read, write, ask, withdraw, report, send, deliver, work, System, CallAt, step, call, run, Premise, fresh, PlacesApart}
+use mathlib.Core.List.{List, map}
+use lib.IntN.{ℤ, pos}
+use lib.ListN.{length, getD, take}
+use Rattle.memory.specs.Memory.{Memory}
+use Rattle.engine.specs.declared.Report.{Report}
+use Rattle.engine.specs.Calls.{Answer, Step}
+use Rattle.engine.specs.Calls.Answer.{refused, got, worked}
+use Rattle.engine.specs.Client.{reportOf}
+use Rattle.engine.specs.Step.{Call, step}
+use Rattle.engine.specs.Step.Call.{read, write, work}
+use Rattle.protocol.specs.Lists.{Mem}
+use Rattle.protocol.specs.Writesets.{Write, has, lookup, Disjoint}
+use Rattle.protocol.specs.Observer.{TxnId, Observed, Placed, Handout, sequence, idOf, applyAll, messageOf, noPlaced, noHandout}
+use Rattle.agreement.specs.Group.{messageIn, Group, CallAt, fresh, run, Comes, Calls, Premise}
 
-module _ {X : Type 0} where
-  -- the transaction at place p began before it, and no writeset between its start and its place shares an item with it
-  pub record FirstCommitter (F : List (Placed X)) (p : ℕ) : Type 0 where
-    pub before : nth F p .start ≤ p
-    pub apart : (q : ℕ) → nth F p .start ≤ q → q < p → Disjoint (nth F q .writes) (nth F p .writes)
+-- the writeset at a place of the sequence, counted from 1
+abbrev pub placed : List (Placed ℤ) → ℕ → Placed ℤ
+placed F p = getD F (p - 1) noPlaced
 
-  abbrev pub FirstCommitters : List (Placed X) → Type 0
-  FirstCommitters F = (p : ℕ) → p < length F → FirstCommitter F p
+-- a writeset of replica k with the ticket was put down
+abbrev pub PutDown : List (Handout ℤ) → ℕ → ℕ → Type 0
+PutDown D k t = (e : Placed ℤ) × Mem e (sequence D) × (e .sender ≡ k) × (e .ticket ≡ t)
 
-  -- the replica handed out nothing under the ticket
-  abbrev pub NotHandedOut : List (Handout X) → ℕ → ℕ → Type 0
-  NotHandedOut D k t = (q : ℕ) → q < length (sequence D) → nth (sequence D) q .sender ≡ k → nth (sequence D) q .ticket ≡ t → ⊥
+-- an item is in both
+abbrev pub Share : List (Write ℤ) → List (Write ℤ) → Type 0
+Share a b = (i : ℕ) × (has i a ≡ true) × (has i b ≡ true)
 
-  -- of a ticket that a work names as aborted: it wrote an item of the writeset which that work commits, and it was not handed out
-  pub record Aborted (F : List (Placed X)) (D : List (Handout X)) (p : Observed X) (k t : ℕ) : Type 0 where
-    pub item : ℕ
-    pub written : has item (p .noted t .writes) ≡ true
-    pub committed : has item (nth F (length (p .commits)) .writes) ≡ true
-    pub free : NotHandedOut D k t
+module _ (start : List ℤ) (F : List (Placed ℤ)) (D : List (Handout ℤ)) where
+  -- of a replica, what is kept of it and what it reports
+  pub record Agrees (p : Observed ℤ) (held : List ℤ) (r : Report) : Type 0 where
+    -- its commits are the first c of the sequence, by sender and ticket, c the commit count in its report
+    pub commits : p .commits ≡ map idOf (take (r .commits) F)
+    pub counted : length (p .commits) ≡ r .commits
+    -- and hold every writeset put down under a slot below its turn
+    pub below : (h : Handout ℤ) → Mem h D → h .slot < r .turn → (e : Placed ℤ) → Mem e (h .writesets) → Mem (idOf e) (p .commits)
+    -- its values are the starting ones with those put in, in order
+    pub values : held ≡ applyAll start (take (r .commits) F)
 
-  -- of a write under ticket t: it gives 9 only if the ticket was not handed out
-  abbrev pub WriteClaim : List (Handout X) → ℕ → ℕ → Event X → Type 0
-  WriteClaim D k t (refused c) = c ≡ 9 → NotHandedOut D k t
-  WriteClaim D k t (began u) = Unit
-  WriteClaim D k t (got u i v) = Unit
-  WriteClaim D k t (wrote u i v) = Unit
-  WriteClaim D k t (requested u) = Unit
-  WriteClaim D k t (withdrew u) = Unit
-  WriteClaim D k t (reported u c) = Unit
-  WriteClaim D k t (handedOut m) = Unit
-  WriteClaim D k t (accepted m) = Unit
-  WriteClaim D k t (passed s) = Unit
-  WriteClaim D k t (committed s u a) = Unit
+-- the transaction at place p began before it, and no writeset between its start and its place shares an item with it
+pub record FirstCommitter (F : List (Placed ℤ)) (p : ℕ) : Type 0 where
+  pub before : placed F p .start < p
+  pub apart : (q : ℕ) → placed F p .start < q → q < p → Disjoint (placed F q .writes) (placed F p .writes)
 
-  -- of a work that commits: its writeset is the next of the sequence
-  pub record Committed (F : List (Placed X)) (D : List (Handout X)) (p : Observed X) (k sender ticket : ℕ) (aborted : List ℕ) : Type 0 where
-    pub place : length (p .commits) < length F
-    pub named : idOf (nth F (length (p .commits))) ≡ record { sender = sender; ticket = ticket }
-    pub aborts : (t : ℕ) → Mem t aborted → Aborted F D p k t
+module _ (n : ℕ) (start : List ℤ) (cs : List CallAt) where
+  -- the group after some of the calls, and after all
+  abbrev pub groupAfter : List CallAt → Group
+  groupAfter before = run (fresh n start) before
 
-  abbrev pub WorkClaim : List (Placed X) → List (Handout X) → Observed X → ℕ → Event X → Type 0
-  WorkClaim F D p k (refused c) = Unit
-  WorkClaim F D p k (began u) = Unit
-  WorkClaim F D p k (got u i v) = Unit
-  WorkClaim F D p k (wrote u i v) = Unit
-  WorkClaim F D p k (requested u) = Unit
-  WorkClaim F D p k (withdrew u) = Unit
-  WorkClaim F D p k (reported u c) = Unit
-  WorkClaim F D p k (handedOut m) = Unit
-  WorkClaim F D p k (accepted m) = Unit
-  WorkClaim F D p k (passed s) = Unit
-  WorkClaim F D p k (committed s u a) = Committed F D p k s u a
+  abbrev pub handouts : List (Handout ℤ)
+  handouts = groupAfter cs .handouts
 
-  -- the list of commits holds every writeset handed out under a slot below the turn
-  abbrev pub HoldsBelow : List (Handout X) → ℕ → List TxnId → Type 0
-  HoldsBelow D turn commits = (h : Handout X) → Mem h D → h .slot < turn → (e : Placed X) → Mem e (h .writesets) → Mem (idOf e) commits
+  -- document 01's *sequence*
+  abbrev pub F : List (Placed ℤ)
+  F = sequence handouts
 
-  -- of a report's turn and commit count
-  pub record Reported (D : List (Handout X)) (p : Observed X) (turn commits : ℕ) : Type 0 where
-    pub counted : commits ≡ length (p .commits)
-    pub below : HoldsBelow D turn (p .commits)
+  -- what a call at replica k answers with `before` in front of it
+  abbrev pub answer : List CallAt → ℕ → Call → Answer
+  answer before k c = step (groupAfter before .memories k) c .answer
 
-  abbrev pub ReportClaim : List (Handout X) → Observed X → Event X → Type 0
-  ReportClaim D p (refused c) = Unit
-  ReportClaim D p (began u) = Unit
-  ReportClaim D p (got u i v) = Unit
-  ReportClaim D p (wrote u i v) = Unit
-  ReportClaim D p (requested u) = Unit
-  ReportClaim D p (withdrew u) = Unit
-  ReportClaim D p (reported t c) = Reported D p t c
-  ReportClaim D p (handedOut m) = Unit
-  ReportClaim D p (accepted m) = Unit
-  ReportClaim D p (passed s) = Unit
-  ReportClaim D p (committed s u a) = Unit
+  -- one field for each sentence of document 01
+  pub record Agreement : Type 0 where
+    -- no slot was put down twice, and the sequence is by rising slot
+    pub slots : (i j : ℕ) → i < j → j < length handouts → getD handouts i noHandout .slot < getD handouts j noHandout .slot
+    -- the records of each block handed out are the tickets and writes put down under its slot, in order
+    pub blocks : map messageIn (groupAfter cs .blocks) ≡ map messageOf handouts
+    -- each replica has committed a beginning of the sequence and holds its values
+    pub replicas : (k : ℕ) → k < n → Agrees start F handouts (groupAfter cs .observed k) (groupAfter cs .memories k .store .values) (reportOf (groupAfter cs .memories k))
+    -- each accepted read gave the value then noted, else the item's value after the first *start* writesets of the sequence
+    pub reads : (before : List CallAt) (k t i : ℕ) (v : ℤ) → Comes cs before (record { at = k; does = read t i }) → answer before k (read t i) ≡ got v
+        → let note = groupAfter before .observed k .noted t in v ≡ lookup i (getD (applyAll start (take (note .start) F)) i (pos 0)) (note .writes)
+    -- the first committer wins
+    pub first : (p : ℕ) → 0 < p → p ≤ length F → FirstCommitter F p
+    -- a work that commits names the next writeset of the sequence
+    pub works : (before : List CallAt) (k : ℕ) (s : Step) → Comes cs before (record { at = k; does = work }) → answer before k work ≡ worked s → (s .ticket ≡ 0 → ⊥)
+        → idOf (placed F (suc (length (groupAfter before .observed k .commits)))) ≡ record { sender = s .sender; ticket = s .ticket }
+    -- a ticket that a work names as aborted has noted an item of the writeset which that work committed
+    pub aborts : (before : List CallAt) (k : ℕ) (s : Step) → Comes cs before (record { at = k; does = work }) → answer before k work ≡ worked s
+        → (t : ℕ) → Mem t (s .aborted)
+        → Share (groupAfter before .observed k .noted t .writes) (placed F (suc (length (groupAfter before .observed k .commits))) .writes)
+    -- once a ticket is put down, no work at its replica names it as aborted
+    pub spared : (before : List CallAt) (k : ℕ) (s : Step) → Comes cs before (record { at = k; does = work }) → answer before k work ≡ worked s
+        → (t : ℕ) → Mem t (s .aborted) → PutDown (groupAfter before .handouts) k t → ⊥
+    -- and no write under it gives 9
+    pub never-stale : (before : List CallAt) (k t i : ℕ) (v : ℤ) → Comes cs before (record { at = k; does = write t i v }) → answer before k (write t i v) ≡ refused 9
+        → PutDown (groupAfter before .handouts) k t → ⊥
 
-module _ {X : Type 0} (S : Setup X) where
-  -- of a read of item i under ticket t: the value written last, else that after the first start writesets
-  abbrev pub ReadClaim : List (Placed X) → Observed X → ℕ → ℕ → Event X → Type 0
-  ReadClaim F p t i (refused c) = Unit
-  ReadClaim F p t i (began u) = Unit
-  ReadClaim F p t i (got u j v) = v ≡ lookup i (getD (applyAll (S .startValues) (take (p .noted t .start) F)) i (S .blank)) (p .noted t .writes)
-  ReadClaim F p t i (wrote u j v) = Unit
-  ReadClaim F p t i (requested u) = Unit
-  ReadClaim F p t i (withdrew u) = Unit
-  ReadClaim F p t i (reported u c) = Unit
-  ReadClaim F p t i (handedOut m) = Unit
-  ReadClaim F p t i (accepted m) = Unit
-  ReadClaim F p t i (passed s) = Unit
-  ReadClaim F p t i (committed s u a) = Unit
-
-  -- of one call: F is the sequence at the end of the list, D what was handed out before the call, p what was kept of replica k before it
-  abbrev pub Claim : List (Placed X) → List (Handout X) → Observed X → ℕ → Call X → Event X → Type 0
-  Claim F D p k begin e = Unit
-  Claim F D p k (read t i) e = ReadClaim F p t i e
-  Claim F D p k (write t i x) e = WriteClaim D k t e
-  Claim F D p k (ask t) e = Unit
-  Claim F D p k (withdraw t) e = Unit
-  Claim F D p k report e = ReportClaim D p e
-  Claim F D p k send e = Unit
-  Claim F D p k (deliver m) e = Unit
-  Claim F D p k work e = WorkClaim F D p k e
-
-  -- of every call of the list
-  unfoldable pub Claims : List (Placed X) → System X → List (CallAt X) → Type 0
-  Claims F w [] = Unit
-  Claims F w (c ∷ cs) = Claim F (w .handouts) (w .observed (c .at)) (c .at) (c .does) (step S (w .replicas (c .at)) (c .does) .event) × Claims F (call S w (c .at) (c .does)) cs
-
-  -- of one replica: its commits are the first of the sequence, hold all below its turn, and its values are theirs
-  pub record Agrees (F : List (Placed X)) (D : List (Handout X)) (p : Observed X) (r : Replica X) : Type 0 where
-    pub commits : p .commits ≡ map idOf (take (r .store .commits) F)
-    pub within : r .store .commits ≤ length F
-    pub below : HoldsBelow D (r .cursor .turn) (p .commits)
-    pub values : r .store .values ≡ applyAll (S .startValues) (take (r .store .commits) F)
-
-  -- of the group: no slot twice, slots rise from 0, the messages have the writesets of the handouts, every replica agrees, the first committer wins
-  pub record Agreed (w : System X) : Type 0 where
-    pub slots : (i j : ℕ) → i < length (w .handouts) → j < length (w .handouts) → getD (w .handouts) i noHandout .slot ≡ getD (w .handouts) j noHandout .slot → i ≡ j
-    pub rising : (i : ℕ) → i < length (w .handouts) → getD (w .handouts) i noHandout .slot ≡ i
-    pub messages : w .messages ≡ map messageOf (w .handouts)
-    pub agree : (k : ℕ) → Agrees (sequence (w .handouts)) (w .handouts) (w .observed k) (w .replicas k)
-    pub first : FirstCommitters (sequence (w .handouts))
-
-  -- the single claim of a list of calls
-  pub record Agreement (cs : List (CallAt X)) : Type 0 where
-    pub group : Agreed (run S (fresh S) cs)
-    pub calls : Claims (sequence (run S (fresh S) cs .handouts)) (fresh S) cs
-
-  abbrev pub AgreementTheorem : Type 0
-  AgreementTheorem = PlacesApart S → (cs : List (CallAt X)) → Premise S (fresh S) cs → Agreement cs
+-- for every group, starting values and list with the premise
+abbrev pub AgreementTheorem : Type 0
+AgreementTheorem = (n : ℕ) (start : List ℤ) → 2 ≤ n → n ≤ 6 → length start ≡ 128 → (cs : List CallAt) → Calls n cs → Premise n start cs → Agreement n start cs

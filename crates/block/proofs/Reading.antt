@@ -78,11 +78,11 @@ module _ (b : List ℕ) (long : length b ≡ 512) (m : MessageFacts (messageOf b
       record-at (getD b 3 0) j (slice 16 508 b) noRecord (omega (arith, length-recordsOf (getD b 3 0) (slice 16 508 b)))
       ∙ ap recordOf (part-in b 16 508 (72 * j) 72 (16 + 72 * j) (88 + 72 * j) refl (omega arith) (omega arith))
 
-  record-read : recordAt b j ≡ headOf (getD (messageOf b .records) j noRecord)
+  pub record-read : recordAt b j ≡ headOf (getD (messageOf b .records) j noRecord)
   unfolding recordAt recordOf
   record-read = rw (eq-eqb (length b) 512 long, lt-ltb j 6 (omega (arith, m .kinds .count)), record-found, ← ticket-is b j, ← writes-are b j, length-entriesOf)
 
-  entry-read : (e : ℕ) → e < length (getD (messageOf b .records) j noRecord .entries) → entryAt b j e ≡ getD (getD (messageOf b .records) j noRecord .entries) e noEntry
+  pub entry-read : (e : ℕ) → e < length (getD (messageOf b .records) j noRecord .entries) → entryAt b j e ≡ getD (getD (messageOf b .records) j noRecord .entries) e noEntry
   unfolding entryAt recordOf
   entry-read e l =
       let few = record-facts-at (messageOf b .records) j noRecord (m .records) h .writes .below in

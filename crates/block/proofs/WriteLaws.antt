@@ -113,7 +113,7 @@ entries-next (i ∷ is) (v ∷ vs) (suc e) h k =
     rw (entries-next is vs e (le-of-suc-le-suc h) (le-of-suc-le-suc k))
     (sym (append-assoc (entryBytes (record { item = i; value = v })) (entriesTo is vs e) (entryBytes (entryNo is vs e))))
 
-length-entries : (is : List ℕ) (vs : List ℤ) → length vs ≡ length is → length (entriesFrom is vs) ≡ length is
+pub length-entries : (is : List ℕ) (vs : List ℤ) → length vs ≡ length is → length (entriesFrom is vs) ≡ length is
 unfolding entriesFrom
 length-entries [] vs h = refl
 length-entries (i ∷ is) [] h = h

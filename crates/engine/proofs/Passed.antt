@@ -50,7 +50,7 @@ pub record RowPassed (m : Memory) (t : ℕ) : Type 0 where
   pub row : rowNo m t < 6
   pub active : rowWith m t .stage ≡ 0
 
-row-passed : (m : Memory) (t : ℕ) → notOpen m t ≡ false → notActive m t ≡ false → RowPassed m t
+pub row-passed : (m : Memory) (t : ℕ) → notOpen m t ≡ false → notActive m t ≡ false → RowPassed m t
 row-passed m t a b = record { row = leb-false 6 (rowNo m t) a; active = eqb-true (rowWith m t .stage) 0 (not-false _ b) }
 
 pub record WritePassed (m : Memory) (t i : ℕ) : Type 0 where

@@ -17,7 +17,7 @@ use Rattle.engine.proofs.Tests.{less-by}
 -- ---- slots
 
 -- a later slot of the same place is N later at least
-next-round : (n a b : ℕ) → a % n ≡ b % n → a < b → a + n ≤ b
+pub next-round : (n a b : ℕ) → a % n ≡ b % n → a < b → a + n ≤ b
 next-round n a b e h =
     let p = div-add-mod a n in
     let q = div-add-mod b n in
@@ -54,7 +54,7 @@ module _ {A : Type 0} where
       ∙ ap (take u) (ap (λ (i : ℕ). drop i k) (sym p) ∙ sym (drop-drop (f - at) at k) ∙ ap (drop (f - at)) e ∙ drop-drop (f - at) at l ∙ ap (λ (i : ℕ). drop i l) p)
       ∙ sym (part-take f u l)
 
-  slice-paste-other : (f u at w : ℕ) (d s : List A) → at + w ≤ length d → w ≤ length s → (f + u ≤ at) ⊎ (at + w ≤ f)
+  pub slice-paste-other : (f u at w : ℕ) (d s : List A) → at + w ≤ length d → w ≤ length s → (f + u ≤ at) ⊎ (at + w ≤ f)
       → slice f (f + u) (paste d at s w) ≡ slice f (f + u) d
   slice-paste-other f u at w d s hd hs (inl h) =
       ap (drop f)
@@ -63,13 +63,13 @@ module _ {A : Type 0} where
       ∙ take-take (f + u) at d h)
   slice-paste-other f u at w d s hd hs (inr h) = slice-rest f u (at + w) (paste d at s w) d h (drop-paste d at s w (omega arith) hs)
 
-  slice-paste-same : (at w : ℕ) (d s : List A) → at + w ≤ length d → length s ≡ w → slice at (at + w) (paste d at s w) ≡ s
+  pub slice-paste-same : (at w : ℕ) (d s : List A) → at + w ≤ length d → length s ≡ w → slice at (at + w) (paste d at s w) ≡ s
   slice-paste-same at w d s hd hs =
       ap (drop at) (take-paste d at s w (omega arith) (omega arith))
       ∙ drop-at (take at d) (take w s) at (length-take-le at d (omega arith))
       ∙ take-all w s (omega arith)
 
-  slice-set-other : (f u at : ℕ) (l : List A) (a : A) → (f + u ≤ at) ⊎ (at < f) → slice f (f + u) (set l at a) ≡ slice f (f + u) l
+  pub slice-set-other : (f u at : ℕ) (l : List A) (a : A) → (f + u ≤ at) ⊎ (at < f) → slice f (f + u) (set l at a) ≡ slice f (f + u) l
   slice-set-other f u at l a (inl h) = ap (drop f) (take-set-le (f + u) l at a h)
   slice-set-other f u at l a (inr h) = slice-rest f u f (set l at a) l (omega arith) (drop-set-lt f l at a h)
 

@@ -36,7 +36,7 @@ waiting-some (t ∷ ts) k h = go (eqb t 0) refl (waiting-some ts) k h
     go false e ih zero h = eqb-false t 0 e
     go false e ih (suc k) h = ih k (le-of-suc-le-suc h)
 
-waiting-at : (q : List ℕ) (k : ℕ) → k < length (waiting q) → getD (waiting q) k 0 ≡ getD q k 0
+pub waiting-at : (q : List ℕ) (k : ℕ) → k < length (waiting q) → getD (waiting q) k 0 ≡ getD q k 0
 unfolding waiting
 waiting-at [] k h = refl
 waiting-at (t ∷ ts) k h = go (eqb t 0) (waiting-at ts) k h

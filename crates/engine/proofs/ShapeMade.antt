@@ -16,7 +16,7 @@ use Rattle.engine.proofs.Tests.{less-by, clash}
 use Rattle.engine.proofs.Shaping.{row-of-fits, fits-closed, single-of}
 
 -- any element of zeros, and any past them
-getD-zeros : (n i : ℕ) → _≡_ {A = ℕ} (getD (replicate n 0) i 0) 0
+pub getD-zeros : (n i : ℕ) → _≡_ {A = ℕ} (getD (replicate n 0) i 0) 0
 getD-zeros n i = less-by i n (λ h. getD-replicate {A = ℕ} n i 0 0 h) (λ h. List·getD-eq-default {A = ℕ} (replicate n 0) 0 (rw length-replicate h))
 
 pub shape-made : (n own : ℕ) (values : List ℤ) → 2 ≤ n → n ≤ 6 → own < n → length values ≡ 128 → Shape (madeMemory n own values)

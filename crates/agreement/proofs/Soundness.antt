@@ -1,0 +1,155 @@
+-- What holds of a replica's memory holds after every call: with the shape, the size of its group, the values it wrote and its sent mark. Assumes nothing.
+use Prim.Native.Nat.{ℕ, zero, suc, _+_, _*_, _-_, _<_, _≤_}
+use mathlib.Core.Path.{_≡_, refl, sym, ap, _∙_}
+use mathlib.Core.Bool.{Bool, true, false, cond}
+use mathlib.Core.List.{List, [], _∷_}
+use native.Mathlib.Omega.{arith}
+use lib.Dec.{eqb}
+use lib.IntN.{ℤ, pos}
+use lib.ListN.{length, getD, set, replicate}
+use borrow.Author.Tests.{eqb-true, not-false}
+use Rattle.block.specs.Message.{Record, ownerOf, signed32}
+use Rattle.memory.specs.declared.Txn.{Txn}
+use Rattle.memory.specs.Memory.{Memory}
+use Rattle.memory.specs.Rows.{rowAt, writeCount, itemsOf, countBelow, insertAt}
+use Rattle.memory.specs.Turns.{markApplying, advance}
+use Rattle.engine.specs.Calls.{Outcome}
+use Rattle.engine.specs.Make.{madeMemory}
+use Rattle.engine.specs.Client.{rowNo, rowWith, isOwn, writeRefusal, beginAt, rewriteAt, insertWrite, staleAt, readOnlyAt, queueAt, withdrawAt, reportStep}
+use Rattle.engine.specs.Moves.{sendRefusal, sendNow, deliverNow, passNext, isLast, commitWriteset}
+use Rattle.engine.specs.Shape.{Shape, Shapes}
+use Rattle.engine.specs.Step.{Call, step}
+use Rattle.engine.specs.Step.Call.{begin, read, write, ask, withdraw, report, send, deliver, work}
+use Rattle.engine.proofs.Tests.{clash, same-by, less-by, passes}
+use Rattle.engine.proofs.PartLaws.{insert-before, insert-here, insert-moved, insert-after, below-part}
+use Rattle.engine.proofs.Passed.{write-passed}
+use Rattle.engine.proofs.Steps.{begin-by, read-by, write-by, ask-by, withdraw-by, send-by, deliver-by, work-by}
+use Rattle.engine.proofs.Shapes.{shapes}
+use Rattle.agreement.specs.Group.{valueOf}
+use Rattle.agreement.proofs.View.{Sound}
+
+-- each number of the list is a signed 32-bit one
+abbrev Fits : List ℤ → Type 0
+Fits l = (i : ℕ) → signed32 (getD l i (pos 0)) ≡ true
+
+-- all but the shape
+record Rest (n : ℕ) (m : Memory) : Type 0 where
+  size : m .counts .replicas ≡ n
+  fits : Fits (m .txns .writes)
+  ours : m .turn .sent ≡ true → ownerOf n (m .turn .slot) ≡ m .counts .own
+
+-- ---- a value put into the list
+
+fits-set : (l : List ℤ) (k : ℕ) (v : ℤ) → Fits l → signed32 v ≡ true → Fits (set l k v)
+fits-set [] k v h e i = h i
+fits-set (x ∷ xs) zero v h e zero = e
+fits-set (x ∷ xs) zero v h e (suc i) = h (suc i)
+fits-set (x ∷ xs) (suc k) v h e zero = h 0
+fits-set (x ∷ xs) (suc k) v h e (suc i) = fits-set xs k v (λ j. h (suc j)) e i
+
+fits-insert : (l : List ℤ) (at k : ℕ) (v : ℤ) → at + k < length l → Fits l → signed32 v ≡ true → Fits (insertAt at k v l)
+fits-insert l at k v room h e i =
+    less-by i at (λ a. rw (insert-before at k v l room i (pos 0) a) (h i))
+    (λ a. same-by i at (λ q. rw (q, insert-here at k v l room (pos 0)) e)
+    (λ d. less-by (at + k) i (λ b. rw (insert-after at k v l room i (pos 0) b) (h i))
+    (λ b. rw (insert-moved at k v l room i (pos 0) (omega (arith, d, a)) b) (h (i - 1)))))
+
+fits-zeros : (k : ℕ) → Fits (replicate k (pos 0))
+unfolding signed32
+fits-zeros zero i = refl
+fits-zeros (suc k) zero = refl
+fits-zeros (suc k) (suc i) = fits-zeros k i
+
+-- ---- what each call does
+
+module _ (n : ℕ) (m : Memory) (s : Rest n m) where
+  abbrev Rests : Outcome → Type 0
+  Rests o = Rest n (o .memory)
+
+  begin-rests : (r : ℕ) → Rests (beginAt m r)
+  unfolding beginAt
+  begin-rests r = record { size = s .size; fits = s .fits; ours = s .ours }
+
+  rewrite-rests : (r k : ℕ) (v : ℤ) → signed32 v ≡ true → Rests (rewriteAt m r k v)
+  unfolding rewriteAt
+  rewrite-rests r k v e = record { size = s .size; fits = fits-set (m .txns .writes) (8 * r + k) v (s .fits) e; ours = s .ours }
+
+  insert-rests : (r i : ℕ) (t : Txn) (v : ℤ) → r < 6 → length (m .txns .items) ≡ 48 → length (m .txns .writes) ≡ 48 → writeCount t < 8 → signed32 v ≡ true
+      → Rests (insertWrite m r t i v)
+  unfolding insertWrite
+  insert-rests r i t v h l w k e = record {
+    size = s .size;
+    fits = let b = below-part i (8 * r) (writeCount t) (m .txns .items) (omega arith) in
+        fits-insert (m .txns .writes) (8 * r + countBelow i (itemsOf r t (m .txns .items)) 0) (writeCount t - countBelow i (itemsOf r t (m .txns .items)) 0) v (omega arith) (s .fits) e;
+    ours = s .ours;
+  }
+
+  stale-rests : (r : ℕ) → Rests (staleAt m r)
+  unfolding staleAt
+  stale-rests r = record { size = s .size; fits = s .fits; ours = s .ours }
+
+  read-only-rests : (r : ℕ) → Rests (readOnlyAt m r)
+  unfolding readOnlyAt
+  read-only-rests r = record { size = s .size; fits = s .fits; ours = s .ours }
+
+  queue-rests : (r : ℕ) (t : Txn) → Rests (queueAt m r t)
+  unfolding queueAt
+  queue-rests r t = record { size = s .size; fits = s .fits; ours = s .ours }
+
+  withdraw-rests : (r : ℕ) → Rests (withdrawAt m r)
+  unfolding withdrawAt
+  withdraw-rests r = record { size = s .size; fits = s .fits; ours = s .ours }
+
+  -- a send is not refused by 11
+  own-slot : (b : List ℕ) → sendRefusal m b ≡ 0 → ownerOf n (m .turn .slot) ≡ m .counts .own
+  unfolding sendRefusal
+  own-slot b e =
+      let p = passes _ _ refl e in
+      let q = passes _ _ refl (p .1) in
+      ap (λ (k : ℕ). ownerOf k (m .turn .slot)) (sym (s .size)) ∙ eqb-true _ _ (not-false _ (passes _ _ refl (q .1) .0))
+
+  send-rests : (b : List ℕ) → sendRefusal m b ≡ 0 → Rests (sendNow m)
+  unfolding sendNow
+  send-rests b e = record { size = s .size; fits = s .fits; ours = λ q. own-slot b e }
+
+  deliver-rests : (b : List ℕ) → Rests (deliverNow m b)
+  unfolding deliverNow
+  deliver-rests b = record { size = s .size; fits = s .fits; ours = s .ours }
+
+  next-rests : Rests (passNext m)
+  unfolding passNext
+  next-rests = record { size = s .size; fits = s .fits; ours = λ q. clash {b = false} q refl }
+
+  writeset-rests : (mine : Bool) (w : Record) → Rests (commitWriteset m mine w)
+  unfolding commitWriteset
+  writeset-rests mine w = record { size = s .size; fits = s .fits; ours = go (isLast m) mine }
+    where
+      go : (last own : Bool) → cond last (advance (m .turn)) (cond own (m .turn) (markApplying (m .turn))) .sent ≡ true
+          → ownerOf n (cond last (advance (m .turn)) (cond own (m .turn) (markApplying (m .turn))) .slot) ≡ m .counts .own
+      go true own q = clash {b = false} q refl
+      go false true q = s .ours q
+      go false false q = s .ours q
+
+rest-each : (n : ℕ) (m : Memory) → Rest n m → (c : Call) → signed32 (valueOf c) ≡ true → Rest n (step m c .memory)
+rest-each n m s begin e = begin-by (Rests n m s) m (λ p. begin-rests n m s _) (λ p. s)
+rest-each n m s (read t i) e = read-by (Rests n m s) m t i (λ p. s) (λ p. s)
+rest-each n m s (write t i v) e =
+    write-by (Rests n m s) m t i v (λ p. stale-rests n m s _) (λ p o. rewrite-rests n m s _ _ v e)
+    (λ p o. let w = write-passed m t i p in insert-rests n m s (rowNo m t) i (rowWith m t) v (w .own .row) (w .items) (w .writes) (w .room o) e) (λ p q. s)
+rest-each n m s (ask t) e = ask-by (Rests n m s) m t (λ p. read-only-rests n m s _) (λ p o. queue-rests n m s _ _) (λ p. s)
+rest-each n m s (withdraw t) e = withdraw-by (Rests n m s) m t (λ p. withdraw-rests n m s _) (λ p. s)
+rest-each n m s report e = unfold step reportStep in s
+rest-each n m s (send b) e = send-by (Rests n m s) m b (λ p. send-rests n m s b p) (λ p. s)
+rest-each n m s (deliver b) e = deliver-by (Rests n m s) m b (λ p. deliver-rests n m s b) (λ p. s)
+rest-each n m s work e = work-by (Rests n m s) m (λ p k. next-rests n m s) (λ p k. writeset-rests n m s _ _) (λ p. s)
+
+-- ---- the whole
+
+pub sound-each : (n : ℕ) (m : Memory) → Sound n m → (c : Call) → signed32 (valueOf c) ≡ true → Sound n (step m c .memory)
+sound-each n m s c e =
+    let r = rest-each n m (record { size = s .size; fits = s .fits; ours = s .ours }) c e in
+    record { shape = shapes .each m (s .shape) c; size = r .size; fits = r .fits; ours = r .ours }
+
+pub sound-made : (n k : ℕ) (start : List ℤ) → 2 ≤ n → n ≤ 6 → k < n → length start ≡ 128 → Sound n (madeMemory n k start)
+unfolding madeMemory
+sound-made n k start l h o v = record { shape = shapes .made n k start l h o v; size = refl; fits = fits-zeros 48; ours = λ q. clash {b = false} q refl }

@@ -1,0 +1,32 @@
+-- Agreement, the theorem. Assumes nothing.
+use Prim.Native.Nat.{ℕ}
+use mathlib.Core.List.{List}
+use lib.IntN.{ℤ}
+use Rattle.memory.specs.Memory.{Memory}
+use Rattle.engine.specs.Step.{Call, step}
+use Rattle.engine.specs.Step.Call.{begin, read, write, ask, withdraw, report, send, deliver, work}
+use Rattle.agreement.specs.Statement.{AgreementTheorem}
+use Rattle.agreement.proofs.View.{Sound, Owed}
+use Rattle.agreement.proofs.BeginStep.{begin-owes}
+use Rattle.agreement.proofs.ReadStep.{read-owes}
+use Rattle.agreement.proofs.WriteStep.{write-owes}
+use Rattle.agreement.proofs.AskStep.{ask-owes}
+use Rattle.agreement.proofs.WithdrawStep.{withdraw-owes, report-owes}
+use Rattle.agreement.proofs.SendStep.{send-owes}
+use Rattle.agreement.proofs.DeliverStep.{deliver-owes}
+use Rattle.agreement.proofs.WorkStep.{work-owes}
+use Rattle.agreement.proofs.Agreement.{agreement-from}
+
+owes : (n : ℕ) (start : List ℤ) (m : Memory) → Sound n m → (c : Call) → Owed n start m c (step m c)
+owes n start m s begin = begin-owes n start m s
+owes n start m s (read t i) = read-owes n start m s t i
+owes n start m s (write t i v) = write-owes n start m s t i v
+owes n start m s (ask t) = ask-owes n start m s t
+owes n start m s (withdraw t) = withdraw-owes n start m s t
+owes n start m s report = report-owes n start m s
+owes n start m s (send b) = send-owes n start m s b
+owes n start m s (deliver b) = deliver-owes n start m s b
+owes n start m s work = work-owes n start m s
+
+pub agreement : AgreementTheorem
+agreement n start least most long = agreement-from n start least most long (owes n start)

@@ -1,0 +1,10 @@
+-- Agreement of a group of replicas: lists, the model of one replica and its calls, the observer, the group, the statement, and the statement for a machine.
+pub mod Lists
+pub mod Writesets
+pub mod Replica
+pub mod Client
+pub mod Moves
+pub mod Observer
+pub mod System
+pub mod Statement
+pub mod Machine

@@ -1,0 +1,108 @@
+-- A machine with a view of its memory as a replica's state, what each of its calls owes the model, and agreement stated of the machine.
+use Prim.Native.Nat.{_<_, ℕ}
+use mathlib.Core.Path.{_≡_}
+use mathlib.Core.Option.{Option, none, some}
+use mathlib.Core.List.{List, [], _∷_}
+use Rattle.protocol.specs.Lists.{update, Mem}
+use Rattle.protocol.specs.Writesets.{Message}
+use Rattle.protocol.specs.Replica.{Setup, Transaction, Replica, Event, refused}
+use Rattle.protocol.specs.Observer.{noting, Observed, observing, Placed, Handout, observedAfter, handoutsAfter, messagesAfter, sequence}
+use Rattle.protocol.specs.System.{Call, System, HandedOut, step, made, PlacesApart}
+use Rattle.protocol.specs.Statement.{Claim, Agreed}
+
+module _ {X : Type 0} where
+  -- two states that differ at most in the order of the open transactions, in the outbox, and in how stamps and places are kept
+  pub record Alike (r s : Replica X) : Type 0 where
+    pub own : s .own ≡ r .own
+    pub cursor : s .cursor ≡ r .cursor
+    pub commits : s .store .commits ≡ r .store .commits
+    pub values : s .store .values ≡ r .store .values
+    pub stamps : (i : ℕ) → s .store .stamps i ≡ r .store .stamps i
+    pub tickets : s .transactions .tickets ≡ r .transactions .tickets
+    pub queue : s .transactions .queue ≡ r .transactions .queue
+    pub there : (u : Transaction X) → Mem u (r .transactions .txns) → Mem u (s .transactions .txns)
+    pub back : (u : Transaction X) → Mem u (s .transactions .txns) → Mem u (r .transactions .txns)
+    pub places : (p : ℕ) → s .blocks .places p ≡ r .blocks .places p
+
+-- what a command does
+pub record Performed (X Memory : Type 0) : Type 0 where
+  pub memory : Memory
+  pub event : Event X
+
+module _ {X : Type 0} (S : Setup X) where
+  -- what one command owes, of a machine with these calls, their meaning and this view: a refusal that leaves the view alone, or the step of its meaning
+  module _ {Memory Command : Type 0} (perform : Memory → Command → Performed X Memory) (meaning : Command → Option (Call X)) (view : Memory → Replica X) where
+    pub data Refines (m : Memory) (a : Command) : Type 0 where
+      refuses : (c : ℕ) → (c ≡ 9 → ⊥) → perform m a .event ≡ refused c → Alike (view m) (view (perform m a .memory)) → Refines m a
+      follows : (c : Call X) → meaning a ≡ some c → perform m a .event ≡ step S (view m) c .event → Alike (step S (view m) c .replica) (view (perform m a .memory)) → Refines m a
+
+  -- perform: what a command does and how the observer sees it; meaning: the call it is, if it is well formed; Sound: what the memory meets after every call
+  pub record Machine : Type 1 where
+    pub Memory : Type 0
+    pub Command : Type 0
+    pub perform : Memory → Command → Performed X Memory
+    pub meaning : Command → Option (Call X)
+    pub view : Memory → Replica X
+    pub Sound : Memory → Type 0
+    pub make : ℕ → Memory
+    pub refines : (m : Memory) (a : Command) → Sound m → Refines perform meaning view m a
+    pub stays : (m : Memory) (a : Command) → Sound m → Sound (perform m a .memory)
+    pub made-sound : (k : ℕ) → k < S .size → Sound (make k)
+    pub made-alike : (k : ℕ) → Alike (made S k) (view (make k))
+
+  -- of one command
+  abbrev pub CommandClaim : List (Placed X) → List (Handout X) → Observed X → ℕ → Option (Call X) → Event X → Type 0
+  CommandClaim F D p k none e = Unit
+  CommandClaim F D p k (some c) e = Claim S F D p k c e
+
+  module _ (M : Machine) where
+    open Machine M using (Memory, Command, perform, meaning, view, make)
+
+    pub record MachineSystem : Type 0 where
+      pub memories : ℕ → Memory
+      pub observed : ℕ → Observed X
+      pub handouts : List (Handout X)
+      pub messages : List (Message X)
+
+    -- a command at a replica of the group
+    pub record CommandAt : Type 0 where
+      pub at : ℕ
+      pub here : at < S .size
+      pub command : Command
+
+    abbrev pub freshSystem : MachineSystem
+    freshSystem = record { memories = make; observed = λ k. observing (λ t. noting 0 []) [] []; handouts = []; messages = [] }
+
+    abbrev pub afterCommand : MachineSystem → CommandAt → MachineSystem
+    afterCommand g a = record {
+      memories = update (g .memories) (a .at) (perform (g .memories (a .at)) (a .command) .memory);
+      observed = update (g .observed) (a .at) (observedAfter (g .observed (a .at)) (perform (g .memories (a .at)) (a .command) .event));
+      handouts = handoutsAfter (g .handouts) (a .at) (g .observed (a .at)) (perform (g .memories (a .at)) (a .command) .event);
+      messages = messagesAfter (g .messages) (perform (g .memories (a .at)) (a .command) .event);
+    }
+
+    unfoldable pub runCommands : MachineSystem → List CommandAt → MachineSystem
+    runCommands g [] = g
+    runCommands g (a ∷ cs) = runCommands (afterCommand g a) cs
+
+    -- the premise on a list of commands
+    unfoldable pub CommandPremise : MachineSystem → List CommandAt → Type 0
+    CommandPremise g [] = Unit
+    CommandPremise g (a ∷ cs) = HandedOut (g .messages) (perform (g .memories (a .at)) (a .command) .event) × CommandPremise (afterCommand g a) cs
+
+    -- the group as the model sees it
+    abbrev pub systemOf : MachineSystem → System X
+    systemOf g = record { replicas = λ k. view (g .memories k); observed = g .observed; handouts = g .handouts; messages = g .messages }
+
+    unfoldable pub CommandClaims : List (Placed X) → MachineSystem → List CommandAt → Type 0
+    CommandClaims F g [] = Unit
+    CommandClaims F g (a ∷ cs) = CommandClaim F (g .handouts) (g .observed (a .at)) (a .at) (meaning (a .command)) (perform (g .memories (a .at)) (a .command) .event)
+        × CommandClaims F (afterCommand g a) cs
+
+    -- agreement of the machine
+    pub record MachineAgreement (cs : List CommandAt) : Type 0 where
+      pub group : Agreed S (systemOf (runCommands freshSystem cs))
+      pub calls : CommandClaims (sequence (runCommands freshSystem cs .handouts)) freshSystem cs
+
+  abbrev pub MachineTheorem : Type 1
+  MachineTheorem = PlacesApart S → (M : Machine) (cs : List (CommandAt M)) → CommandPremise M (freshSystem M) cs → MachineAgreement M cs

@@ -1,0 +1,2 @@
+-- The runs, computed. Assumes nothing.
+pub mod Worked

@@ -1,0 +1,2 @@
+-- Worked runs beside the theorem of agreement.
+pub mod Worked

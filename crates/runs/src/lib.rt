@@ -1,0 +1,1 @@
+// Theorems only: two runs of a group, computed from the definitions.
