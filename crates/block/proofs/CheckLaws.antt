@@ -3,7 +3,7 @@ use Prim.Native.Nat.{ℕ, zero, suc, _+_, _*_, _%_, _≤_, _<_, _-_}
 use mathlib.Core.Bool.{true, false}
 use mathlib.Core.List.{List, _++_}
 use mathlib.Core.Path.{_≡_, refl, sym, ap, _∙_}
-use native.Mathlib.Nat.{mul-le-mul, mul-add, add-mul}
+use native.Mathlib.Nat.{mul-add, add-mul}
 use native.Mathlib.Numerals.{add-one, add-two, add-four}
 use native.Mathlib.Omega.{arith}
 use borrow.Author.Tests.{eq-eqb, eqb-true, ne-eqb}
@@ -134,8 +134,15 @@ word-number l at i e h =
 weigh : (v a b c d : ℕ) → v * (a + b + c + d) + (3 * a + 2 * b + c) ≡ (v + 3) * a + (v + 2) * b + (v + 1) * c + v * d
 weigh v a b c d = simp (mul-add, add-mul) (omega arith)
 
+-- a turn of the sums: a and e are the sums before it, w the words that it adds, s the second sum and r what it has too much
+turn : (u a e w s r t x q : ℕ) → 4 * e + (u + 4) * a ≡ s + r → t ≡ s + ((u + 1) * w + x) → q + x ≡ r + 3 * w
+    → 4 * (e + (a + w)) + u * (a + w) ≡ t + q
+turn u a e w s r t x q before next rest =
+    let m : (u + 4) * a + (u + 1) * w ≡ u * (a + w) + 4 * a + w = simp (mul-add, add-mul) (omega arith) in
+    omega arith
+
 -- four words more; a to d are their numbers
-module _ (l : List ℕ) (k : ℕ) (low : k ≤ 251) (long : 2 * k + 8 ≤ length l) (a b c d : ℕ)
+module _ (l : List ℕ) (k : ℕ) (low : k ≤ 250) (long : 2 * k + 8 ≤ length l) (a b c d : ℕ)
     (is-a : a ≡ numberOf (slice (2 * k) (2 * k + 2) l))
     (is-b : b ≡ numberOf (slice (2 * k + 2) (2 * k + 2 + 2) l))
     (is-c : c ≡ numberOf (slice (2 * k + 4) (2 * k + 4 + 2) l))
@@ -166,6 +173,25 @@ module _ (l : List ℕ) (k : ℕ) (low : k ≤ 251) (long : 2 * k + 8 ≤ length
       let s : 254 - suc (suc (suc k)) ≡ v = omega arith in
       rw (add-four k, word-a, word-b, word-c, word-d, p, q, r, s, weigh (251 - k) a b c d) (omega arith)
 
+  -- p to s are the sums of every fourth word, e to h the sums of those
+  pub weighted-turn : (p q r s e f g h : ℕ) → 4 * (e + f + g + h) + (254 - k) * (p + q + r + s) ≡ weightedTo l k + (q + 2 * r + 3 * s)
+      → 4 * (e + (p + a) + (f + (q + b)) + (g + (r + c)) + (h + (s + d))) + (254 - (k + 4)) * (p + a + (q + b) + (r + c) + (s + d))
+      ≡ weightedTo l (k + 4) + (q + b + 2 * (r + c) + 3 * (s + d))
+  weighted-turn p q r s e f g h before =
+      let x : 254 - k ≡ 250 - k + 4 = omega arith in
+      let y : 251 - k ≡ 250 - k + 1 = omega arith in
+      let z : 254 - (k + 4) ≡ 250 - k = omega arith in
+      let m : p + a + (q + b) + (r + c) + (s + d) ≡ p + q + r + s + (a + b + c + d) = omega arith in
+      let n : e + (p + a) + (f + (q + b)) + (g + (r + c)) + (h + (s + d)) ≡ e + f + g + h + (p + q + r + s + (a + b + c + d)) = omega arith in
+      rw (z, m, n)
+      (turn (250 - k) (p + q + r + s) (e + f + g + h) (a + b + c + d) (weightedTo l k) (q + 2 * r + 3 * s) (weightedTo l (k + 4)) (3 * a + 2 * b + c)
+      (q + b + 2 * (r + c) + 3 * (s + d)) (rw x at before) (rw y at weighted-next) (omega arith))
+
+-- after the last turn each word of the first 252 has its weight
+pub weighted-last : (l : List ℕ) (a b c d e f g h : ℕ) → 4 * (e + f + g + h) + (254 - 252) * (a + b + c + d) ≡ weightedTo l 252 + (b + 2 * c + 3 * d)
+    → 4 * (e + f + g + h) + 2 * a + b ≡ weightedTo l 252 + d
+weighted-last l a b c d e f g h w = omega arith
+
 two-more : (l : List ℕ) (k : ℕ) → sumTo l (k + 2) ≡ sumTo l k + word l k + word l (k + 1)
 unfolding sumTo
 two-more l k = rw (add-two k, add-one k)
@@ -187,10 +213,6 @@ sums-end l long f s sum weighted y z is-y is-z =
     let a : f + y + z ≡ sumTo l 254 = omega arith in
     let b : s + 2 * y + z ≡ weightedTo l 254 = omega arith in
     rw (a, b)
-
--- a group of four words with its weight
-pub weight-bound : (k w : ℕ) → w ≤ 262140 → (251 - k) * w ≤ 65797140
-weight-bound k w h = mul-le-mul {n₂ = 251} (let e : 251 - k ≤ 251 = omega arith in e) h
 
 -- the answers of a block's comparison with its own check: s is its check, f and g what it holds in its last four bytes
 module _ (b : List ℕ) where

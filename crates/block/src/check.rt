@@ -1,37 +1,58 @@
 // The check: two sums over the 16-bit words of a block's first 508 bytes.
 ghost use mathlib.Core.Path.{_≡_};
-ghost use Prim.Native.Nat.{_≤_};
+ghost use Prim.Native.Nat.{_%_, _≤_};
 ghost use lib.ListN.{length};
 ghost use Rattle.block.specs.Check.{sumsOf, checkStep, checkMatches};
 use super::Checked;
 use super::Sums;
 use super::number16;
 
-// The sums run over all words and are reduced once: both stay below 2^32. Four words at a time: with the last one's weight for
-// all four, the first three have 3, 2 and 1 more.
+// The remainder. The branch is for the compiler alone: without it the writers add up one word at a time.
+fn reduced(x: u32) -> u16
+    ensures { λ r. ⌜ r ≡ x % 65535 ⌝ }
+{
+    if x < 65535 {
+        x as u16
+    } else {
+        (x % 65535) as u16
+    }
+}
+
+// The sums run over all words and are reduced once: both stay below 2^32. Four words a turn, and no product: a to d sum every
+// fourth word, e to h sum those sums. Four times the latter give each word its weight, but for 2 and 1 too little in a and b
+// and 1 too much in d. The compiler makes one addition of each four.
 fn sums(bytes: &[u8]) -> Sums
     requires { ⌜ 508 ≤ length (now bytes) ⌝ }
     ensures { λ r. ⌜ r ≡ sumsOf (now (bytes .entry)) ⌝ }
 {
-    let mut first: u32 = 0;
-    let mut second: u32 = 0;
-    let mut i: u32 = 0;
+    let mut a: u32 = 0;
+    let mut b: u32 = 0;
+    let mut c: u32 = 0;
+    let mut d: u32 = 0;
+    let mut e: u32 = 0;
+    let mut f: u32 = 0;
+    let mut g: u32 = 0;
+    let mut h: u32 = 0;
+    let mut i: usize = 0;
     while i < 252 {
-        let at = 2 * i as usize;
-        let a = number16(bytes, at) as u32;
-        let b = number16(bytes, at + 2) as u32;
-        let c = number16(bytes, at + 4) as u32;
-        let d = number16(bytes, at + 6) as u32;
-        let four = a + b + c + d;
-        first += four;
-        second += (251 - i) * four + (3 * a + 2 * b + c);
+        let at = 2 * i;
+        a += number16(bytes, at) as u32;
+        b += number16(bytes, at + 2) as u32;
+        c += number16(bytes, at + 4) as u32;
+        d += number16(bytes, at + 6) as u32;
+        e += a;
+        f += b;
+        g += c;
+        h += d;
         i += 4;
     }
     let y = number16(bytes, 504) as u32;
     let z = number16(bytes, 506) as u32;
+    let first = a + b + c + d + y + z;
+    let second = 4 * (e + f + g + h) + 2 * a + b - d + 2 * y + z;
     Sums {
-        first: ((first + y + z) % 65535) as u16,
-        second: ((second + 2 * y + z) % 65535) as u16,
+        first: reduced(first),
+        second: reduced(second),
     }
 }
 
