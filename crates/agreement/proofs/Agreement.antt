@@ -1,7 +1,7 @@
 -- Agreement: the statement's proof, from what each call owes. Assumes nothing.
 use Prim.Native.Nat.{ℕ, suc, _-_, _<_, _≤_}
 use mathlib.Core.Path.{_≡_, refl, sym, ap, _∙_, subst}
-use mathlib.Core.List.{List, List·Memᴰ·head, List·Memᴰ·tail, List·Memᴰ·not-nil, Memᴰ·append-left, Memᴰ·append-right, [], _∷_, _++_}
+use mathlib.Core.List.{List, List·Memᴰ·head, List·Memᴰ·tail, List·Memᴰ·not-nil, Memᴰ·append-left, Memᴰ·append-right, [], _∷_}
 use native.Mathlib.Omega.{arith}
 use lib.IntN.{ℤ}
 use lib.ListN.{length, length-map, take}
@@ -14,18 +14,17 @@ use Rattle.engine.specs.Client.{reportOf}
 use Rattle.engine.specs.Moves.{passNext, commitWriteset}
 use Rattle.engine.specs.Step.{Call, step}
 use Rattle.engine.specs.Step.Call.{read, write, work}
-use Rattle.engine.proofs.Tests.{same-by}
 use Rattle.engine.proofs.Steps.{work-by}
 use Rattle.engine.proofs.ShapeTurn.{working}
 use Rattle.protocol.specs.Lists.{Mem}
 use Rattle.protocol.specs.Observer.{Observed, Placed, Handout, sequence, idOf, noPlaced}
 use Rattle.protocol.specs.Statement.{NotHandedOut, Committed, WorkClaim, WriteClaim, ReadClaim, Agreed}
-use Rattle.protocol.specs.Machine.{MachineSystem, MachineAgreement, CommandClaims, systemOf, runCommands}
+use Rattle.protocol.specs.Machine.{MachineSystem, MachineAgreement, CommandClaims, systemOf}
 use Rattle.protocol.proofs.ListLaws.{update-by}
 use Rattle.protocol.proofs.Refinement.{machine-agreement}
 use Rattle.protocol.proofs.SequenceLaws.{mem-at}
 use Rattle.agreement.specs.Group.{heard, Group, CallAt, fresh, run, did, next, Comes, Calls, Premise}
-use Rattle.agreement.specs.Statement.{placed, PutDown, Share, Agrees, FirstCommitter, groupAfter, Agreement}
+use Rattle.agreement.specs.Statement.{PutDown, Agrees, FirstCommitter, groupAfter, Agreement}
 use Rattle.agreement.proofs.View.{setup, Sound, Owed}
 use Rattle.agreement.proofs.Soundness.{sound-each, sound-made}
 use Rattle.agreement.proofs.Replicas.{places-apart}

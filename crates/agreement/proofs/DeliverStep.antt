@@ -28,7 +28,8 @@ use Rattle.protocol.specs.Writesets.{Message}
 use Rattle.protocol.specs.Replica.{Setup, Blocks, Replica, replica, accepted, outcome}
 use Rattle.protocol.specs.Moves.{sentForTurn, deliverStep}
 use Rattle.agreement.specs.Group.{messageIn, heard}
-use Rattle.agreement.proofs.View.{setup, placeAt, view, Sound, meant, Owed, refuses, follows, alike-same}
+use Rattle.agreement.proofs.View.{setup, placeAt, view, Sound, meant, Owed, follows}
+use Rattle.agreement.proofs.ClientStep.{refused-owes}
 use Rattle.agreement.proofs.PlaceView.{place-empty, place-kept}
 
 -- ---- the block
@@ -146,4 +147,4 @@ module _ (n : ℕ) (start : List ℤ) (m : Memory) (S : Sound n m) (b : List ℕ
 
   pub deliver-owes : Owed n start m (deliver b) (step m (deliver b))
   unfolding deliverRefusal heard
-  deliver-owes = deliver-by (Owed n start m (deliver b)) m b follow (λ o. refuses (deliverRefusal m b) (not-first 9 _ refl) refl (alike-same (view m)))
+  deliver-owes = deliver-by (Owed n start m (deliver b)) m b follow (λ o. refused-owes n start m (deliver b) (deliverRefusal m b) (not-first 9 _ refl))

@@ -1,15 +1,14 @@
 -- The replicas as a machine of the protocol, from what each call owes. Assumes nothing.
-use Prim.Native.Nat.{ℕ, _+_, _*_, _%_, _<_, _≤_}
+use Prim.Native.Nat.{ℕ, _*_, _≤_}
 use mathlib.Core.Path.{_≡_, refl, sym}
 use mathlib.Core.Bool.{true}
-use mathlib.Core.Option.{none, some}
+use mathlib.Core.Option.{some}
 use mathlib.Core.List.{List}
 use native.Mathlib.Omega.{arith}
 use lib.IntN.{ℤ}
-use lib.ListN.{length, replicate}
+use lib.ListN.{length}
 use Rattle.block.specs.Message.{signed32}
 use Rattle.memory.specs.Memory.{Memory}
-use Rattle.memory.specs.Rows.{closed}
 use Rattle.engine.specs.Make.{madeMemory}
 use Rattle.engine.specs.Moves.{waiting}
 use Rattle.engine.specs.Step.{Call, step}

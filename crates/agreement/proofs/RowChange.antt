@@ -1,20 +1,20 @@
 -- A row closed, changed or taken: the open transactions are those of the model's step, in another order. Assumes nothing.
-use Prim.Native.Nat.{ℕ, _+_, _*_, _<_}
-use mathlib.Core.Path.{_≡_, refl, sym, ap, _∙_, subst}
+use Prim.Native.Nat.{ℕ, _+_, _<_}
+use mathlib.Core.Path.{_≡_, refl, sym, ap, _∙_}
 use mathlib.Core.Logic.{_⊎_, inl, inr}
-use mathlib.Core.Bool.{Bool, true, false, not}
+use mathlib.Core.Bool.{not}
 use mathlib.Core.List.{List, List·Memᴰ·not-nil, List·Memᴰ·head, List·Memᴰ·cases-cons, List·Memᴰ·append-cases, Memᴰ·append-left, Memᴰ·append-right, [], _∷_, _++_, map}
 use native.Mathlib.Omega.{arith}
 use lib.Dec.{eqb}
 use lib.IntN.{ℤ}
 use lib.ListN.{length, set, length-set}
 use lib.Seq.{getD-set-same}
-use borrow.Author.Tests.{eqb-true, eqb-false, eq-eqb, ne-eqb, not-true}
+use borrow.Author.Tests.{eqb-false, ne-eqb, not-true}
 use Rattle.memory.specs.declared.Txn.{Txn}
 use Rattle.memory.specs.Memory.{Transactions, Memory, withTable}
 use Rattle.memory.specs.Rows.{closed, rowAt}
 use Rattle.engine.specs.Shape.{Shape}
-use Rattle.engine.proofs.Tests.{clash, same-by}
+use Rattle.engine.proofs.Tests.{same-by}
 use Rattle.engine.proofs.RowLaws.{others}
 use Rattle.protocol.specs.Lists.{Mem}
 use Rattle.protocol.specs.Replica.{Transaction}

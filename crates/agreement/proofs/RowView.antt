@@ -1,26 +1,26 @@
 -- The open rows as transactions: which they are, the one of a ticket, and what a row closed, changed or taken leaves. Assumes nothing.
-use Prim.Native.Nat.{ℕ, zero, suc, _+_, _<_, _≤_}
-use mathlib.Core.Path.{_≡_, refl, sym, ap, _∙_, subst}
+use Prim.Native.Nat.{ℕ, zero, suc, _+_, _<_}
+use mathlib.Core.Path.{_≡_, refl, sym, ap, _∙_}
 use mathlib.Core.Logic.{_⊎_, inl, inr}
-use mathlib.Core.Bool.{Bool, true, false, cond, not}
+use mathlib.Core.Bool.{Bool, true, false, cond}
 use mathlib.Core.Option.{Option, none, some}
-use mathlib.Core.List.{List, List·Memᴰ·not-nil, List·Memᴰ·head, List·Memᴰ·tail, List·Memᴰ·cases-cons, List·Memᴰ·append-cases, [], _∷_, _++_, map}
+use mathlib.Core.List.{List, List·Memᴰ·not-nil, List·Memᴰ·head, List·Memᴰ·tail, List·Memᴰ·cases-cons, [], _∷_}
 use native.Mathlib.Nat.{zero-add, suc-add, add-suc, add-zero, not-suc-le-zero, le-of-suc-le-suc}
 use native.Mathlib.Omega.{arith}
 use lib.Dec.{eqb}
 use lib.IntN.{ℤ}
-use lib.ListN.{length, set}
+use lib.ListN.{length}
 use borrow.Author.Tests.{eqb-true, eqb-false, eq-eqb, ne-eqb, not-true}
 use Rattle.memory.specs.declared.Txn.{Txn}
 use Rattle.memory.specs.Memory.{Transactions, Memory}
-use Rattle.memory.specs.Rows.{closed, isOpen, openCount, rowOf, rowAt}
+use Rattle.memory.specs.Rows.{isOpen, openCount, rowOf, rowAt}
 use Rattle.engine.specs.Shape.{Shape}
 use Rattle.engine.proofs.Tests.{clash, same-by}
-use Rattle.engine.proofs.RowLaws.{FoundRow, row-found, others, set-row}
+use Rattle.engine.proofs.RowLaws.{FoundRow, row-found}
 use Rattle.protocol.specs.Lists.{Mem}
 use Rattle.protocol.specs.Replica.{Transaction}
-use Rattle.protocol.specs.Client.{findTxn, without}
-use Rattle.protocol.proofs.ListLaws.{keep-mem, mem-keep, map-all, mem-map, first-some, first-none}
+use Rattle.protocol.specs.Client.{findTxn}
+use Rattle.protocol.proofs.ListLaws.{first-some, first-none}
 use Rattle.agreement.proofs.View.{txnOf, rowsFrom, openTxns}
 
 -- ---- the members

@@ -1,7 +1,7 @@
 -- A run of the group as one of the machine: the same memory, observer and handouts, and the messages of the blocks. Assumes nothing.
 use Prim.Native.Nat.{ℕ, _<_, _≤_}
 use mathlib.Core.Path.{_≡_, refl, sym, ap, _∙_, subst}
-use mathlib.Core.Bool.{Bool, true, false, cond}
+use mathlib.Core.Bool.{true, cond}
 use mathlib.Core.Option.{some}
 use mathlib.Core.List.{List, List·Memᴰ·head, List·Memᴰ·tail, [], _∷_, _++_, map}
 use lib.Dec.{eqb}
@@ -21,14 +21,14 @@ use Rattle.engine.proofs.Steps.{begin-by, read-by, write-by, ask-by, withdraw-b
 use Rattle.protocol.specs.Lists.{Mem}
 use Rattle.protocol.specs.Writesets.{Message}
 use Rattle.protocol.specs.Replica.{Event}
-use Rattle.protocol.specs.Observer.{Observed, Placed, Handout, messagesAfter}
+use Rattle.protocol.specs.Observer.{Placed, messagesAfter}
 use Rattle.protocol.specs.System.{HandedOut}
-use Rattle.protocol.specs.Machine.{Machine, CommandClaim, MachineSystem, CommandAt, freshSystem, afterCommand, runCommands, CommandPremise, CommandClaims}
+use Rattle.protocol.specs.Machine.{Machine, CommandClaim, MachineSystem, CommandAt, afterCommand, runCommands, CommandPremise, CommandClaims}
 use Rattle.protocol.proofs.ListLaws.{mem-map}
 use Rattle.protocol.proofs.SequenceLaws.{map-append}
-use Rattle.agreement.specs.Group.{messageIn, valueOf, bytesOf, heard, Group, CallAt, fresh, did, blocksAfter, next, run, Comes, Calls}
+use Rattle.agreement.specs.Group.{messageIn, valueOf, heard, Group, CallAt, did, blocksAfter, next, run, Comes, Calls}
 use Rattle.agreement.proofs.View.{setup, Sound, meant, Owed}
-use Rattle.agreement.proofs.Replicas.{TypedCall, replicas}
+use Rattle.agreement.proofs.Replicas.{replicas}
 
 -- ---- the messages of the blocks handed out
 

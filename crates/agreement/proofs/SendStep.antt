@@ -31,7 +31,8 @@ use Rattle.protocol.specs.System as system
 use Rattle.protocol.specs.Machine.{Alike}
 use Rattle.agreement.specs.Group as group
 use Rattle.agreement.specs.Group.{messageIn, heard}
-use Rattle.agreement.proofs.View.{setup, txnOf, rowsFrom, openTxns, view, Sound, Owed, alike-same}
+use Rattle.agreement.proofs.View.{setup, txnOf, rowsFrom, openTxns, view, Sound, Owed}
+use Rattle.agreement.proofs.ClientStep.{refused-owes}
 use Rattle.agreement.proofs.RowView.{find-row}
 use Rattle.agreement.proofs.Sendable.{send-passed, asked-row, sendable}
 
@@ -116,7 +117,7 @@ alike-sent m =
 
 pub send-owes : (n : ℕ) (start : List ℤ) (m : Memory) → Sound n m → (b : List ℕ) → Owed n start m (send b) (step m (send b))
 unfolding heard sendRefusal sendNow
-send-owes n start m s b = send-by (Owed n start m (send b)) m b accepted (λ z. Owed.refuses (sendRefusal m b) (λ e. not-first 9 _ refl e) refl (alike-same (view m)))
+send-owes n start m s b = send-by (Owed n start m (send b)) m b accepted (λ z. refused-owes n start m (send b) (sendRefusal m b) (λ e. not-first 9 _ refl e))
   where
     accepted : sendRefusal m b ≡ 0 → Owed n start m (send b) (sendNow m)
     accepted e =

@@ -4,20 +4,18 @@ use mathlib.Core.Path.{_≡_, refl, sym, ap, _∙_}
 use mathlib.Core.Bool.{Bool, true, false, cond}
 use mathlib.Core.List.{List, [], _∷_}
 use native.Mathlib.Omega.{arith}
-use lib.Dec.{eqb}
 use lib.IntN.{ℤ, pos}
 use lib.ListN.{length, getD, set, replicate}
 use borrow.Author.Tests.{eqb-true, not-false}
 use Rattle.block.specs.Message.{Record, ownerOf, signed32}
 use Rattle.memory.specs.declared.Txn.{Txn}
 use Rattle.memory.specs.Memory.{Memory}
-use Rattle.memory.specs.Rows.{rowAt, writeCount, itemsOf, countBelow, insertAt}
+use Rattle.memory.specs.Rows.{writeCount, itemsOf, countBelow, insertAt}
 use Rattle.memory.specs.Turns.{markApplying, advance}
 use Rattle.engine.specs.Calls.{Outcome}
 use Rattle.engine.specs.Make.{madeMemory}
-use Rattle.engine.specs.Client.{rowNo, rowWith, isOwn, writeRefusal, beginAt, rewriteAt, insertWrite, staleAt, readOnlyAt, queueAt, withdrawAt, reportStep}
+use Rattle.engine.specs.Client.{rowNo, rowWith, beginAt, rewriteAt, insertWrite, staleAt, readOnlyAt, queueAt, withdrawAt, reportStep}
 use Rattle.engine.specs.Moves.{sendRefusal, sendNow, deliverNow, passNext, isLast, commitWriteset}
-use Rattle.engine.specs.Shape.{Shape, Shapes}
 use Rattle.engine.specs.Step.{Call, step}
 use Rattle.engine.specs.Step.Call.{begin, read, write, ask, withdraw, report, send, deliver, work}
 use Rattle.engine.proofs.Tests.{clash, same-by, less-by, passes}

@@ -1,12 +1,12 @@
 -- The memory of a replica as the protocol's model sees it, and what a call owes: the model's step, up to the order of the open transactions. Assumes nothing.
 use Prim.Native.Nat.{ℕ, suc, _+_, _*_, _%_}
 use mathlib.Core.Path.{_≡_, refl}
-use mathlib.Core.Bool.{Bool, true, cond}
+use mathlib.Core.Bool.{true, cond}
 use mathlib.Core.Option.{Option, none, some}
 use mathlib.Core.List.{List, [], _∷_, map}
 use lib.Dec.{eqb}
 use lib.IntN.{ℤ, pos}
-use lib.ListN.{length, getD}
+use lib.ListN.{getD}
 use lib.Seq.{slice}
 use Rattle.block.specs.Message.{ownerOf, signed32}
 use Rattle.block.specs.Writing.{entriesFrom}
@@ -19,7 +19,7 @@ use Rattle.engine.specs.Shape.{Shape}
 use Rattle.engine.specs.Step.{Call}
 use Rattle.engine.specs.Step.Call.{begin, read, write, ask, withdraw, report, send, deliver, work}
 use Rattle.protocol.specs.Writesets.{Write, Message}
-use Rattle.protocol.specs.Replica.{Setup, Transaction, transaction, Cursor, Store, transactions, Blocks, Replica, replica, Event, refused}
+use Rattle.protocol.specs.Replica.{Setup, Transaction, transaction, Cursor, Store, transactions, Blocks, Replica, replica, refused}
 use Rattle.protocol.specs.System.{step}
 use Rattle.protocol.specs.Machine.{Alike}
 use Rattle.agreement.specs.Group.{writeOf, messageIn, heard}

@@ -39,7 +39,8 @@ use Rattle.protocol.specs.Moves.{advance, cursorAfter, storeAfter, afterAborts,
 use Rattle.protocol.specs.System.{step}
 use Rattle.protocol.specs.Machine.{Alike}
 use Rattle.agreement.specs.Group.{writeOf, writesetOf, messageIn, heard}
-use Rattle.agreement.proofs.View.{setup, placeAt, openTxns, cursorOf, storeOf, blocksOf, view, Sound, Owed, refuses, follows, alike-same, txnOf}
+use Rattle.agreement.proofs.View.{setup, placeAt, openTxns, cursorOf, storeOf, blocksOf, view, Sound, Owed, follows, txnOf}
+use Rattle.agreement.proofs.ClientStep.{refused-owes}
 use Rattle.agreement.proofs.RowView.{find-row}
 use Rattle.agreement.proofs.RowChange.{SameMembers, row-closed}
 use Rattle.agreement.proofs.PlaceView.{place-taken, place-emptied}
@@ -249,7 +250,7 @@ owes-here : (start : List ℤ) (m : Memory) → Shape m → Owed (m .counts .rep
 unfolding heard
 owes-here start m S =
     work-by (Owed (m .counts .replicas) start m work) m (λ z h. next-owes start m S (working m S z) h) (λ z h. by-sender start m S (working m S z) h _ refl)
-    (λ z. refuses (workRefusal m) (never-nine m) refl (alike-same (view m)))
+    (λ z. refused-owes (m .counts .replicas) start m work (workRefusal m) (never-nine m))
 
 pub work-owes : (n : ℕ) (start : List ℤ) (m : Memory) → Sound n m → Owed n start m work (Rattle.engine.specs.Step.step m work)
 work-owes n start m s = subst (λ (k : ℕ). Owed k start m work (Rattle.engine.specs.Step.step m work)) (s .size) (owes-here start m (s .shape))

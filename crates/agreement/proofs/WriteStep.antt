@@ -35,7 +35,8 @@ use Rattle.protocol.specs.Replica.{Setup, Transaction, Store, transactions, Eve
 use Rattle.protocol.specs.Client.{ClientOutcome, answered, findTxn, without, withWrite, writeFound, writeStep}
 use Rattle.protocol.proofs.ListLaws.{any-true, and-true}
 use Rattle.agreement.specs.Group.{heard}
-use Rattle.agreement.proofs.View.{setup, txnOf, openTxns, storeOf, view, Sound, Owed, refuses, follows, alike-same}
+use Rattle.agreement.proofs.View.{setup, txnOf, openTxns, storeOf, view, Sound, Owed}
+use Rattle.agreement.proofs.ClientStep.{refused-owes, client-owes}
 use Rattle.agreement.proofs.RowView.{open-row, ticket-of, find-row}
 use Rattle.agreement.proofs.RowChange.{SameMembers, row-closed, Changed, row-changed}
 use Rattle.agreement.proofs.PutLaws.{writesOf, length-writes, has-writes, index-has, index-is, inserted, put-again, put-new, slice-same, slice-set, slice-insert, slice-beside}
@@ -115,19 +116,8 @@ owes-by : (n : ℕ) (start : List ℤ) (m : Memory) (t i : ℕ) (v : ℤ) (a : A
     → Owed n start m (write t i v) (outcome a (withTxns m (withAborted (m .counts) ended) y))
 unfolding Rattle.protocol.specs.System.step
 owes-by n start m t i v a y ended l e h s q g =
-    follows (rw h s)
-    (rw h (record {
-      own = refl;
-      cursor = refl;
-      commits = refl;
-      values = refl;
-      stamps = λ j. refl;
-      tickets = refl;
-      queue = ap waiting q;
-      there = g .there;
-      back = g .back;
-      places = λ p. refl;
-    }))
+    client-owes n start m (write t i v) (answered (transactions (m .counts .tickets) l (waiting (m .txns .queue))) e) (outcome a (withTxns m (withAborted (m .counts) ended) y))
+    (withAborted (m .counts) ended) y (rw h) s refl (record { own = refl; done = refl; commits = refl; tickets = refl; queue = ap waiting q; txns = g })
 
 -- ---- the row in the view
 
@@ -354,7 +344,6 @@ module _ (n : ℕ) (start : List ℤ) (m : Memory) (S : Shape m) (t i : ℕ) (v 
       refl refl (row-changed m S own (q .row) (grown m S t i v (q .row) a b) (longer m S t i v (q .row) a b) (withWrite t i v) (new m S t i v (q .row) a b))
 
 pub write-owes : (n : ℕ) (start : List ℤ) (m : Memory) → Sound n m → (t i : ℕ) (v : ℤ) → Owed n start m (write t i v) (step m (write t i v))
-unfolding heard
 write-owes n start m s t i v =
     write-by (Owed n start m (write t i v)) m t i v (stale-owes n start m (s .shape) t i v) (again-owes n start m (s .shape) t i v) (new-owes n start m (s .shape) t i v)
-    (λ k e. refuses (writeRefusal m t i) k refl (alike-same (view m)))
+    (λ k e. refused-owes n start m (write t i v) (writeRefusal m t i) k)

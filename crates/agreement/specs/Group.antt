@@ -1,16 +1,15 @@
 -- A group of replicas with its observer, and lists of calls.
-use Prim.Native.Nat.{ℕ, _<_, _≤_}
+use Prim.Native.Nat.{ℕ, _<_}
 use mathlib.Core.Path.{_≡_}
 use mathlib.Core.Bool.{true, cond}
 use mathlib.Core.List.{List, [], _∷_, _++_, map}
 use lib.Dec.{eqb}
 use lib.IntN.{ℤ, pos}
-use lib.ListN.{length}
 use Rattle.block.specs.declared.Entry.{Entry}
 use Rattle.block.specs.Message.{Record, signed32}
 use Rattle.block.specs.Form.{messageOf}
 use Rattle.memory.specs.Memory.{Memory}
-use Rattle.engine.specs.Calls.{Answer, Step, Outcome}
+use Rattle.engine.specs.Calls.{Answer, Outcome}
 use Rattle.engine.specs.Calls.Answer.{refused, made, began, got, wrote, queued, readOnly, withdrew, reported, sent, kept, worked}
 use Rattle.engine.specs.Make.{madeMemory}
 use Rattle.engine.specs.Step.{Call, step}

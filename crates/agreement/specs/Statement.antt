@@ -5,7 +5,6 @@ use mathlib.Core.Bool.{true}
 use mathlib.Core.List.{List, map}
 use lib.IntN.{ℤ, pos}
 use lib.ListN.{length, getD, take}
-use Rattle.memory.specs.Memory.{Memory}
 use Rattle.engine.specs.declared.Report.{Report}
 use Rattle.engine.specs.Calls.{Answer, Step}
 use Rattle.engine.specs.Calls.Answer.{refused, got, worked}
@@ -14,7 +13,7 @@ use Rattle.engine.specs.Step.{Call, step}
 use Rattle.engine.specs.Step.Call.{read, write, work}
 use Rattle.protocol.specs.Lists.{Mem}
 use Rattle.protocol.specs.Writesets.{Write, has, lookup, Disjoint}
-use Rattle.protocol.specs.Observer.{TxnId, Observed, Placed, Handout, sequence, idOf, applyAll, messageOf, noPlaced, noHandout}
+use Rattle.protocol.specs.Observer.{Observed, Placed, Handout, sequence, idOf, applyAll, messageOf, noPlaced, noHandout}
 use Rattle.agreement.specs.Group.{messageIn, Group, CallAt, fresh, run, Comes, Calls, Premise}
 
 -- the writeset at a place of the sequence, counted from 1

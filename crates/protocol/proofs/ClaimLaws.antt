@@ -1,15 +1,15 @@
 -- What is claimed of every call holds. Assumes nothing.
 use Prim.Native.Nat.{_<_, _≤_, ℕ}
 use mathlib.Core.Path.{_∙_, _≡_, ap, refl, subst, sym}
-use mathlib.Core.Bool.{_&&_, not, true}
+use mathlib.Core.Bool.{not, true}
 use mathlib.Core.Option.{some}
 use mathlib.Core.List.{List, List·Memᴰ·not-nil, [], _++_, _∷_, append-assoc, append-nil, map}
 use native.Mathlib.Omega.{arith}
 use lib.ListN.{List·getD-append, getD, length, length-append, take}
 use lib.Seq.{take-append-le}
-use lib.Dec.{eqb, leb, ltb}
+use lib.Dec.{eqb, leb}
 use borrow.Author.Tests.{eqb-false, eqb-true, not-true}
-use Rattle.protocol.specs.Lists.{Mem, keep, any}
+use Rattle.protocol.specs.Lists.{Mem, keep}
 use Rattle.protocol.specs.Writesets.{Write, has, lookup, shares, Writeset, Message, noWriteset}
 use Rattle.protocol.specs.Replica.{Setup, Transaction, Replica, Event, refused, began, got, wrote, requested, withdrew, reported, handedOut, accepted, passed, committed, Outcome}
 use Rattle.protocol.specs.Client.{ClientOutcome, findTxn, heldByOther, isStale, readStep, writeFound, writeStep}

@@ -1,5 +1,5 @@
 -- The two runs, computed from the definitions. Assumes nothing.
-use Prim.Native.Nat.{ℕ, _<_}
+use Prim.Native.Nat.{ℕ}
 use mathlib.Core.Path.{_≡_, refl, sym, ap, _∙_, subst}
 use mathlib.Core.Bool.{Bool, true, false, not, _&&_}
 use mathlib.Core.List.{List, [], _∷_, _++_}
@@ -31,7 +31,7 @@ use Rattle.protocol.specs.Lists.{Mem, any}
 use Rattle.protocol.specs.Observer.{sequence, applyAll}
 use Rattle.protocol.proofs.ListLaws.{any-true, any-false}
 use Rattle.agreement.specs.Group as group
-use Rattle.agreement.specs.Group.{Group, CallAt, fresh, run, did, next, Comes, Calls, Premise}
+use Rattle.agreement.specs.Group.{Group, CallAt, fresh, run, did, next, Calls, Premise}
 use Rattle.runs.specs.Worked.{zeros, story, forgery, after, Held, held, holding, storyValues, WorkedRuns}
 use Rattle.agreement.proofs.Theorem.{agreement}
 

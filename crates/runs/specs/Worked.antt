@@ -4,8 +4,6 @@ use mathlib.Core.Path.{_≡_}
 use mathlib.Core.List.{List, [], _∷_, _++_}
 use lib.IntN.{ℤ, pos}
 use lib.ListN.{replicate, set}
-use Rattle.block.specs.declared.Entry.{Entry}
-use Rattle.block.specs.Message.{Message}
 use Rattle.block.specs.Bytes.{blockOf}
 use Rattle.engine.specs.Client.{reportOf}
 use Rattle.engine.specs.Step.{Call}
