@@ -1,15 +1,18 @@
 -- Each answer of a begin, from the tests that lead to it. Assumes nothing.
-use Prim.Native.Nat.{ℕ, _+_, _*_, _≤_, _<_, min}
-use mathlib.Core.Path.{_≡_, refl, sym, ap, _∙_}
-use mathlib.Core.Bool.{true, false}
+use Prim.Native.Nat.{ℕ, _+_, _*_, _-_, _≤_, _<_, min}
+use mathlib.Core.Path.{_≡_}
 use mathlib.Core.List.{List}
-use borrow.Author.Tests.{eq-eqb, ne-eqb, lt-ltb, le-ltb, le-leb, lt-leb}
-use lib.IntN.{ℤ, pos}
-use lib.ListN.{length, getD, set}
-use lib.Seq.{slice, paste}
+use native.Mathlib.Omega.{arith}
+use borrow.Rule.Slice.PartMut.{putMid}
+use borrow.Author.Tests.{eq-eqb, ne-eqb, le-leb, lt-leb}
+use lib.IntN.{ℤ}
+use lib.ListN.{length, set, take, drop, length-drop}
+use lib.Seq.{paste, length-take-le}
 use Rattle.block.specs.Answers.{firstOf}
+use Rattle.block.proofs.ListLaws.{lent}
 use Rattle.memory.specs.Memory.{Memory, withTickets, withTxns}
 use Rattle.memory.specs.Rows.{freeRow}
+use Rattle.memory.proofs.RowLaws.{paste-back}
 use Rattle.engine.specs.Calls.{outcome}
 use Rattle.engine.specs.Calls.Answer.{refused, began}
 use Rattle.engine.specs.Client.{beginRefusal, beginAt, beginStep}
@@ -34,17 +37,26 @@ module _ (m : Memory) where
         unfolding beginStep beginRefusal firstOf
         begin-spent h = rw (eq-eqb (length (m .store .values)) 128 values, eq-eqb (length (m .txns .snapshots)) 768 snapshots, ← row, lt-leb 6 r free, le-leb 100000000 (m .counts .tickets) h)
 
-        -- s is what the snapshots became
-        pub begin-taken : m .counts .tickets < 100000000 → (s : List ℤ) → s ≡ paste (m .txns .snapshots) (128 * r) (m .store .values) 128
-            → outcome (began (m .counts .tickets + 1))
-            (withTxns m (withTickets (m .counts) (m .counts .tickets + 1))
-            (record {
-              table = set (m .txns .table) r (record { ticket = m .counts .tickets + 1; stage = 0; snapshot = m .counts .commits; writes = 0 });
-              queue = m .txns .queue;
-              items = m .txns .items;
-              writes = m .txns .writes;
-              snapshots = s;
-            }))
-            ≡ beginStep m
-        unfolding beginStep beginRefusal beginAt firstOf
-        begin-taken h s e = rw (eq-eqb (length (m .store .values)) 128 values, eq-eqb (length (m .txns .snapshots)) 768 snapshots, ← row, lt-leb 6 r free, lt-leb 100000000 (m .counts .tickets) h, e)
+        -- s is what the row's part of the snapshots became
+        module _ (s : List ℤ)
+            (copied : let p = lent (128 * r) (128 * r + 128) (m .txns .snapshots) in s ≡ paste p 0 (m .store .values) (min (length (m .store .values)) (length p))) where
+          snapshot-is : putMid (128 * r) (128 * r + 128 - 128 * r) (m .txns .snapshots) s ≡ paste (m .txns .snapshots) (128 * r) (m .store .values) 128
+          snapshot-is =
+              let l = m .txns .snapshots in
+              let k : 128 * r + 128 - 128 * r ≡ 128 = omega arith in
+              let e : length (take 128 (drop (128 * r) l)) ≡ 128 = length-take-le 128 (drop (128 * r) l) (omega (arith, length-drop (128 * r) l)) in
+              rw (copied, k, e, values) (paste-back l (128 * r) 128 (m .store .values))
+
+          pub begin-taken : m .counts .tickets < 100000000
+              → outcome (began (m .counts .tickets + 1))
+              (withTxns m (withTickets (m .counts) (m .counts .tickets + 1))
+              (record {
+                table = set (m .txns .table) r (record { ticket = m .counts .tickets + 1; stage = 0; snapshot = m .counts .commits; writes = 0 });
+                queue = m .txns .queue;
+                items = m .txns .items;
+                writes = m .txns .writes;
+                snapshots = putMid (128 * r) (128 * r + 128 - 128 * r) (m .txns .snapshots) s;
+              }))
+              ≡ beginStep m
+          unfolding beginStep beginRefusal beginAt firstOf
+          begin-taken h = rw (eq-eqb (length (m .store .values)) 128 values, eq-eqb (length (m .txns .snapshots)) 768 snapshots, ← row, lt-leb 6 r free, lt-leb 100000000 (m .counts .tickets) h, snapshot-is)

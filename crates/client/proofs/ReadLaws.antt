@@ -1,19 +1,19 @@
 -- Each answer of a read, from the tests that lead to it. Assumes nothing.
 use Prim.Native.Nat.{ℕ, _+_, _*_, _≤_, _<_, min}
-use mathlib.Core.Path.{_≡_, refl, sym, ap, _∙_}
-use mathlib.Core.Bool.{true, false}
-use mathlib.Core.List.{List}
+use mathlib.Core.Path.{_≡_, ap, _∙_}
+use native.Mathlib.Omega.{arith}
 use borrow.Author.Tests.{eq-eqb, ne-eqb, lt-ltb, le-ltb, le-leb, lt-leb}
 use lib.IntN.{ℤ, pos}
 use lib.ListN.{length, getD}
 use lib.Seq.{slice}
 use Rattle.block.specs.Answers.{firstOf}
+use Rattle.block.proofs.ListLaws.{lent, lent-slice}
 use Rattle.memory.specs.declared.Txn.{Txn}
 use Rattle.memory.specs.Memory.{Memory}
-use Rattle.memory.specs.Rows.{rowOf, rowAt, writeCount, indexOf}
+use Rattle.memory.specs.Rows.{rowOf, rowAt, indexOf}
 use Rattle.engine.specs.Calls.{outcome}
 use Rattle.engine.specs.Calls.Answer.{refused, got}
-use Rattle.engine.specs.Client.{rowNo, readRefusal, valueFor, readStep}
+use Rattle.engine.specs.Client.{readRefusal, valueFor, readStep}
 
 module _ (m : Memory) (ticket item : ℕ) where
   pub read-items : (length (m .txns .items) ≡ 48 → ⊥) → outcome (refused 1) m ≡ readStep m ticket item
@@ -45,15 +45,18 @@ module _ (m : Memory) (ticket item : ℕ) where
             unfolding readStep readRefusal firstOf
             read-asked h = rw (eq-eqb (length (m .txns .items)) 48 items, eq-eqb (length (m .txns .writes)) 48 writes, eq-eqb (length (m .txns .snapshots)) 768 snapshots, lt-leb 128 item low, ← row, lt-leb 6 r there, ← at, ne-eqb (t .stage) 0 h)
 
-            module _ (active : t .stage ≡ 0) (n k : ℕ) (count : n ≡ min (t .writes) 8) (index : k ≡ indexOf item (slice (8 * r) (8 * r + n) (m .txns .items))) where
+            module _ (active : t .stage ≡ 0) (n k : ℕ) (count : n ≡ min (t .writes) 8) (index : k ≡ indexOf item (lent (8 * r) (8 * r + n) (m .txns .items))) where
+              place : k ≡ indexOf item (slice (8 * r) (8 * r + n) (m .txns .items))
+              place = index ∙ ap (indexOf item) (lent-slice (8 * r) (8 * r + n) (m .txns .items) (omega arith))
+
               accepted : outcome (got (valueFor m ticket item)) m ≡ readStep m ticket item
               unfolding readStep readRefusal firstOf
               accepted = rw (eq-eqb (length (m .txns .items)) 48 items, eq-eqb (length (m .txns .writes)) 48 writes, eq-eqb (length (m .txns .snapshots)) 768 snapshots, lt-leb 128 item low, ← row, lt-leb 6 r there, ← at, eq-eqb (t .stage) 0 active)
 
               pub read-own : k < n → (v : ℤ) → v ≡ getD (m .txns .writes) (8 * r + k) (pos 0) → outcome (got v) m ≡ readStep m ticket item
               unfolding valueFor
-              read-own h v e = rw (e) (ap (λ (x : ℤ). outcome (got x) m) (rw (← row, ← at, ← count, ← index, lt-ltb k n h)) ∙ accepted)
+              read-own h v e = rw (e) (ap (λ (x : ℤ). outcome (got x) m) (rw (← row, ← at, ← count, ← place, lt-ltb k n h)) ∙ accepted)
 
               pub read-old : n ≤ k → (v : ℤ) → v ≡ getD (m .txns .snapshots) (128 * r + item) (pos 0) → outcome (got v) m ≡ readStep m ticket item
               unfolding valueFor
-              read-old h v e = rw (e) (ap (λ (x : ℤ). outcome (got x) m) (rw (← row, ← at, ← count, ← index, le-ltb k n h)) ∙ accepted)
+              read-old h v e = rw (e) (ap (λ (x : ℤ). outcome (got x) m) (rw (← row, ← at, ← count, ← place, le-ltb k n h)) ∙ accepted)

@@ -1,21 +1,24 @@
 -- Each answer of a write, from the tests that lead to it: first those before the row's own writes are looked at, then those at the row. Assumes nothing.
-use Prim.Native.Nat.{ℕ, _+_, _*_, _-_, _≤_, _<_, min}
-use mathlib.Core.Path.{_≡_, refl, sym, ap, _∙_}
+use Prim.Native.Nat.{ℕ, suc, _+_, _*_, _-_, _≤_, _<_, min}
+use mathlib.Core.Path.{_≡_, refl, ap, _∙_}
 use mathlib.Core.Bool.{Bool, true, false, cond, _&&_}
 use mathlib.Core.List.{List, [], _∷_}
 use native.Mathlib.Omega.{arith}
+use borrow.Rule.Slice.PartMut.{putMid}
 use borrow.Author.Tests.{eq-eqb, ne-eqb, lt-ltb, le-ltb, le-leb, lt-leb, eqb-true}
 use lib.Dec.{eqb, leb}
-use lib.IntN.{ℤ, pos}
-use lib.ListN.{length, getD, set}
+use lib.IntN.{ℤ}
+use lib.ListN.{length, getD, set, drop, length-take}
 use lib.Seq.{slice}
-use Rattle.block.specs.Answers.{Refusal, refuse, firstOf}
+use Rattle.block.specs.Answers.{refuse, firstOf}
 use Rattle.block.proofs.BoolLaws.{both}
+use Rattle.block.proofs.ListLaws.{lent, lent-slice}
 use Rattle.memory.specs.declared.Txn.{Txn}
 use Rattle.memory.specs.declared.Held.{Held}
 use Rattle.memory.specs.declared.Held.the-variants.{By, Nobody}
 use Rattle.memory.specs.Memory.{Memory, withTxns}
-use Rattle.memory.specs.Rows.{rowOf, rowAt, indexOf, holderOf, isHeld, countBelow, insertAt}
+use Rattle.memory.specs.Rows.{rowOf, rowAt, indexOf, holderOf, countBelow, shiftIn}
+use Rattle.memory.proofs.RowLaws.{below-within, insert-back}
 use Rattle.engine.specs.Calls.{Outcome, outcome, unless}
 use Rattle.engine.specs.Calls.Answer.{refused, wrote}
 use Rattle.engine.specs.Client.{isOwn, heldByOther, isStale, isFull, writeRefusal, rewriteAt, insertWrite, staleAt, writeStep}
@@ -87,25 +90,28 @@ module _ (m : Memory) (ticket item : ℕ) (value : ℤ) where
 -- ---- at the row
 
 module _ (m : Memory) (r item : ℕ) (value : ℤ) (n k : ℕ) (count : n ≡ min (rowAt (m .txns .table) r .writes) 8)
-    (index : k ≡ indexOf item (slice (8 * r) (8 * r + n) (m .txns .items))) where
+    (index : k ≡ indexOf item (lent (8 * r) (8 * r + n) (m .txns .items))) where
+  place : k ≡ indexOf item (slice (8 * r) (8 * r + n) (m .txns .items))
+  place = index ∙ ap (indexOf item) (lent-slice (8 * r) (8 * r + n) (m .txns .items) (omega arith))
+
   pub write-mine : k < n → rewriteAt m r k value ≡ writeRow m r item value
   unfolding writeRow
-  write-mine h = rw (← count, ← index, lt-ltb k n h)
+  write-mine h = rw (← count, ← place, lt-ltb k n h)
 
   module _ (new : n ≤ k) (o : Held) (holder : o ≡ holderOf (m .txns .table) (m .txns .items) r item) where
     pub write-held : (i : ℕ) → o ≡ By i → outcome (refused 8) m ≡ writeRow m r item value
     unfolding writeRow
-    write-held i h = rw (← count, ← index, le-ltb k n new, ← holder, h)
+    write-held i h = rw (← count, ← place, le-ltb k n new, ← holder, h)
 
     module _ (none : o ≡ Nobody) where
       pub write-stale : rowAt (m .txns .table) r .snapshot < getD (m .store .stamps) item 0 → staleAt m r ≡ writeRow m r item value
       unfolding writeRow
-      write-stale h = rw (← count, ← index, le-ltb k n new, ← holder, none, lt-ltb (rowAt (m .txns .table) r .snapshot) (getD (m .store .stamps) item 0) h)
+      write-stale h = rw (← count, ← place, le-ltb k n new, ← holder, none, lt-ltb (rowAt (m .txns .table) r .snapshot) (getD (m .store .stamps) item 0) h)
 
       module _ (newer : getD (m .store .stamps) item 0 ≤ rowAt (m .txns .table) r .snapshot) where
         pub write-full : n ≡ 8 → outcome (refused 10) m ≡ writeRow m r item value
         unfolding writeRow
-        write-full e = rw (← count, ← index, le-ltb k n new, ← holder, none, le-ltb (rowAt (m .txns .table) r .snapshot) (getD (m .store .stamps) item 0) newer, eq-eqb n 8 e)
+        write-full e = rw (← count, ← place, le-ltb k n new, ← holder, none, le-ltb (rowAt (m .txns .table) r .snapshot) (getD (m .store .stamps) item 0) newer, eq-eqb n 8 e)
 
         -- o′ is what table, items and values became
         pub write-new : (n ≡ 8 → ⊥) → (o′ : Inserted) → o′ ≡ insertIn (m .txns .table) (m .txns .items) (m .txns .writes) r item value
@@ -113,16 +119,32 @@ module _ (m : Memory) (r item : ℕ) (value : ℤ) (n k : ℕ) (count : n ≡ mi
             ≡ writeRow m r item value
         unfolding writeRow insertWrite insertIn
         write-new e o′ q =
-            rw (q, ← count, ← index, le-ltb k n new, ← holder, none, le-ltb (rowAt (m .txns .table) r .snapshot) (getD (m .store .stamps) item 0) newer, ne-eqb n 8 e)
+            rw (q, ← count, ← place, le-ltb k n new, ← holder, none, le-ltb (rowAt (m .txns .table) r .snapshot) (getD (m .store .stamps) item 0) newer, ne-eqb n 8 e)
 
--- what `insert` leaves
+-- ---- a new item: it stands among the row's n items or behind them
+
+pub below-lent : (x f n : ℕ) (l : List ℕ) → countBelow x (lent f (f + n) l) 0 ≤ n
+below-lent x f n l = omega (arith, below-within x (lent f (f + n) l) 0, length-take (f + n - f) (drop f l))
+
+-- what `insert` leaves; is and ws are what the lent parts became
 pub insert-made : (table : List Txn) (items : List ℕ) (writes : List ℤ) (r item : ℕ) (value : ℤ) (n p : ℕ) (is : List ℕ) (ws : List ℤ)
-    → n ≡ min (rowAt table r .writes) 8 → p ≡ countBelow item (slice (8 * r) (8 * r + n) items) 0
-    → is ≡ insertAt (8 * r + p) (n - p) item items → ws ≡ insertAt (8 * r + p) (n - p) value writes
+    → n ≡ min (rowAt table r .writes) 8 → p ≡ countBelow item (lent (8 * r) (8 * r + n) items) 0 → 8 * r + n < length items → 8 * r + n < length writes
+    → is ≡ shiftIn item (lent (8 * r + p) (8 * r + n + 1) items) → ws ≡ shiftIn value (lent (8 * r + p) (8 * r + n + 1) writes)
     → inserted
     (set table r (record { ticket = rowAt table r .ticket; stage = rowAt table r .stage; snapshot = rowAt table r .snapshot; writes = n + 1 }))
-    is
-    ws
+    (putMid (8 * r + p) (8 * r + n + 1 - (8 * r + p)) items is)
+    (putMid (8 * r + p) (8 * r + n + 1 - (8 * r + p)) writes ws)
     ≡ insertIn table items writes r item value
 unfolding insertIn
-insert-made table items writes r item value n p is ws count place i w = rw (← count, ← place, i, w)
+insert-made table items writes r item value n p is ws count place h g i w =
+    let b : p ≤ n = omega (arith, below-lent item (8 * r) n items) in
+    let k : 8 * r + n + 1 - (8 * r + p) ≡ suc (n - p) = omega arith in
+    rw (
+      i,
+      w,
+      insert-back items (8 * r + p) (n - p) (8 * r + n + 1 - (8 * r + p)) k (omega arith) item,
+      insert-back writes (8 * r + p) (n - p) (8 * r + n + 1 - (8 * r + p)) k (omega arith) value,
+      ← count,
+      ← lent-slice (8 * r) (8 * r + n) items (omega arith),
+      ← place,
+    )

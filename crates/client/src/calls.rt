@@ -69,7 +69,8 @@ pub fn begin(table: [Txn; 6], counts: Counts, values: &[i32], snapshots: &mut [i
         };
     }
     let ticket = counts.tickets + 1;
-    copy_values(values, &mut *snapshots, 128 * row);
+    let from = 128 * row;
+    copy_values(values, &mut snapshots[from..from + 128]);
     let mut rows = table;
     rows[row] = Txn {
         ticket: ticket,
@@ -119,7 +120,7 @@ pub fn read(
     }
     let n = write_count(t.writes);
     let from = 8 * row;
-    let k = index_of(items, from, n, item as u8);
+    let k = index_of(&items[from..from + n], item as u8);
     if k < n {
         return ReadAnswer::Value(writes[from + k]);
     }
@@ -187,9 +188,10 @@ fn insert(
     let t = table[row];
     let n = write_count(t.writes);
     let from = 8 * row;
-    let p = count_below(&*items, from, n, item);
-    insert_item(&mut *items, from + p, n - p, item);
-    insert_value(&mut *writes, from + p, n - p, value);
+    let end = from + n;
+    let at = from + count_below(&items[from..end], item);
+    insert_item(&mut items[at..end + 1], item);
+    insert_value(&mut writes[at..end + 1], value);
     let mut rows = table;
     rows[row] = Txn {
         ticket: t.ticket,
@@ -217,7 +219,7 @@ fn write_at(
     let t = table[row];
     let n = write_count(t.writes);
     let from = 8 * row;
-    let k = index_of(&*items, from, n, item);
+    let k = index_of(&items[from..from + n], item);
     if k < n {
         writes[from + k] = value;
         return accepted(table, counts);

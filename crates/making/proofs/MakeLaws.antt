@@ -1,13 +1,13 @@
 -- Each answer of a make, from the tests that lead to it. Assumes nothing.
-use Prim.Native.Nat.{ℕ, _*_, _≤_, _<_}
+use Prim.Native.Nat.{ℕ, _*_, _≤_, _<_, min}
 use mathlib.Core.Path.{_≡_, refl, sym, ap, _∙_}
 use mathlib.Core.Bool.{Bool, true, false, not, _&&_, _||_, true≢false}
-use mathlib.Core.List.{List, [], _++_, append-nil}
+use mathlib.Core.List.{List, append-nil}
 use native.Mathlib.Omega.{arith}
 use borrow.Author.Tests.{eq-eqb, ne-eqb, le-leb, lt-leb, eqb-true, leb-true, leb-false, not-false}
 use lib.Dec.{eqb, leb}
 use lib.IntN.{ℤ, pos}
-use lib.ListN.{length, replicate, take, drop, drop-of-length-le}
+use lib.ListN.{length, replicate, drop-of-length-le}
 use lib.Seq.{paste, take-all}
 use Rattle.block.specs.Answers.{firstOf}
 use Rattle.block.specs.Message.{within}
@@ -48,8 +48,8 @@ slices-long m h =
     }
 
 -- 128 values copied over 128
-paste-whole : (d l : List ℤ) → length d ≡ 128 → length l ≡ 128 → paste d 0 l 128 ≡ l
-paste-whole d l h k = rw (take-all 128 l (omega arith), drop-of-length-le d {i = 128} (omega arith)) (append-nil l)
+paste-whole : (d l : List ℤ) → length d ≡ 128 → length l ≡ 128 → paste d 0 l (min (length l) (length d)) ≡ l
+paste-whole d l h k = rw (k, h, take-all 128 l (omega arith), drop-of-length-le d {i = 128} (omega arith)) (append-nil l)
 
 made-is : (n own : ℕ) (values : List ℤ) {q i : List ℕ} {w s v : List ℤ} {t p o : List ℕ} → q ≡ replicate 6 0 → i ≡ replicate 48 0 → w ≡ replicate 48 (pos 0)
     → s ≡ replicate 768 (pos 0) → v ≡ values → t ≡ replicate 128 0 → p ≡ replicate (512 * n) 0 → o ≡ replicate 512 0
@@ -130,7 +130,7 @@ module _ (q i : List ℕ) (w s v : List ℤ) (t p o : List ℕ) (n own : ℕ) (v
   -- what the functions that clear and copy leave of the lent slices
   pub make-taken : k ≡ 0 → (q′ i′ : List ℕ) (w′ s′ v′ : List ℤ) (t′ p′ o′ : List ℕ)
       → q′ ≡ replicate (length q) 0 → i′ ≡ replicate (length i) 0 → w′ ≡ replicate (length w) (pos 0) → s′ ≡ replicate (length s) (pos 0)
-      → v′ ≡ paste v 0 values 128 → t′ ≡ replicate (length t) 0 → p′ ≡ replicate (length p) 0 → o′ ≡ replicate (length o) 0
+      → v′ ≡ paste v 0 values (min (length values) (length v)) → t′ ≡ replicate (length t) 0 → p′ ≡ replicate (length p) 0 → o′ ≡ replicate (length o) 0
       → outcome made (allParts turnZero (countsFor n own) (replicate 6 closed) q′ i′ w′ s′ v′ t′ p′ o′) ≡ makeStep (slices q i w s v t p o) n own values
   unfolding makeStep
   make-taken h q′ i′ w′ s′ v′ t′ p′ o′ eq ei ew es ev et ep eo =

@@ -174,7 +174,7 @@ pub fn make(
     clear_bytes(&mut *items);
     clear_values(&mut *writes);
     clear_values(&mut *snapshots);
-    copy_values(start, &mut *values, 0);
+    copy_values(start, &mut *values);
     clear_numbers(&mut *stamps);
     clear_bytes(&mut *places);
     clear_bytes(&mut *outbox);

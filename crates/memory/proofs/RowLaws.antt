@@ -1,61 +1,72 @@
 -- One step of each recursion over the rows and their writes, from a place in the whole list, and one turn of each loop that stores. Assumes nothing.
-use Prim.Native.Nat.{ℕ, zero, suc, _+_, _-_, _*_, _≤_, _<_, min}
-use mathlib.Core.Path.{_≡_, refl, sym, _∙_}
+use Prim.Native.Nat.{ℕ, zero, suc, _+_, _*_, _≤_, _<_, min}
+use mathlib.Core.Path.{_≡_, refl, sym, ap, _∙_}
 use mathlib.Core.Bool.{Bool, true, false, cond}
-use mathlib.Core.List.{List, [], _∷_, _++_, append-nil}
-use native.Mathlib.Nat.{add-zero, not-suc-le-zero, le-of-suc-le-suc}
+use mathlib.Core.List.{List, [], _∷_, _++_, append-assoc, append-nil}
+use native.Mathlib.Nat.{zero-add, zero-min, min-zero, suc-min-suc, not-suc-le-zero, le-of-suc-le-suc}
 use native.Mathlib.Numerals.{add-one}
 use native.Mathlib.Omega.{arith}
+use borrow.Rule.Slice.PartMut.{putMid}
 use borrow.Author.Tests.{eq-eqb, ne-eqb, lt-ltb, le-ltb}
-use lib.Dec.{eqb, ltb}
-use lib.ListN.{length, getD, set, take, drop, replicate, length-append, take-append-drop, List·getD-append}
-use lib.Seq.{slice, slice-cons, slice-empty, drop-cons, drop-length, drop-at, take-append-le, take-take, getD-take, set-split, length-take-le}
+use lib.Dec.{ltb}
+use lib.ListN.{length, getD, set, take, drop, replicate, length-take, length-drop, drop-of-length-le}
+use lib.Seq.{slice, paste, paste-suc, slice-cons, drop-cons, drop-length, drop-drop, take-take, getD-at, length-take-le}
+use Rattle.block.proofs.ListLaws.{take-drop}
 use Rattle.memory.specs.declared.Held.the-variants.{By, Nobody}
 use Rattle.memory.specs.declared.Txn.{Txn}
-use Rattle.memory.specs.Rows.{openCount, rowFrom, indexFrom, has, holderFrom, countBelow, insertAt}
+use Rattle.memory.specs.Rows.{openCount, rowFrom, indexFrom, has, holderFrom, countBelow, shiftIn, insertAt}
+
+-- ---- a list from place k on
+
+module _ (l : List ℕ) (k : ℕ) (h : k < length l) (x : ℕ) where
+  pub index-found : (i : ℕ) → getD l k 0 ≡ x → indexFrom x (drop k l) i ≡ i
+  unfolding indexFrom
+  index-found i e = rw (drop-cons l k 0 h, eq-eqb (getD l k 0) x e)
+
+  pub index-next : (i : ℕ) → (getD l k 0 ≡ x → ⊥) → indexFrom x (drop k l) i ≡ indexFrom x (drop (k + 1) l) (i + 1)
+  unfolding indexFrom
+  index-next i e = rw (drop-cons l k 0 h, ne-eqb (getD l k 0) x e, add-one i, add-one k)
+
+  pub below-stop : (i : ℕ) → x ≤ getD l k 0 → countBelow x (drop k l) i ≡ i
+  unfolding countBelow
+  below-stop i e = rw (drop-cons l k 0 h, le-ltb (getD l k 0) x e)
+
+  pub below-next : (i : ℕ) → getD l k 0 < x → countBelow x (drop k l) i ≡ countBelow x (drop (k + 1) l) (i + 1)
+  unfolding countBelow
+  below-next i e = rw (drop-cons l k 0 h, lt-ltb (getD l k 0) x e, add-one i, add-one k)
+
+module _ (l : List ℕ) (x i : ℕ) where
+  pub index-end : indexFrom x (drop (length l) l) i ≡ i
+  unfolding indexFrom
+  index-end = rw (drop-length l)
+
+  pub below-end : countBelow x (drop (length l) l) i ≡ i
+  unfolding countBelow
+  below-end = rw (drop-length l)
 
 -- ---- the part of a list from place k up to place t
 
-module _ (l : List ℕ) (k t : ℕ) (h : k < t) (fits : t ≤ length l) (x : ℕ) where
-  part-cons : slice k t l ≡ getD l k 0 ∷ slice (k + 1) t l
-  part-cons = rw (add-one k) (slice-cons k t l 0 h fits)
+module _ (l : List ℕ) (k t x : ℕ) where
+  part-cons : k < t → t ≤ length l → slice k t l ≡ getD l k 0 ∷ slice (k + 1) t l
+  part-cons h fits = rw (add-one k) (slice-cons k t l 0 h fits)
 
-  pub index-found : (i : ℕ) → getD l k 0 ≡ x → indexFrom x (slice k t l) i ≡ i
-  unfolding indexFrom
-  index-found i e = rw (part-cons, eq-eqb (getD l k 0) x e)
-
-  pub index-next : (i : ℕ) → (getD l k 0 ≡ x → ⊥) → indexFrom x (slice k t l) i ≡ indexFrom x (slice (k + 1) t l) (i + 1)
-  unfolding indexFrom
-  index-next i e = rw (part-cons, ne-eqb (getD l k 0) x e, add-one i)
-
-  pub has-found : getD l k 0 ≡ x → has x (slice k t l) ≡ true
+  pub has-found : k < t → t ≤ length l → getD l k 0 ≡ x → has x (slice k t l) ≡ true
   unfolding has
-  has-found e = rw (part-cons, eq-eqb (getD l k 0) x e)
+  has-found h fits e = rw (part-cons h fits, eq-eqb (getD l k 0) x e)
 
-  pub has-next : (getD l k 0 ≡ x → ⊥) → has x (slice k t l) ≡ has x (slice (k + 1) t l)
+  pub has-next : k < t → t ≤ length l → (getD l k 0 ≡ x → ⊥) → has x (slice k t l) ≡ has x (slice (k + 1) t l)
   unfolding has
-  has-next e = rw (part-cons, ne-eqb (getD l k 0) x e)
+  has-next h fits e = rw (part-cons h fits, ne-eqb (getD l k 0) x e)
 
-  pub below-stop : (i : ℕ) → x ≤ getD l k 0 → countBelow x (slice k t l) i ≡ i
-  unfolding countBelow
-  below-stop i e = rw (part-cons, le-ltb (getD l k 0) x e)
-
-  pub below-next : (i : ℕ) → getD l k 0 < x → countBelow x (slice k t l) i ≡ countBelow x (slice (k + 1) t l) (i + 1)
-  unfolding countBelow
-  below-next i e = rw (part-cons, lt-ltb (getD l k 0) x e, add-one i)
-
-module _ (l : List ℕ) (t x : ℕ) where
-  pub index-end : (i : ℕ) → indexFrom x (slice t t l) i ≡ i
-  unfolding indexFrom
-  index-end i = rw (slice-empty t l)
-
-  pub has-end : has x (slice t t l) ≡ false
+  pub has-end : t ≤ k → has x (slice k t l) ≡ false
   unfolding has
-  has-end = rw (slice-empty t l)
+  has-end h = rw (drop-of-length-le (take t l) {i = k} (omega (arith, length-take t l)))
 
-  pub below-end : (i : ℕ) → countBelow x (slice t t l) i ≡ i
-  unfolding countBelow
-  below-end i = rw (slice-empty t l)
+-- what is taken ends where its list does
+take-within : {A : Type 0} (t : ℕ) (l : List A) → take (min t (length l)) l ≡ take t l
+take-within zero l = rw (zero-min (length l))
+take-within (suc t) [] = rw (min-zero (suc t))
+take-within (suc t) (x ∷ l) = rw (suc-min-suc t (length l), take-within t l)
 
 -- ---- the rows from row i on
 
@@ -86,12 +97,12 @@ module _ (d : Txn) (rows : List Txn) (i : ℕ) (h : i < length rows) where
     unfolding holderFrom
     holder-closed e z = rw (drop-cons rows i d h, ne-eqb i me e, eq-eqb (getD rows i d .ticket) 0 z, add-one i)
 
-    pub holder-open : (i ≡ me → ⊥) → (getD rows i d .ticket ≡ 0 → ⊥) → (n : ℕ) → n ≡ min (getD rows i d .writes) 8
+    pub holder-open : (i ≡ me → ⊥) → (getD rows i d .ticket ≡ 0 → ⊥) → (n end : ℕ) → n ≡ min (getD rows i d .writes) 8 → end ≡ min (8 * i + n) (length items)
         → holderFrom items me item i (drop i rows)
-        ≡ cond (has item (slice (8 * i + 0) (8 * i + n) items)) (By i) (holderFrom items me item (i + 1) (drop (i + 1) rows))
+        ≡ cond (has item (slice (8 * i) end items)) (By i) (holderFrom items me item (i + 1) (drop (i + 1) rows))
     unfolding holderFrom
-    holder-open e z n q =
-        rw (drop-cons rows i d h, ne-eqb i me e, ne-eqb (getD rows i d .ticket) 0 z, q, add-zero (8 * i), add-one i)
+    holder-open e z n end q r =
+        rw (drop-cons rows i d h, ne-eqb i me e, ne-eqb (getD rows i d .ticket) 0 z, r, take-within (8 * i + n) items, q, add-one i)
 
 module _ (rows : List Txn) (i : ℕ) (e : length rows ≡ i) where
   pub row-end : (k : ℕ) → rowFrom k i (drop i rows) ≡ i
@@ -123,35 +134,38 @@ module _ {A : Type 0} (l : List A) where
   pub fill-end : (x : A) → filled l x (length l) ≡ replicate (length l) x
   fill-end x = rw (drop-length l) (append-nil (replicate (length l) x))
 
-  -- ---- the n elements from place at on moved up by one, down to the one at place at + j, which stands twice
+  -- ---- a list whose first j elements are those of s
 
-  abbrev pub shifted : ℕ → ℕ → ℕ → List A
-  shifted at n j = take (at + j + 1) l ++ (slice (at + j) (at + n) l ++ drop (at + n + 1) l)
+  pub paste-turn : (s : List A) (j : ℕ) (d : A) → j < length l → j < length s → set (paste l 0 s j) j (getD s j d) ≡ paste l 0 s (j + 1)
+  paste-turn s j d h k =
+      ap (λ (i : ℕ). set (paste l 0 s j) i (getD s j d)) (sym (zero-add j))
+      ∙ paste-suc l 0 s j d (omega arith) k
+      ∙ ap (paste l 0 s) (sym (add-one j))
 
-  shift-put : (r : List A) (i : ℕ) (a : A) → i < length l → set (take (i + 1) l ++ r) i a ≡ take i l ++ (a ∷ r)
-  shift-put r i a h =
-      let e : length (take (i + 1) l) ≡ i + 1 = length-take-le (i + 1) l (omega arith) in
-      set-split (take (i + 1) l ++ r) i a (omega (arith, length-append (take (i + 1) l) r))
-      ∙ rw (take-append-le i (take (i + 1) l) r (omega arith), take-take i (i + 1) l (omega arith), ← add-one i, drop-at (take (i + 1) l) r (i + 1) e)
+  -- ---- the same, of x and the list itself: the element that the next store overwrites is the one to store after it
 
-  module _ (at n : ℕ) (h : at + n < length l) where
-    pub shift-none : l ≡ shifted at n n
-    shift-none = rw (slice-empty (at + n) l) (sym (take-append-drop (at + n + 1) l))
+  pub shift-next : (x : A) (j : ℕ) (d : A) → j < length l → getD (paste l 0 (x ∷ l) j) j d ≡ getD (x ∷ l) (j + 1) d
+  shift-next x j d h =
+      rw (add-one j, zero-add j, drop-cons l j d h)
+      (getD-at (take j (x ∷ l)) (getD l j d) (drop (suc j) l) d j (length-take-le j (x ∷ l) (omega arith)))
 
-    pub shift-turn : (j : ℕ) (d : A) → 0 < j → j ≤ n → set (shifted at n j) (at + j) (getD (shifted at n j) (at + j - 1) d) ≡ shifted at n (j - 1)
-    shift-turn j d p q =
-        let r : List A = slice (at + j) (at + n) l ++ drop (at + n + 1) l in
-        let e : length (take (at + j + 1) l) ≡ at + j + 1 = length-take-le (at + j + 1) l (omega arith) in
-        let k : at + (j - 1) ≡ at + j - 1 = omega arith in
-        let s : at + j - 1 + 1 ≡ at + j = omega arith in
-        let g : getD (shifted at n j) (at + j - 1) d ≡ getD l (at + j - 1) d =
-        List·getD-append (take (at + j + 1) l) r d (at + j - 1) (omega arith) ∙ getD-take (at + j + 1) l (at + j - 1) d (omega arith) in
-        let c : slice (at + j - 1) (at + n) l ≡ getD l (at + j - 1) d ∷ slice (at + j) (at + n) l =
-        slice-cons (at + j - 1) (at + n) l d (omega arith) (omega arith) ∙ rw (← add-one (at + j - 1), s) in
-        rw (g, k, s, c) (shift-put r (at + j) (getD l (at + j - 1) d) (omega arith))
+  pub shift-end : (x : A) → paste l 0 (x ∷ l) (length l) ≡ shiftIn x l
+  shift-end x = rw (zero-add (length l), drop-length l) (append-nil (take (length l) (x ∷ l)))
 
-    pub shift-end : (x : A) → set (shifted at n 0) at x ≡ insertAt at n x l
-    shift-end x = rw (add-zero at) (shift-put (slice at (at + n) l ++ drop (at + n + 1) l) at x (omega arith))
+-- ---- the part that a caller lent, back in its list
+
+module _ {A : Type 0} (l : List A) (at n : ℕ) where
+  -- of n + 1 elements
+  pub insert-back : (k : ℕ) → k ≡ suc n → at + n < length l → (x : A) → putMid at k l (shiftIn x (take k (drop at l))) ≡ insertAt at n x l
+  insert-back k e h x =
+      let f : length (take (suc n) (drop at l)) ≡ suc n = length-take-le (suc n) (drop at l) (omega (arith, length-drop at l)) in
+      let g : at + suc n ≡ at + n + 1 = omega arith in
+      rw (e, f, take-take n (suc n) (drop at l) (omega arith), take-drop n at l, drop-drop (suc n) at l, g)
+
+  pub paste-back : (s : List A) → putMid at n l (paste (take n (drop at l)) 0 s n) ≡ paste l at s n
+  paste-back s =
+      rw (zero-add n, drop-of-length-le (take n (drop at l)) {i = n} (omega (arith, length-take n (drop at l))), append-nil (take n s), drop-drop n at l)
+      (sym (append-assoc (take at l) (take n s) (drop (at + n) l)))
 
 -- ---- how far a search goes
 
@@ -159,18 +173,7 @@ cond-within : (b : Bool) (m n t : ℕ) → m ≤ t → n ≤ t → cond b m n �
 cond-within true m n t h k = h
 cond-within false m n t h k = k
 
-module _ (x : ℕ) where
-  pub index-within : (l : List ℕ) (i : ℕ) → indexFrom x l i ≤ i + length l
-  unfolding indexFrom
-  index-within [] i = omega arith
-  index-within (y ∷ l) i = cond-within (eqb y x) _ _ _ (omega arith) (omega (arith, index-within l (suc i)))
-
-  pub below-within : (l : List ℕ) (i : ℕ) → countBelow x l i ≤ i + length l
-  unfolding countBelow
-  below-within [] i = omega arith
-  below-within (y ∷ l) i = cond-within (ltb y x) _ _ _ (omega (arith, below-within l (suc i))) (omega arith)
-
-  pub row-within : (l : List Txn) (i : ℕ) → rowFrom x i l ≤ i + length l
-  unfolding rowFrom
-  row-within [] i = omega arith
-  row-within (t ∷ l) i = cond-within (eqb (t .ticket) x) _ _ _ (omega arith) (omega (arith, row-within l (suc i)))
+pub below-within : (x : ℕ) (l : List ℕ) (i : ℕ) → countBelow x l i ≤ i + length l
+unfolding countBelow
+below-within x [] i = omega arith
+below-within x (y ∷ l) i = cond-within (ltb y x) _ _ _ (omega (arith, below-within x l (suc i))) (omega arith)

@@ -76,6 +76,10 @@ unfoldable pub countBelow : ℕ → List ℕ → ℕ → ℕ
 countBelow x [] i = i
 countBelow x (y ∷ ys) i = cond (ltb y x) (countBelow x ys (suc i)) i
 
+-- x in front, the others moved up by one, the last one out; of no elements, none
+abbrev pub shiftIn : {A : Type 0} → A → List A → List A
+shiftIn x l = take (length l) (x ∷ l)
+
 -- x at the index, the n elements from there on moved up by one
 abbrev pub insertAt : {A : Type 0} → ℕ → ℕ → A → List A → List A
 insertAt at n x l = take at l ++ (x ∷ (slice at (at + n) l ++ drop (at + n + 1) l))

@@ -1,11 +1,11 @@
 // The rows of the table, the writes of each, and what is put where.
 ghost use mathlib.Core.Path.{_≡_};
-ghost use Prim.Native.Nat.{_+_, _*_, _≤_, _<_, min};
+ghost use Prim.Native.Nat.{min};
 ghost use lib.ListN.{length, replicate};
-ghost use lib.Seq.{slice, paste};
+ghost use lib.Seq.{paste};
 ghost use lib.IntN.{pos};
 ghost use Rattle.memory.specs.Memory.{bump};
-ghost use Rattle.memory.specs.Rows.{openCount, rowOf, freeRow, indexFrom, indexOf, holderOf, countBelow, insertAt};
+ghost use Rattle.memory.specs.Rows.{openCount, rowOf, freeRow, indexOf, holderOf, countBelow, shiftIn};
 use super::Held;
 use super::Txn;
 
@@ -68,14 +68,13 @@ pub fn write_count(writes: u8) -> usize
     if writes < 8 { writes as usize } else { 8 }
 }
 
-// Where the item first stands in the `n` from `from` on, counted from there; `n` where it does not.
-pub fn index_of(items: &[u8], from: usize, n: usize, item: u8) -> usize
-    requires { ⌜ from + n ≤ length (now items) ⌝ }
-    ensures { λ r. ⌜ r ≡ indexOf item (slice from (from + n) (now (items .entry))) ⌝ }
+// Where the item first stands; one past the last where it does not.
+pub fn index_of(items: &[u8], item: u8) -> usize
+    ensures { λ r. ⌜ r ≡ indexOf item (now (items .entry)) ⌝ }
 {
     let mut j: usize = 0;
-    while j < n {
-        if items[from + j] == item {
+    while j < items.len() {
+        if items[j] == item {
             return j;
         }
         j += 1;
@@ -83,14 +82,13 @@ pub fn index_of(items: &[u8], from: usize, n: usize, item: u8) -> usize
     j
 }
 
-// How many of the first of the `n` items from `from` on are below the item.
-pub fn count_below(items: &[u8], from: usize, n: usize, item: u8) -> usize
-    requires { ⌜ from + n ≤ length (now items) ⌝ }
-    ensures { λ r. ⌜ r ≡ countBelow item (slice from (from + n) (now (items .entry))) 0 ⌝ }
+// How many of the first items are below the item.
+pub fn count_below(items: &[u8], item: u8) -> usize
+    ensures { λ r. ⌜ r ≡ countBelow item (now (items .entry)) 0 ⌝ }
 {
     let mut j: usize = 0;
-    while j < n {
-        if items[from + j] >= item {
+    while j < items.len() {
+        if items[j] >= item {
             return j;
         }
         j += 1;
@@ -112,9 +110,15 @@ pub fn queue_end(queue: &[u32]) -> usize
     j
 }
 
+// The lesser of both: no index goes past the end of what is lent.
+fn lesser(a: usize, b: usize) -> usize
+    ensures { λ r. ⌜ r ≡ min a b ⌝ }
+{
+    if a < b { a } else { b }
+}
+
 // The first open row but `me` that has written the item.
 pub fn holder(table: [Txn; 6], items: &[u8], me: usize, item: u8) -> Held
-    requires { ⌜ length (now items) ≡ 48 ⌝ }
     ensures { λ r. ⌜ r ≡ holderOf table (now (items .entry)) me item ⌝ }
 {
     let mut found: usize = 6;
@@ -123,14 +127,14 @@ pub fn holder(table: [Txn; 6], items: &[u8], me: usize, item: u8) -> Held
         let t = table[i];
         if i != me {
             if t.ticket != 0 {
-                let n = write_count(t.writes);
-                let mut j: usize = 0;
-                while j < n {
-                    if items[8 * i + j] == item {
+                let mut k = 8 * i;
+                let end = lesser(k + write_count(t.writes), items.len());
+                while k < end {
+                    if items[k] == item {
                         found = i;
                         break 'search;
                     }
-                    j += 1;
+                    k += 1;
                 }
             }
         }
@@ -143,40 +147,42 @@ pub fn holder(table: [Txn; 6], items: &[u8], me: usize, item: u8) -> Held
     }
 }
 
-// The item at the index, with the `n` from there on moved up by one.
-pub fn insert_item(items: &mut [u8], at: usize, n: usize, item: u8)
-    requires { ⌜ at + n < length (now items) ⌝ }
-    ensures { λ _. ⌜ now (items .exit) ≡ insertAt at n item (now (items .entry)) ⌝ }
+// The item in front, the others moved up by one, the last one out.
+pub fn insert_item(items: &mut [u8], item: u8)
+    ensures { λ _. ⌜ now (items .exit) ≡ shiftIn item (now (items .entry)) ⌝ }
 {
-    let mut j = n;
-    while 0 < j {
-        items[at + j] = items[at + j - 1];
-        j -= 1;
-    }
-    items[at] = item;
-}
-
-pub fn insert_value(values: &mut [i32], at: usize, n: usize, value: i32)
-    requires { ⌜ at + n < length (now values) ⌝ }
-    ensures { λ _. ⌜ now (values .exit) ≡ insertAt at n value (now (values .entry)) ⌝ }
-{
-    let mut j = n;
-    while 0 < j {
-        values[at + j] = values[at + j - 1];
-        j -= 1;
-    }
-    values[at] = value;
-}
-
-// 128 values, from `from` on.
-pub fn copy_values(values: &[i32], to: &mut [i32], from: usize)
-    requires { ⌜ (length (now values) ≡ 128) × (from + 128 ≤ length (now to)) ⌝ }
-    ensures { λ _. ⌜ now (to .exit) ≡ paste (now (to .entry)) from (now (values .entry)) 128 ⌝ }
-{
+    let mut next = item;
     let mut j: usize = 0;
-    while j < 128 {
-        to[from + j] = values[j];
+    while j < items.len() {
+        let moved = items[j];
+        items[j] = next;
+        next = moved;
         j += 1;
+    }
+}
+
+pub fn insert_value(values: &mut [i32], value: i32)
+    ensures { λ _. ⌜ now (values .exit) ≡ shiftIn value (now (values .entry)) ⌝ }
+{
+    let mut next = value;
+    let mut j: usize = 0;
+    while j < values.len() {
+        let moved = values[j];
+        values[j] = next;
+        next = moved;
+        j += 1;
+    }
+}
+
+// The values over the first of `to`, as many as both have.
+pub fn copy_values(values: &[i32], to: &mut [i32])
+    ensures { λ _. ⌜ now (to .exit) ≡ paste (now (to .entry)) 0 (now (values .entry)) (min (length (now (values .entry))) (length (now (to .entry)))) ⌝ }
+{
+    let n = lesser(values.len(), to.len());
+    let mut k: usize = 0;
+    while k < n {
+        to[k] = values[k];
+        k += 1;
     }
 }
 

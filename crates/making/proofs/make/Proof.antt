@@ -1,6 +1,5 @@
 -- `make` meets its contract: the refusal's number, or what clearing and copying leave.
-use Prim.Native.Nat.{_≤_}
-use mathlib.Core.Path.{_≡_, sym, _∙_}
+use mathlib.Core.Path.{sym, _∙_}
 use native.Mathlib.Omega.{arith}
 use Rattle.client.specs.Lent.{slices}
 use Rattle.making.proofs.MakeLaws.{Given, given, make-refused, make-taken}
@@ -65,9 +64,7 @@ taken c =
     given (slices (a .queue .now) (a .items .now) (a .writes .now) (a .snapshots .now) (a .values .now) (a .stamps .now) (a .places .now) (a .outbox .now)) (a .n) (a .own) (a .start .now) (sym (c .before .refusal .ensures) ∙ c .if1 .left)
 
 copy-values-requires : tie.Need-copy-values-requires
-copy-values-requires c κs =
-    let g = taken (c .before .before .before .before .before .before .before .before .before .before .before .before .before .before .before) in
-    (g .start, omega (arith, g .long .values))
+copy-values-requires c κs = search needs
 
 clear-numbers-requires-2 : tie.Need-clear-numbers-requires-2
 clear-numbers-requires-2 c κs = search needs

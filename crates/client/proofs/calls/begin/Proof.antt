@@ -26,8 +26,23 @@ returns-4 c = λ m.
 add-ticket : tie.Need-add-ticket
 add-ticket c = search needs
 
+mul-from : tie.Need-mul-from
+mul-from c = search needs
+
+add-copy-values : tie.Need-add-copy-values
+add-copy-values c = search needs
+
 mul-copy-values : tie.Need-mul-copy-values
 mul-copy-values c = search needs
+
+sub-copy-values : tie.Need-sub-copy-values
+sub-copy-values c = search needs
+
+part-copy-values-start : tie.Need-part-copy-values-start
+part-copy-values-start c = search needs
+
+part-copy-values-end : tie.Need-part-copy-values-end
+part-copy-values-end c = search needs
 
 copy-values-requires : tie.Need-copy-values-requires
 copy-values-requires c κs = search needs
@@ -46,8 +61,8 @@ returns-5 c = λ m.
     let v = c .before in
     let t = v .before .before .before in
     let f = t .before .before .before in
-    begin-taken _ (f .before .before .if1 .left) (f .before .if2 .left) (f .free-row .result) (f .free-row .ensures) (t .before .before .if3 .left) (t .if4 .left)
-    (v .copy-values .last .1 .0) (v .copy-values .ensures)
+    begin-taken _ (f .before .before .if1 .left) (f .before .if2 .left) (f .free-row .result) (f .free-row .ensures) (t .before .before .if3 .left)
+    (v .copy-values .last .1 .0) (v .copy-values .ensures) (t .if4 .left)
 
 pub begin-spec : {M : Type 1} → statement M
 begin-spec =
@@ -59,7 +74,12 @@ begin-spec =
     returns-3
     returns-4
     add-ticket
+    mul-from
+    add-copy-values
     mul-copy-values
+    sub-copy-values
+    part-copy-values-start
+    part-copy-values-end
     copy-values-requires
     mul-rows
     array-set-from-rows

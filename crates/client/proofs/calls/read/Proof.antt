@@ -45,54 +45,66 @@ write-count-requires c κs = search needs
 mul-from : tie.Need-mul-from
 mul-from c = search needs
 
+add-index-of : tie.Need-add-index-of
+add-index-of c = search needs
+
+sub-index-of : tie.Need-sub-index-of
+sub-index-of c = search needs
+
+part-index-of-start : tie.Need-part-index-of-start
+part-index-of-start c = search needs
+
+part-index-of-end : tie.Need-part-index-of-end
+part-index-of-end c = search needs
+
 cast-index-of : tie.Need-cast-index-of
 cast-index-of c = search needs
 
 index-of-requires : tie.Need-index-of-requires
 index-of-requires c κs = search needs
 
-add-t20 : tie.Need-add-t20
-add-t20 c = search needs
+add-t24 : tie.Need-add-t24
+add-t24 c = search needs
 
-mul-t21 : tie.Need-mul-t21
-mul-t21 c = search needs
+mul-t25 : tie.Need-mul-t25
+mul-t25 c = search needs
 
-shared-slice-copy-out-t23 : tie.Need-shared-slice-copy-out-t23
-shared-slice-copy-out-t23 c = search needs
+shared-slice-copy-out-t27 : tie.Need-shared-slice-copy-out-t27
+shared-slice-copy-out-t27 c = search needs
 
 returns-7 : tie.Need-returns-7
 returns-7 c = λ m.
     let w = c .before in
     let k = w .before in
-    let n = k .before in
+    let n = k .before .before in
     let a = n .before in
     let r = a .before .before .before .before in
     let l = r .before in
     read-own _ _ _ (l .before .before .before .if1 .left) (l .before .before .if2 .left) (l .before .if3 .left) (l .if4 .left) (r .row-of .result) (r .row-of .ensures) (a .before .before .before .if5 .left) _ refl (a .if6 .left)
-    (n .write-count .result) (k .index-of .result) (n .write-count .ensures) (k .index-of .ensures) (w .if7 .taken) _ (toZ-ofZ (record { sfits = c .t23 .given }))
+    (n .write-count .result) (k .index-of .result) (n .write-count .ensures) (k .index-of .ensures) (w .if7 .taken) _ (toZ-ofZ (record { sfits = c .t27 .given }))
 
 mul-t13 : tie.Need-mul-t13
 mul-t13 c = search needs
 
-add-t25 : tie.Need-add-t25
-add-t25 c = search needs
+add-t28 : tie.Need-add-t28
+add-t28 c = search needs
 
-mul-t26 : tie.Need-mul-t26
-mul-t26 c = search needs
+mul-t29 : tie.Need-mul-t29
+mul-t29 c = search needs
 
-shared-slice-copy-out-t28 : tie.Need-shared-slice-copy-out-t28
-shared-slice-copy-out-t28 c = search needs
+shared-slice-copy-out-t31 : tie.Need-shared-slice-copy-out-t31
+shared-slice-copy-out-t31 c = search needs
 
 returns-8 : tie.Need-returns-8
 returns-8 c = λ m.
     let w = c .before in
     let k = w .before in
-    let n = k .before in
+    let n = k .before .before in
     let a = n .before in
     let r = a .before .before .before .before in
     let l = r .before in
     read-old _ _ _ (l .before .before .before .if1 .left) (l .before .before .if2 .left) (l .before .if3 .left) (l .if4 .left) (r .row-of .result) (r .row-of .ensures) (a .before .before .before .if5 .left) _ refl (a .if6 .left)
-    (n .write-count .result) (k .index-of .result) (n .write-count .ensures) (k .index-of .ensures) (w .if7 .left) _ (toZ-ofZ (record { sfits = c .t28 .given }))
+    (n .write-count .result) (k .index-of .result) (n .write-count .ensures) (k .index-of .ensures) (w .if7 .left) _ (toZ-ofZ (record { sfits = c .t31 .given }))
 
 pub read-spec : {M : Type 1} → statement M
 read-spec =
@@ -109,14 +121,18 @@ read-spec =
     returns-6
     write-count-requires
     mul-from
+    add-index-of
+    sub-index-of
+    part-index-of-start
+    part-index-of-end
     cast-index-of
     index-of-requires
-    add-t20
-    mul-t21
-    shared-slice-copy-out-t23
+    add-t24
+    mul-t25
+    shared-slice-copy-out-t27
     returns-7
     mul-t13
-    add-t25
-    mul-t26
-    shared-slice-copy-out-t28
+    add-t28
+    mul-t29
+    shared-slice-copy-out-t31
     returns-8)

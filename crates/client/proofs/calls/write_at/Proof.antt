@@ -1,5 +1,4 @@
 -- `write_at` meets its contract: each answer by its law.
-use mathlib.Core.Path.{refl, ap, _∙_}
 use mir.Facts.{toZ-ofZ}
 use Rattle.engine.specs.Client.{rewriteAt, staleAt}
 use Rattle.client.specs.Lent.{inserted}
@@ -19,6 +18,18 @@ write-count-requires c κs = search needs
 
 mul-from : tie.Need-mul-from
 mul-from c = search needs
+
+add-index-of : tie.Need-add-index-of
+add-index-of c = search needs
+
+sub-index-of : tie.Need-sub-index-of
+sub-index-of c = search needs
+
+part-index-of-start : tie.Need-part-index-of-start
+part-index-of-start c = search needs
+
+part-index-of-end : tie.Need-part-index-of-end
+part-index-of-end c = search needs
 
 index-of-requires : tie.Need-index-of-requires
 index-of-requires c κs = search needs
@@ -45,7 +56,7 @@ returns : tie.Need-returns
 unfolding rewriteAt
 returns c = λ m.
     let k = c .before .before in
-    let n = k .before .before in
+    let n = k .before .before .before in
     let s = n .before .before .before .before in
     rw (c .accepted .ensures, toZ-ofZ (s .fits .value))
     (write-mine _ (s .args .row) (s .args .item) (s .args .value) (n .write-count .result) (k .index-of .result) (n .write-count .ensures) (k .index-of .ensures) (c .before .if1 .taken))
@@ -67,7 +78,7 @@ returns-2 c = λ m.
     let h = c .before .before .before in
     let e = h .before .before in
     let k = e .before in
-    let n = k .before .before in
+    let n = k .before .before .before in
     let s = n .before .before .before .before in
     rw (c .unchanged .ensures)
     (write-held _ (s .args .row) (s .args .item) (s .args .value) (n .write-count .result) (k .index-of .result) (n .write-count .ensures) (k .index-of .ensures) (e .if1 .left)
@@ -95,7 +106,7 @@ returns-3 c = λ m.
     let h = f .before .before .before .before in
     let e = h .before .before in
     let k = e .before in
-    let n = k .before .before in
+    let n = k .before .before .before in
     let s = n .before .before .before .before in
     rw (c .stale .ensures) (write-stale _ (s .args .row) (s .args .item) (s .args .value) (n .write-count .result) (k .index-of .result) (n .write-count .ensures) (k .index-of .ensures) (e .if1 .left)
     (h .holder .result) (h .holder .ensures) (f .before .before .enum-told2 .given .1) (c .before .if2 .taken))
@@ -112,7 +123,7 @@ returns-4 c = λ m.
     let h = f .before .before .before .before in
     let e = h .before .before in
     let k = e .before in
-    let n = k .before .before in
+    let n = k .before .before .before in
     let s = n .before .before .before .before in
     rw (c .unchanged2 .ensures) (write-full _ (s .args .row) (s .args .item) (s .args .value) (n .write-count .result) (k .index-of .result) (n .write-count .ensures) (k .index-of .ensures) (e .if1 .left)
     (h .holder .result) (h .holder .ensures) (f .before .before .enum-told2 .given .1) (c .before .before .if2 .left) (c .before .if3 .taken))
@@ -137,7 +148,7 @@ returns-5 c = λ m.
     let h = f .before .before .before .before in
     let e = h .before .before in
     let k = e .before in
-    let n = k .before .before in
+    let n = k .before .before .before in
     let s = n .before .before .before .before in
     rw (c .accepted2 .ensures) (write-new _ (s .args .row) (s .args .item) (s .args .value) (n .write-count .result) (k .index-of .result) (n .write-count .ensures) (k .index-of .ensures) (e .if1 .left)
     (h .holder .result) (h .holder .ensures) (f .before .before .enum-told2 .given .1) (l .before .if2 .left) (l .if3 .left) (inserted (i .insert .result) (i .insert .last .1 .0) (i .insert .last .1 .1 .0)) (rw (toZ-ofZ (s .fits .value)) at (i .insert .ensures)))
@@ -150,6 +161,10 @@ write-at-spec =
     array-copy-out-t
     write-count-requires
     mul-from
+    add-index-of
+    sub-index-of
+    part-index-of-start
+    part-index-of-end
     index-of-requires
     add-value
     mul-value

@@ -1,9 +1,8 @@
 -- `rows::holder` meets its contract. Invariants: the holder is among the rows from i on; it is row i if the item is among its items from j on. Assumes nothing.
-use Prim.Native.Nat.{_+_, _-_, _*_, _≤_, _<_}
+use Prim.Native.Nat.{_+_, _-_, _≤_, _<_}
 use mathlib.Core.Path.{_≡_, refl, sym, ap, _∙_}
 use mathlib.Core.Bool.{cond}
 use mathlib.Core.Logic.{⊎-elim}
-use native.Mathlib.Nat.{add-assoc}
 use native.Mathlib.Omega.{arith}
 use borrow.Author.Needs.{needs}
 use lib.ListN.{length, drop}
@@ -15,13 +14,12 @@ use Rattle.memory.proofs.rows.holder.Statement.{statement}
 use Rattle.memory.proofs.rows.holder.Tie as tie
 
 abbrev Inv-loop : tie.InvT-loop
-Inv-loop items me item table found₀ i n j₀ found j =
-    (j ≤ n) × (i < 6) × (n ≤ 8) × (found ≡ 6)
-    × (holderOf table items me item
-    ≡ cond (has item (slice (8 * i + j) (8 * i + n) items)) (By i) (holderFrom items me item (i + 1) (drop (i + 1) table)))
+Inv-loop items me item table found₀ i k₀ end found k =
+    (i < 6) × (end ≤ length items) × (found ≡ 6)
+    × (holderOf table items me item ≡ cond (has item (slice k end items)) (By i) (holderFrom items me item (i + 1) (drop (i + 1) table)))
 
 abbrev μ-loop : tie.MeasureT-loop
-μ-loop items me item table found₀ i n j₀ found j = n - j
+μ-loop items me item table found₀ i k₀ end found k = end - k
 
 abbrev Inv-search : tie.InvT-search
 Inv-search items me item table found₀ i₀ found i = (i ≤ 6) × (found ≡ 6) × (holderOf table items me item ≡ holderFrom items me item i (drop i table))
@@ -38,34 +36,36 @@ mul-t c = search needs
 array-copy-out-t : tie.Need-array-copy-out-t Inv-loop μ-loop Inv-search μ-search
 array-copy-out-t c = search needs
 
+mul-k : tie.Need-mul-k Inv-loop μ-loop Inv-search μ-search
+mul-k c = search needs
+
 write-count-requires : tie.Need-write-count-requires Inv-loop μ-loop Inv-search μ-search
 write-count-requires c κs = search needs
 
+add-lesser : tie.Need-add-lesser Inv-loop μ-loop Inv-search μ-search
+add-lesser c = search needs
+
+lesser-requires : tie.Need-lesser-requires Inv-loop μ-loop Inv-search μ-search
+lesser-requires c κs = search needs
+
 loop-holds : tie.Need-loop-holds Inv-loop μ-loop Inv-search μ-search
 loop-holds c =
-    let b = c .before .before .before .before .before .before in
-    let s = b .before .before in
-    let a = s .args in (
+    let w = c .before in
+    let b = w .before .before .before .before .before .before in
+    let a = b .before .before .args in (
       omega arith,
-      omega arith,
-      omega (arith, c .write-count .ensures),
+      omega (arith, c .lesser .ensures),
       omega arith,
       b .search .inv .2
           ∙ holder-open _ (a .t1) (b .search .i) (omega arith) (a .items .now) (a .me) (a .item)
-          (c .before .before .before .if1 .taken) (c .before .if2 .taken) (c .write-count .result) (c .write-count .ensures),
+          (w .before .before .before .if1 .taken) (w .before .if2 .taken) (w .write-count .result) (c .lesser .result) (w .write-count .ensures) (c .lesser .ensures),
     )
-
-mul-if3 : tie.Need-mul-if3 Inv-loop μ-loop Inv-search μ-search
-mul-if3 c = search needs
-
-add-if3 : tie.Need-add-if3 Inv-loop μ-loop Inv-search μ-search
-add-if3 c = search needs
 
 shared-slice-read-if3 : tie.Need-shared-slice-read-if3 Inv-loop μ-loop Inv-search μ-search
 shared-slice-read-if3 c = search needs
 
-add-j : tie.Need-add-j Inv-loop μ-loop Inv-search μ-search
-add-j c = search needs
+add-k : tie.Need-add-k Inv-loop μ-loop Inv-search μ-search
+add-k c = search needs
 
 loop-less : tie.Need-loop-less Inv-loop μ-loop Inv-search μ-search
 loop-less c = search needs
@@ -73,16 +73,12 @@ loop-less c = search needs
 loop-again : tie.Need-loop-again Inv-loop μ-loop Inv-search μ-search
 loop-again c =
     let l = c .before .before .before in
-    let b = l .before .before .before .before .before .before .before in
-    let a = b .before .before .args in
-    let p = 8 * b .search .i in (
+    let a = l .before .before .before .before .before .before .before .before .before .before .args in (
       omega arith,
       omega arith,
       omega arith,
-      omega arith,
-      rw (← add-assoc p (l .loop .j) 1)
-          (l .loop .inv .4
-          ∙ rw (has-next (a .items .now) (p + l .loop .j) (p + l .before .write-count .result) (omega arith) (omega arith) (a .item) (c .if3 .left))),
+      l .loop .inv .3
+          ∙ rw (has-next (a .items .now) (l .loop .k) (l .before .lesser .result) (a .item) (omega arith) (omega arith) (c .if3 .left)),
     )
 
 add-i : tie.Need-add-i Inv-loop μ-loop Inv-search μ-search
@@ -98,8 +94,7 @@ search-again c =
     let h : b .search .i < length (a .t1) = omega arith in
     ⊎-elim
     (λ w.
-    let e : w .4 .j ≡ w .3 .result = omega arith in
-    (omega arith, omega arith, w .4 .inv .4 ∙ rw (e, has-end (a .items .now) (8 * b .search .i + w .3 .result) (a .item))))
+    (omega arith, omega arith, w .5 .inv .3 ∙ rw (has-end (a .items .now) (w .5 .k) (w .4 .result) (a .item) (omega arith))))
     (⊎-elim
     (λ w.
     (omega arith, omega arith, b .search .inv .2 ∙ holder-closed _ (a .t1) (b .search .i) h (a .items .now) (a .me) (a .item) (w .0 .taken) (w .2 .left)))
@@ -110,12 +105,11 @@ returns : tie.Need-returns Inv-loop μ-loop Inv-search μ-search
 returns c =
     let b = c .before .before in
     let a = b .before .before .args in
-    let p = 8 * b .search .i in
     ⊎-elim
     (λ w. absurd (omega arith))
     (λ w.
-    ap By (w .10)
-    ∙ sym (w .6 .inv .4 ∙ rw (has-found (a .items .now) (p + w .6 .j) (p + w .5 .result) (omega arith) (omega arith) (a .item) (w .9 .taken))))
+    ap By (w .11)
+    ∙ sym (w .7 .inv .3 ∙ rw (has-found (a .items .now) (w .7 .k) (w .6 .result) (a .item) (omega arith) (omega arith) (w .10 .taken))))
     (c .before .search-test .came)
 
 returns-2 : tie.Need-returns-2 Inv-loop μ-loop Inv-search μ-search
@@ -140,12 +134,13 @@ holder-spec =
     search-holds
     mul-t
     array-copy-out-t
+    mul-k
     write-count-requires
+    add-lesser
+    lesser-requires
     loop-holds
-    mul-if3
-    add-if3
     shared-slice-read-if3
-    add-j
+    add-k
     loop-less
     loop-again
     add-i

@@ -1,26 +1,22 @@
 -- `rows::index_of` meets its contract. The loop's invariant: the item's index is its index in the items from j on. Assumes nothing.
-use Prim.Native.Nat.{_+_, _-_, _≤_}
-use mathlib.Core.Path.{_≡_, sym, _∙_}
-use native.Mathlib.Nat.{add-zero, add-assoc}
+use Prim.Native.Nat.{_-_, _≤_}
+use mathlib.Core.Path.{_≡_, refl, sym, _∙_}
 use native.Mathlib.Omega.{arith}
 use borrow.Author.Needs.{needs}
-use lib.Seq.{slice}
-use Rattle.memory.specs.Rows.{indexFrom}
+use lib.ListN.{length, drop}
+use Rattle.memory.specs.Rows.{indexFrom, indexOf}
 use Rattle.memory.proofs.RowLaws.{index-found, index-next, index-end}
 use Rattle.memory.proofs.rows.index_of.Statement.{statement}
 use Rattle.memory.proofs.rows.index_of.Tie as tie
 
 abbrev Inv-loop : tie.InvT-loop
-Inv-loop items from n item j₀ j = (j ≤ n) × (indexFrom item (slice from (from + n) items) 0 ≡ indexFrom item (slice (from + j) (from + n) items) j)
+Inv-loop items item j₀ j = (j ≤ length items) × (indexOf item items ≡ indexFrom item (drop j items) j)
 
 abbrev μ-loop : tie.MeasureT-loop
-μ-loop items from n item j₀ j = n - j
+μ-loop items item j₀ j = length items - j
 
 loop-holds : tie.Need-loop-holds Inv-loop μ-loop
-loop-holds c = (omega arith, rw add-zero)
-
-add-if1 : tie.Need-add-if1 Inv-loop μ-loop
-add-if1 c = search needs
+loop-holds c = (omega arith, refl)
 
 shared-slice-read-if1 : tie.Need-shared-slice-read-if1 Inv-loop μ-loop
 shared-slice-read-if1 c = search needs
@@ -28,8 +24,7 @@ shared-slice-read-if1 c = search needs
 returns : tie.Need-returns Inv-loop μ-loop
 returns c =
     let b = c .before .before .before in
-    let a = b .before .args in
-    sym (b .loop .inv .1 ∙ index-found (a .items .now) (a .from + b .loop .j) (a .from + a .n) (omega arith) (omega arith) (a .item) _ (c .if1 .taken))
+    sym (b .loop .inv .1 ∙ index-found (b .before .args .items .now) (b .loop .j) (omega arith) (b .before .args .item) _ (c .if1 .taken))
 
 add-j : tie.Need-add-j Inv-loop μ-loop
 add-j c = search needs
@@ -40,18 +35,14 @@ loop-less c = search needs
 loop-again : tie.Need-loop-again Inv-loop μ-loop
 loop-again c =
     let b = c .before .before .before in
-    let a = b .before .args in (
-      omega arith,
-      rw (← add-assoc (a .from) (b .loop .j) 1)
-          (b .loop .inv .1 ∙ index-next (a .items .now) (a .from + b .loop .j) (a .from + a .n) (omega arith) (omega arith) (a .item) _ (c .if1 .left)),
-    )
+    (omega arith, b .loop .inv .1 ∙ index-next (b .before .args .items .now) (b .loop .j) (omega arith) (b .before .args .item) _ (c .if1 .left))
 
 returns-2 : tie.Need-returns-2 Inv-loop μ-loop
 returns-2 c =
     let b = c .before in
-    let a = b .before .args in
-    let e : b .loop .j ≡ a .n = omega arith in
-    sym (b .loop .inv .1 ∙ rw e (index-end (a .items .now) (a .from + a .n) (a .item) _))
+    let l = b .before .args .items .now in
+    let e : b .loop .j ≡ length l = omega arith in
+    sym (b .loop .inv .1 ∙ rw e (index-end l (b .before .args .item) (length l)))
 
 pub index-of-spec : {M : Type 1} → statement M
 index-of-spec =
@@ -60,7 +51,6 @@ index-of-spec =
     Inv-loop
     μ-loop
     loop-holds
-    add-if1
     shared-slice-read-if1
     returns
     add-j

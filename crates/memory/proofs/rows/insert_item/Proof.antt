@@ -1,39 +1,34 @@
--- `rows::insert_item` meets its contract. The loop's invariant: what stood from at + j on is moved up by one. Assumes nothing.
-use Prim.Native.Nat.{_≤_}
-use mathlib.Core.Path.{_≡_, refl}
+-- `rows::insert_item` meets its contract. The loop's invariant: the first j are those of the item and the items behind it, and the next of these is in hand.
+-- Assumes nothing.
+use Prim.Native.Nat.{_-_, _≤_}
+use mathlib.Core.Path.{_≡_, refl, _∙_}
+use mathlib.Core.List.{_∷_}
 use native.Mathlib.Omega.{arith}
 use borrow.Author.Needs.{needs}
-use lib.ListN.{length, length-set}
-use Rattle.memory.proofs.RowLaws.{shifted, shift-none, shift-turn, shift-end}
+use lib.ListN.{length, getD, length-set}
+use lib.Seq.{paste}
+use Rattle.memory.proofs.RowLaws.{paste-turn, shift-next, shift-end}
 use Rattle.memory.proofs.rows.insert_item.Statement.{statement}
 use Rattle.memory.proofs.rows.insert_item.Tie as tie
 
 abbrev Inv-loop : tie.InvT-loop
-Inv-loop items₀ at n item j₀ items j = (j ≤ n) × (length items ≡ length items₀) × (items ≡ shifted items₀ at n j)
+Inv-loop items₀ item next₀ j₀ items next j =
+    (j ≤ length items₀) × (length items ≡ length items₀) × (next ≡ getD (item ∷ items₀) j 0) × (items ≡ paste items₀ 0 (item ∷ items₀) j)
 
 abbrev μ-loop : tie.MeasureT-loop
-μ-loop items₀ at n item j₀ items j = j
+μ-loop items₀ item next₀ j₀ items next j = length items₀ - j
 
 loop-holds : tie.Need-loop-holds Inv-loop μ-loop
-loop-holds c = (omega arith, refl, shift-none (c .args .items .now) (c .args .at) (c .args .n) (c .pre))
+loop-holds c = (omega arith, refl, refl, refl)
 
-add-items : tie.Need-add-items Inv-loop μ-loop
-add-items c = search needs
-
-sub-items : tie.Need-sub-items Inv-loop μ-loop
-sub-items c = search needs
-
-slice-read-items : tie.Need-slice-read-items Inv-loop μ-loop
-slice-read-items c = search needs
-
-add-items-2 : tie.Need-add-items-2 Inv-loop μ-loop
-add-items-2 c = search needs
+slice-read-moved : tie.Need-slice-read-moved Inv-loop μ-loop
+slice-read-moved c = search needs
 
 slice-write-items : tie.Need-slice-write-items Inv-loop μ-loop
 slice-write-items c = search needs
 
-sub-j : tie.Need-sub-j Inv-loop μ-loop
-sub-j c = search needs
+add-j : tie.Need-add-j Inv-loop μ-loop
+add-j c = search needs
 
 loop-less : tie.Need-loop-less Inv-loop μ-loop
 loop-less c = search needs
@@ -41,25 +36,23 @@ loop-less c = search needs
 loop-again : tie.Need-loop-again Inv-loop μ-loop
 loop-again c =
     let b = c .before .before in
-    let a = b .before .args in (
+    let l = b .before .args .items .now in
+    let x = b .before .args .item in (
       omega arith,
       simp length-set (b .loop .inv .1),
-      rw (b .loop .inv .2)
-          (shift-turn (a .items .now) (a .at) (a .n) (b .before .pre) (b .loop .j) 0 (omega arith) (omega arith)),
+      rw (b .loop .inv .3) (shift-next l x (b .loop .j) 0 (omega arith)),
+      rw (b .loop .inv .2, b .loop .inv .3) (paste-turn l (x ∷ l) (b .loop .j) 0 (omega arith) (omega arith)),
     )
 
-slice-write-items-2 : tie.Need-slice-write-items-2 Inv-loop μ-loop
-slice-write-items-2 c = search needs
-
 same-length : tie.Need-same-length Inv-loop μ-loop
-same-length c = simp length-set (c .before .loop .inv .1)
+same-length c = search needs
 
 returns : tie.Need-returns Inv-loop μ-loop
 returns c =
     let b = c .before in
-    let a = b .before .args in
-    let e : b .loop .j ≡ 0 = omega arith in
-    rw (b .loop .inv .2, e) (shift-end (a .items .now) (a .at) (a .n) (b .before .pre) (a .item))
+    let l = b .before .args .items .now in
+    let e : b .loop .j ≡ length l = omega arith in
+    b .loop .inv .3 ∙ rw e (shift-end l (b .before .args .item))
 
 pub insert-item-spec : {M : Type 1} → statement M
 insert-item-spec =
@@ -68,14 +61,10 @@ insert-item-spec =
     Inv-loop
     μ-loop
     loop-holds
-    add-items
-    sub-items
-    slice-read-items
-    add-items-2
+    slice-read-moved
     slice-write-items
-    sub-j
+    add-j
     loop-less
     loop-again
-    slice-write-items-2
     same-length
     returns)
