@@ -1,0 +1,2 @@
+-- One law for each answer of a deliver, over plain variables.
+pub mod DeliverLaws
