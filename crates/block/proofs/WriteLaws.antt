@@ -158,12 +158,12 @@ module _ (l₀ : List ℕ) (is : List ℕ) (vs : List ℤ) where
 
 -- ---- the records of a block
 
-record-done : (part : List ℕ) (t : ℕ) (is : List ℕ) (vs : List ℤ) → length part ≡ 72 → length is ≤ 8 → length vs ≡ length is
+pub record-done : (part : List ℕ) (t : ℕ) (is : List ℕ) (vs : List ℤ) → length part ≡ 72 → length is ≤ 8 → length vs ≡ length is
     → recordStep part t is vs ≡ written 0 (recordBytes (recordFrom t is vs))
 unfolding recordStep
 record-done part t is vs h k e = rw (eq-eqb _ 72 h, le-leb _ 8 k, eq-eqb _ _ e)
 
-records-append : (rs : List Record) (r : Record) → recordsBytes (rs ++ (r ∷ [])) ≡ recordsBytes rs ++ recordBytes r
+pub records-append : (rs : List Record) (r : Record) → recordsBytes (rs ++ (r ∷ [])) ≡ recordsBytes rs ++ recordBytes r
 unfolding recordsBytes
 records-append [] r = append-nil _
 records-append (s ∷ rs) r = rw (records-append rs r) (sym (append-assoc (recordBytes s) (recordsBytes rs) (recordBytes r)))
@@ -233,12 +233,12 @@ check-put l k h q =
 
 -- ---- a whole block
 
-drop-zeros : (k n : ℕ) → drop {A = ℕ} k (replicate n 0) ≡ replicate (n - k) 0
+pub drop-zeros : (k n : ℕ) → drop {A = ℕ} k (replicate n 0) ≡ replicate (n - k) 0
 drop-zeros zero n = rw (sub-zero n)
 drop-zeros (suc k) zero = rw (zero-sub (suc k))
 drop-zeros (suc k) (suc n) = drop-zeros k n ∙ rw (suc-sub-suc n k)
 
-header-done : (part : List ℕ) (h : Header) → length part ≡ 16 → headerStep part h ≡ written 0 (headerBytes h)
+pub header-done : (part : List ℕ) (h : Header) → length part ≡ 16 → headerStep part h ≡ written 0 (headerBytes h)
 unfolding headerStep
 header-done part h e = rw (eq-eqb _ 16 e)
 

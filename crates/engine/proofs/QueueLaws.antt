@@ -129,7 +129,7 @@ module _ (gone : List ℕ) where
       let ih = length-without ts in
       cond-by (λ (k : List ℕ). length k ≤ length (t ∷ ts)) (has t gone) (λ e. omega arith) (λ e. omega arith)
 
-  without-append : (a b : List ℕ) → without gone (a ++ b) ≡ without gone a ++ without gone b
+  pub without-append : (a b : List ℕ) → without gone (a ++ b) ≡ without gone a ++ without gone b
   unfolding without
   without-append [] b = refl
   without-append (t ∷ ts) b = bool-by (has t gone) (λ e. rw e (without-append ts b)) (λ e. rw (e, without-append ts b))

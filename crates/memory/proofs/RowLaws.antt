@@ -8,7 +8,7 @@ use native.Mathlib.Numerals.{add-one}
 use native.Mathlib.Omega.{arith}
 use borrow.Rule.Slice.PartMut.{putMid}
 use borrow.Author.Tests.{eq-eqb, ne-eqb, lt-ltb, le-ltb}
-use lib.Dec.{ltb}
+use lib.Dec.{eqb, ltb}
 use lib.ListN.{length, getD, set, take, drop, replicate, length-take, length-drop, drop-of-length-le}
 use lib.Seq.{slice, paste, paste-suc, slice-cons, drop-cons, drop-length, drop-drop, take-take, getD-at, length-take-le}
 use Rattle.block.proofs.ListLaws.{take-drop}
@@ -177,3 +177,13 @@ pub below-within : (x : ℕ) (l : List ℕ) (i : ℕ) → countBelow x l i ≤ i
 unfolding countBelow
 below-within x [] i = omega arith
 below-within x (y ∷ l) i = cond-within (ltb y x) _ _ _ (omega (arith, below-within x l (suc i))) (omega arith)
+
+pub index-within : (x : ℕ) (l : List ℕ) (i : ℕ) → indexFrom x l i ≤ i + length l
+unfolding indexFrom
+index-within x [] i = omega arith
+index-within x (y ∷ l) i = cond-within (eqb y x) _ _ _ (omega arith) (omega (arith, index-within x l (suc i)))
+
+pub row-within : (x : ℕ) (l : List Txn) (i : ℕ) → rowFrom x i l ≤ i + length l
+unfolding rowFrom
+row-within x [] i = omega arith
+row-within x (t ∷ l) i = cond-within (eqb (t .ticket) x) _ _ _ (omega arith) (omega (arith, row-within x l (suc i)))

@@ -1,0 +1,2 @@
+-- What the contract of a send says beside its definition.
+pub mod Lent
