@@ -84,11 +84,12 @@ module _ (m : Memory) (block : List ℕ) where
             lent = eqb-true _ 512 (o .right);
           }
 
-      -- b, o and q are what is left in the lent block, the outbox and the queue
-      pub send-taken : (b o q : List ℕ) → b ≡ blockOf (messageFor m) → o ≡ b → q ≡ replicate (length (m .txns .queue)) 0
-          → (outcome (sent b) (sendParts m (markSent (m .turn)) (m .counts) (map sendRow (m .txns .table)) q (m .txns .items) (m .txns .writes) o) ≡ sendStep m block)
+      -- turn t, rows, queue q, outbox o and lent block b as they are left
+      pub send-taken : (t : Turn) (rows : List Txn) (q o b : List ℕ) → t ≡ markSent (m .turn) → rows ≡ map sendRow (m .txns .table)
+          → q ≡ replicate (length (m .txns .queue)) 0 → o ≡ b → b ≡ blockOf (messageFor m)
+          → (outcome (sent b) (sendParts m t (m .counts) rows q (m .txns .items) (m .txns .writes) o) ≡ sendStep m block)
           × (b ≡ blockLeft (sendStep m block .answer) block)
       unfolding sendStep sendNow
-      send-taken b o q is copy zeros =
+      send-taken t rows q o b mark asked zeros copy is =
           let z : q ≡ replicate 6 0 = zeros ∙ ap (λ (k : ℕ). replicate k 0) (send-long .queue) in
-          rw (← number, none, copy, z, is) (refl, refl)
+          rw (← number, none, mark, asked, z, copy, is) (refl, refl)

@@ -45,7 +45,7 @@ put-writesets-requires c κs =
     let z = b .before .before .before .before .before .before in
     let e = z .before .before in
     let s = e .before .before .before .before in
-    (b .block2 .given .1 ∙ z .clear-bytes .kept .0 ∙ s .pre .0, few e, s .pre .1, s .pre .2, s .pre .3)
+    (b .block2 .given .1 ∙ z .clear-bytes .kept .0 ∙ s .pre .0, omega (arith, few e), s .pre .1, s .pre .2, s .pre .3)
 
 write-check-requires : tie.Need-write-check-requires
 write-check-requires c κs = search needs

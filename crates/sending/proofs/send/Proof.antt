@@ -75,10 +75,9 @@ returns-2 c = λ m.
     let r = e .before in
     let a = r .before .before .before .before .before .before .before .before .args in
     let lent : Memory = sendParts m (a .turn) (a .counts) (a .table) (a .queue .now) (a .items .now) (a .writes .now) (a .outbox .now) in
-    rw (k .mark-sent .ensures, c .send-rows .ensures)
-    (send-taken lent (a .block .now) (r .refusal .result) (r .refusal .ensures lent) (e .if1 .left)
-    (p .put-block .last .0) (y .copy-block .last .1 .0) (n .clear-numbers .last .0)
-    (p .put-block .ensures lent) (y .copy-block .ensures) (n .clear-numbers .ensures))
+    send-taken lent (a .block .now) (r .refusal .result) (r .refusal .ensures lent) (e .if1 .left)
+    (k .mark-sent .result) (c .send-rows .result) (n .clear-numbers .last .0) (y .copy-block .last .1 .0) (p .put-block .last .0)
+    (k .mark-sent .ensures) (c .send-rows .ensures) (n .clear-numbers .ensures) (y .copy-block .ensures) (p .put-block .ensures lent)
 
 pub send-spec : {M : Type 1} → statement M
 send-spec =

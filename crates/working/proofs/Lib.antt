@@ -1,0 +1,2 @@
+-- One law for each answer of a work, over plain variables.
+pub mod WorkLaws

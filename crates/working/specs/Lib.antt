@@ -1,0 +1,2 @@
+-- What the contract of a work says beside the definition of the call.
+pub mod Lent
