@@ -1,5 +1,6 @@
 -- `is_hit` meets its contract: each answer by its law. Assumes nothing.
 use mathlib.Core.Path.{_∙_}
+use native.Mathlib.Omega.{arith}
 use borrow.Author.Needs.{needs}
 use Rattle.engine.specs.Moves.{writesetAt}
 use Rattle.writesets.proofs.HitLaws.{hit-closed, hit-sent, hit-shares}
@@ -15,7 +16,7 @@ returns-2 : tie.Need-returns-2
 returns-2 c =
     let o = c .before .before in
     let a = o .before .before .before .before .args in
-    hit-sent (writesetAt (a .block .now) (a .j) .entries) (a .items .now) (a .r) (a .t) (o .if1 .left) (c .if2 .taken)
+    hit-sent (writesetAt (a .block .now) (a .j) .entries) (a .items .now) (a .r) (a .t) (o .if1 .left) (omega arith)
 
 mul-at-most : tie.Need-mul-at-most
 mul-at-most c = search needs
@@ -55,7 +56,7 @@ returns-3 c =
     let o = m .before .before .before in
     let a = o .before .before .before .before .args in
     c .shares-item .ensures
-    ∙ hit-shares (writesetAt (a .block .now) (a .j) .entries) (a .items .now) (a .r) (a .t) (o .if1 .left) (m .before .if2 .left) (w .write-count .result) (m .at-most .result) (p .at-most2 .result)
+    ∙ hit-shares (writesetAt (a .block .now) (a .j) .entries) (a .items .now) (a .r) (a .t) (o .if1 .left) (omega arith) (w .write-count .result) (m .at-most .result) (p .at-most2 .result)
     (w .write-count .ensures) (m .at-most .ensures) (p .at-most2 .ensures)
 
 pub is-hit-spec : {M : Type 1} → statement M
