@@ -18,7 +18,6 @@ use block::writer::write_record;
 use memory::Counts;
 use memory::Turn;
 use memory::Txn;
-use memory::rows::clear_bytes;
 use memory::rows::clear_numbers;
 use memory::rows::queue_end;
 use memory::rows::row_of;
@@ -141,6 +140,17 @@ fn header_for(turn: Turn, counts: Counts, count: u8) -> Header
     }
 }
 
+fn copy_block(block: &[u8], to: &mut [u8])
+    requires { ⌜ (length (now block) ≡ 512) × (length (now to) ≡ 512) ⌝ }
+    ensures { λ _. ⌜ now (to .exit) ≡ now (block .entry) ⌝ }
+{
+    let mut i: usize = 0;
+    while i < 512 {
+        to[i] = block[i];
+        i += 1;
+    }
+}
+
 // The block of the message for the turn.
 fn put_block(
     block: &mut [u8],
@@ -155,7 +165,8 @@ fn put_block(
     ensures { λ _. ⌜ ((m : Memory) → now (block .exit) ≡ blockOf (messageFor (sendParts m turn counts table (now (queue .entry)) (now (items .entry)) (now (writes .entry)) (m .blocks .outbox)))) ⌝ }
 {
     let count = queue_end(queue);
-    clear_bytes(&mut *block);
+    let zeros = [0u8; 512];
+    copy_block(&zeros, &mut *block);
     write_header(&mut block[0..16], header_for(turn, counts, count as u8));
     put_writesets(&mut *block, count, table, queue, items, writes);
     write_check(&mut *block);
@@ -186,17 +197,6 @@ fn send_rows(table: [Txn; 6]) -> [Txn; 6]
         i += 1;
     }
     rows
-}
-
-fn copy_block(block: &[u8], to: &mut [u8])
-    requires { ⌜ (length (now block) ≡ 512) × (length (now to) ≡ 512) ⌝ }
-    ensures { λ _. ⌜ now (to .exit) ≡ now (block .entry) ⌝ }
-{
-    let mut i: usize = 0;
-    while i < 512 {
-        to[i] = block[i];
-        i += 1;
-    }
 }
 
 // The block for the turn, into the bytes lent, and a copy kept in the outbox.
