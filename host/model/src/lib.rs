@@ -6,6 +6,8 @@
 pub mod block;
 pub mod observer;
 pub mod refusal;
+pub mod replay;
 pub mod replica;
 pub mod samples;
 pub mod trace;
+pub mod workload;

@@ -1,7 +1,8 @@
-//! Messages for tests and benchmarks: the marked ones, and random ones by seed.
+//! Messages and blocks for tests and benchmarks: the marked ones, and random ones by seed.
 
 use crate::block::{
-    Entry, Message, Record, ENTRIES, MAX_ITEM, MAX_SLOT, MAX_TICKET, NEXT, RECORDS, TO_COMMIT,
+    self, Entry, Message, Record, BLOCK, ENTRIES, MAX_ITEM, MAX_SLOT, MAX_TICKET, NEXT, RECORDS,
+    TO_COMMIT,
 };
 
 /// A small deterministic generator (splitmix64): the same seed gives the same numbers on every
@@ -71,6 +72,27 @@ pub fn marked_record() -> Message {
             entries: vec![Entry { item: 5, value: 40 }],
         }],
     }
+}
+
+/// A record: ticket, then items with values.
+pub type Writes<'a> = (u32, &'a [(u8, i32)]);
+
+/// The block of a slot in a group of `n`.
+pub fn block_of(n: u32, slot: u32, records: &[Writes]) -> [u8; BLOCK] {
+    let records = records.iter().map(|&(ticket, entries)| Record {
+        ticket,
+        entries: entries
+            .iter()
+            .map(|&(item, value)| Entry { item, value })
+            .collect(),
+    });
+    block::encode(&Message {
+        kind: if records.len() == 0 { NEXT } else { TO_COMMIT },
+        sender: (slot % n) as u8,
+        replicas: n as u8,
+        slot,
+        records: records.collect(),
+    })
 }
 
 /// A well-formed message of either kind, limits of each field among the values.
@@ -170,4 +192,22 @@ fn ticket(random: &mut Random) -> u32 {
 pub fn value(random: &mut Random) -> i32 {
     let any = random.bits() as i32;
     random.pick(&[0, 1, -1, 65_535, 65_536, i32::MIN, i32::MAX, any, any, any])
+}
+
+/// Changes one bit.
+pub fn damage(random: &mut Random, bytes: &mut [u8]) {
+    let bit = random.below(8 * bytes.len());
+    bytes[bit / 8] ^= 1 << (bit % 8);
+}
+
+/// Breaks the form of a well-formed block, under a right check.
+pub fn break_form(random: &mut Random, block: &mut [u8; BLOCK]) {
+    match random.below(5) {
+        0 => block[0] = random.pick(&[0, 3, 255]),
+        1 => block[1] = block[1].wrapping_add(random.non_zero_byte()),
+        2 => block[2] = random.pick(&[0, 1, 7, 255]),
+        3 => block[3] = random.pick(&[7, 255]),
+        _ => block[8 + random.below(8)] = random.non_zero_byte(),
+    }
+    block::put_check(block);
 }

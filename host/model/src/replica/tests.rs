@@ -1,6 +1,8 @@
 //! States that no list of calls leads to.
 
 use super::*;
+use crate::block::{self, Header, TO_COMMIT};
+use crate::refusal::{LOCKED, NOTHING_WAITS, NOT_OPEN_AS_SENT};
 
 /// A replica 0 of 2 with its own block of two writesets back in its inbox.
 fn with_own_block() -> Replica {

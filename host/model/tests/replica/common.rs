@@ -1,7 +1,7 @@
 //! What the tests share: replicas, blocks, and counts of what was seen.
 
-use model::block::{self, Entry, Message, Record, BLOCK, NEXT, TO_COMMIT};
 use model::replica::{Replica, Report, ITEMS};
+pub use model::samples::{block_of, Writes};
 use model::trace::{Answer, Call};
 
 /// A replica of `n` with values that all differ.
@@ -12,27 +12,6 @@ pub fn make(n: u32, own: u32) -> Replica {
 /// The values that every test's replicas start with: item i has 10·i − 600.
 pub fn start_values() -> [i32; ITEMS] {
     std::array::from_fn(|item| 10 * item as i32 - 600)
-}
-
-/// A record: ticket, then items with values.
-pub type Writes<'a> = (u32, &'a [(u8, i32)]);
-
-/// The block of a slot in a group of `n`.
-pub fn block_of(n: u32, slot: u32, records: &[Writes]) -> [u8; BLOCK] {
-    let records = records.iter().map(|&(ticket, entries)| Record {
-        ticket,
-        entries: entries
-            .iter()
-            .map(|&(item, value)| Entry { item, value })
-            .collect(),
-    });
-    block::encode(&Message {
-        kind: if records.len() == 0 { NEXT } else { TO_COMMIT },
-        sender: (slot % n) as u8,
-        replicas: n as u8,
-        slot,
-        records: records.collect(),
-    })
 }
 
 /// Delivers a block of the turn and works it off. It gives the tickets that were aborted.

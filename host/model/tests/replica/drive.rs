@@ -4,7 +4,7 @@ use std::collections::BTreeMap;
 
 use model::block::{self, BLOCK, MAX_TICKET};
 use model::observer::Observer;
-use model::samples::{self, Random};
+use model::samples::{self, break_form, damage, Random};
 use model::trace::{Answer, Call};
 
 use crate::common::{block_of, start_values, Seen, Subject, Tally};
@@ -201,22 +201,4 @@ pub fn local_call(random: &mut Random, tally: &Tally, style: Style) -> Call {
         92..96 => Call::Withdraw { ticket },
         _ => Call::Report,
     }
-}
-
-/// Changes one bit.
-pub fn damage(random: &mut Random, bytes: &mut [u8]) {
-    let bit = random.below(8 * bytes.len());
-    bytes[bit / 8] ^= 1 << (bit % 8);
-}
-
-/// Breaks the form of a well-formed block, under a right check.
-pub fn break_form(random: &mut Random, block: &mut [u8; BLOCK]) {
-    match random.below(5) {
-        0 => block[0] = random.pick(&[0, 3, 255]),
-        1 => block[1] = block[1].wrapping_add(random.non_zero_byte()),
-        2 => block[2] = random.pick(&[0, 1, 7, 255]),
-        3 => block[3] = random.pick(&[7, 255]),
-        _ => block[8 + random.below(8)] = random.non_zero_byte(),
-    }
-    block::put_check(block);
 }

@@ -2,11 +2,11 @@
 
 use model::block::{self, Entry, Message, Record, BLOCK, MAX_TICKET, NEXT, TO_COMMIT};
 use model::replica::{Replica, ITEMS, SLOTS};
-use model::samples::{self, Random};
+use model::samples::{self, break_form, damage, Random};
 use model::trace::{Answer, Call};
 
 use crate::common::{make, start_values, Seen, Subject, Tally};
-use crate::drive::{break_form, damage, local_call, Style, STYLES};
+use crate::drive::{local_call, Style, STYLES};
 use crate::history::{Fault, Historical};
 
 /// A replica of the model and one by history, which get the same calls.

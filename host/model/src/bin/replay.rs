@@ -1,0 +1,8 @@
+//! Reads a list of calls from standard input and prints every answer, one to a line.
+//! The format is that of [`model::replay`].
+
+use std::io::{self, BufWriter};
+
+fn main() -> io::Result<()> {
+    model::replay::run(io::stdin().lock(), BufWriter::new(io::stdout().lock()))
+}

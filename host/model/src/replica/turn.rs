@@ -1,0 +1,149 @@
+//! The calls that move the turn (document 01's "What moves the turn").
+
+use super::{Replica, Stage, Transaction, Work, SLOTS};
+use crate::block::{self, Header, BLOCK, NEXT, TO_COMMIT};
+use crate::refusal::{
+    ALREADY_SENT, FAR_SLOT, NOTHING_WAITS, NOT_OPEN_AS_SENT, NOT_OUR_TURN, NOT_SENT, PAST_SLOT,
+    SLOTS_SPENT, SLOT_TAKEN, WRONG_GROUP, WRONG_LENGTH,
+};
+
+impl Replica {
+    /// The block for the own slot, with the writesets of all transactions asked so far, in the
+    /// order asked. Refused by 13, 11, 12.
+    pub fn send(&mut self) -> Result<[u8; BLOCK], u8> {
+        if self.turn == SLOTS {
+            return Err(SLOTS_SPENT);
+        }
+        if self.owner(self.turn) != usize::from(self.own) {
+            return Err(NOT_OUR_TURN);
+        }
+        if self.outbox.is_some() {
+            return Err(ALREADY_SENT);
+        }
+        let count = self.queue.len() as u8;
+        let header = Header {
+            kind: if count == 0 { NEXT } else { TO_COMMIT },
+            sender: self.own,
+            replicas: self.inbox.len() as u8,
+            count,
+            slot: self.turn,
+        };
+        // Every ticket in the queue is found: one that ends leaves the queue.
+        let records = self.queue.iter().filter_map(|&ticket| {
+            let transaction = self.open.iter().find(|t| t.ticket == ticket)?;
+            let entries = transaction.writes.iter().map(|(&item, &v)| (item, v));
+            Some((ticket, entries))
+        });
+        let mut block = [0; BLOCK];
+        block::encode_records(&header, records, &mut block);
+        for transaction in &mut self.open {
+            if transaction.stage == Stage::Asked {
+                transaction.stage = Stage::Sent;
+            }
+        }
+        self.queue.clear();
+        self.outbox = Some(block);
+        Ok(block)
+    }
+
+    /// As [`Replica::send`], into bytes of the caller. Refused by 1, 13, 11, 12.
+    pub fn send_into(&mut self, bytes: &mut [u8]) -> Result<(), u8> {
+        let bytes: &mut [u8; BLOCK] = bytes.try_into().map_err(|_| WRONG_LENGTH)?;
+        *bytes = self.send()?;
+        Ok(())
+    }
+
+    /// Keeps the message of a block until its slot is the turn. Refused by 1, 14, 15, 16, 17, 18,
+    /// 19, 20.
+    pub fn deliver(&mut self, bytes: &[u8]) -> Result<(), u8> {
+        let header = block::read(bytes)?;
+        let replicas = self.inbox.len();
+        if usize::from(header.replicas) != replicas {
+            return Err(WRONG_GROUP);
+        }
+        if header.slot < self.turn {
+            return Err(PAST_SLOT);
+        }
+        if header.slot >= self.turn + replicas as u32 {
+            return Err(FAR_SLOT);
+        }
+        // The whole block is compared, also when some of its writesets are committed already.
+        if header.sender == self.own && self.outbox.as_ref().is_none_or(|sent| sent != bytes) {
+            return Err(NOT_SENT);
+        }
+        let owner = self.owner(header.slot);
+        let waiting = &mut self.inbox[owner];
+        if waiting.is_some() {
+            return Err(SLOT_TAKEN);
+        }
+        *waiting = Some(block::message(&header, bytes));
+        Ok(())
+    }
+
+    /// Takes one step at the turn's message: commits its next writeset, or passes over a message
+    /// without records. Refused by 21, 22.
+    pub fn work(&mut self) -> Result<Work, u8> {
+        let Some(message) = &self.inbox[self.owner(self.turn)] else {
+            return Err(NOTHING_WAITS);
+        };
+        let sender = message.sender;
+        let mut aborted = Vec::new();
+        let Some(record) = message.records.get(self.done) else {
+            self.advance();
+            return Ok(Work {
+                sender,
+                ticket: 0,
+                moved: true,
+                aborted,
+            });
+        };
+        let ticket = record.ticket;
+        let moved = self.done + 1 == message.records.len();
+        if sender == self.own {
+            let sent = |t: &Transaction| t.ticket == ticket && t.stage == Stage::Sent;
+            let at = self.open.iter().position(sent);
+            self.open.remove(at.ok_or(NOT_OPEN_AS_SENT)?);
+            self.committed += 1;
+        } else {
+            let hit = |t: &Transaction| {
+                let written = |item| t.writes.contains_key(item);
+                t.stage != Stage::Sent && record.entries.iter().any(|e| written(&e.item))
+            };
+            aborted.extend(self.open.iter().filter(|t| hit(t)).map(|t| t.ticket));
+            self.open.retain(|t| !aborted.contains(&t.ticket));
+            self.queue.retain(|ticket| !aborted.contains(ticket));
+            self.aborted += aborted.len() as u32;
+            self.applying = true;
+        }
+        self.commits += 1;
+        for entry in &record.entries {
+            self.values[usize::from(entry.item)] = entry.value;
+            self.stamps[usize::from(entry.item)] = self.commits;
+        }
+        self.done += 1;
+        if moved {
+            self.advance();
+        }
+        Ok(Work {
+            sender,
+            ticket,
+            moved,
+            aborted,
+        })
+    }
+
+    /// The replica that a slot belongs to. Its message waits at that index of the inbox.
+    fn owner(&self, slot: u32) -> usize {
+        slot as usize % self.inbox.len()
+    }
+
+    /// Ends the turn.
+    fn advance(&mut self) {
+        let owner = self.owner(self.turn);
+        self.inbox[owner] = None;
+        self.turn += 1;
+        self.outbox = None;
+        self.done = 0;
+        self.applying = false;
+    }
+}

@@ -1,0 +1,99 @@
+//! A list of calls in the format of [`crate::replay`]. It is the same on every machine.
+
+mod cases;
+mod malformed;
+mod random;
+mod refusals;
+mod story;
+
+use crate::replay::{hex, Replay};
+use crate::replica::Replica;
+
+/// The list. Its last line has no line feed.
+pub fn calls() -> Vec<u8> {
+    let mut list = List::default();
+    malformed::not_made(&mut list);
+    cases::all(&mut list);
+    refusals::all(&mut list);
+    story::all(&mut list);
+    malformed::all(&mut list);
+    random::all(&mut list);
+    list.text.pop();
+    list.text
+}
+
+/// A list in the making. Each line is played at once, so that the next may depend on its answer.
+#[derive(Default)]
+struct List {
+    text: Vec<u8>,
+    replay: Replay,
+}
+
+impl List {
+    /// Adds a line of any bytes but a line feed, and gives what it prints.
+    fn line(&mut self, line: &[u8]) -> String {
+        self.text.extend_from_slice(line);
+        self.text.push(b'\n');
+        self.replay.answer(line)
+    }
+
+    fn call(&mut self, line: &str) -> String {
+        self.line(line.as_bytes())
+    }
+
+    /// Adds several calls, separated by commas.
+    fn calls(&mut self, lines: &str) {
+        for line in lines.split(',') {
+            self.call(line.trim());
+        }
+    }
+
+    /// Begins a transaction with these writes, asks for its commit, and gives its ticket.
+    fn ask(&mut self, place: usize, writes: &[(u32, i32)]) -> u32 {
+        self.call(&format!("B {place}"));
+        let ticket = self.replica(place).report().tickets;
+        for (item, value) in writes {
+            self.call(&format!("W {place} {ticket} {item} {value}"));
+        }
+        self.call(&format!("C {place} {ticket}"));
+        ticket
+    }
+
+    /// Sends, and gives the number of the block. The call must be one that is accepted.
+    fn send(&mut self, place: usize) -> u64 {
+        let number = self.replay.sent();
+        self.call(&format!("S {place}"));
+        assert_eq!(self.replay.sent(), number + 1, "no block of place {place}");
+        number
+    }
+
+    /// Delivers a block of the run.
+    fn deliver(&mut self, place: usize, number: u64) {
+        self.call(&format!("D {place} {number}"));
+    }
+
+    /// Delivers any bytes, and gives what that prints.
+    fn deliver_bytes(&mut self, place: usize, bytes: &[u8]) -> String {
+        self.call(&format!("H {place} {}", hex(bytes)))
+    }
+
+    /// Delivers a block of the run and works until nothing waits at the turn.
+    fn take(&mut self, place: usize, number: u64) {
+        self.deliver(place, number);
+        self.work_off(place);
+    }
+
+    /// Works until nothing waits at the turn.
+    fn work_off(&mut self, place: usize) {
+        while self.call(&format!("K {place}")).starts_with("0 ") {}
+    }
+
+    /// The replica at a place where one is made.
+    fn replica(&self, place: usize) -> &Replica {
+        let replica = self.replay.replica(place);
+        replica.unwrap_or_else(|| panic!("no replica is made at place {place}"))
+    }
+}
+
+#[cfg(test)]
+mod tests;

@@ -1,0 +1,107 @@
+//! Random calls of groups of 2 to 6 replicas, by seed. Blocks arrive early, late, repeated, damaged,
+//! forged, or not at all for a while.
+
+mod group;
+
+use self::group::Group;
+use super::List;
+use crate::replica::OPEN;
+use crate::samples::{self, Random};
+
+/// The calls of a round, before its groups come to rest.
+const CALLS: usize = 3_000;
+
+/// How a round's calls are chosen.
+pub(super) struct Round {
+    /// The sizes of the groups that run side by side.
+    pub sizes: &'static [usize],
+    /// Items below this number are used: the fewer, the more conflicts.
+    items: usize,
+    /// Of a hundred calls at transactions, so many ask: the fewer, the larger the writesets.
+    asks: usize,
+    /// Whether replicas get blocks that nobody of their group sent and that they must take. Then its
+    /// copies need not be equal.
+    pub forged: bool,
+}
+
+pub(super) const ROUNDS: [Round; 10] = [
+    Round::new(&[2], 24, 25, false),
+    Round::new(&[3], 128, 25, false),
+    Round::new(&[4], 24, 20, false),
+    Round::new(&[5], 128, 30, false),
+    Round::new(&[6], 40, 20, false),
+    Round::new(&[2, 4], 12, 25, false),
+    Round::new(&[3, 2], 128, 10, false),
+    Round::new(&[3, 3], 40, 20, true),
+    Round::new(&[2, 2, 2], 24, 20, true),
+    Round::new(&[6], 128, 25, true),
+];
+
+impl Round {
+    const fn new(sizes: &'static [usize], items: usize, asks: usize, forged: bool) -> Round {
+        Round {
+            sizes,
+            items,
+            asks,
+            forged,
+        }
+    }
+}
+
+pub(super) fn all(list: &mut List) {
+    for (seed, round) in ROUNDS.iter().enumerate() {
+        play(list, round, seed as u64);
+    }
+}
+
+/// A round. It gives its groups as places.
+pub(super) fn play(list: &mut List, round: &Round, seed: u64) -> Vec<Vec<usize>> {
+    let mut random = Random::new(seed);
+    let mut groups = Vec::new();
+    let mut place = 0;
+    for &size in round.sizes {
+        let value = samples::value(&mut random);
+        groups.push(Group::make(list, &mut random, place, size, value));
+        place += size;
+    }
+    for _ in 0..CALLS {
+        let at = random.below(groups.len());
+        groups[at].call(list, &mut random, round);
+    }
+    for group in &mut groups {
+        group.settle(list);
+    }
+    groups.iter().map(Group::places).collect()
+}
+
+/// A call at the transactions of a replica.
+fn client_call(list: &mut List, random: &mut Random, place: usize, round: &Round) {
+    let replica = list.replica(place);
+    let (active, report) = (replica.active_tickets(), replica.report());
+    if active.is_empty() || (report.open < OPEN as u32 && random.below(12) == 0) {
+        list.call(&format!("B {place}"));
+        return;
+    }
+    let ticket = if random.below(40) == 0 {
+        let any = random.below(report.tickets as usize + 1) as u32;
+        let late = report.tickets.saturating_sub(random.below(8) as u32);
+        random.pick(&[0, any, late, late, late, report.tickets + 1, u32::MAX])
+    } else {
+        random.pick(&active)
+    };
+    let any = random.below(round.items) as u32;
+    let item = match random.below(60) {
+        0 => random.pick(&[127, 128, 256 + any, u32::MAX]),
+        _ => any,
+    };
+    let line = match random.below(100) {
+        ask if ask < round.asks => format!("C {place} {ticket}"),
+        97.. => format!("X {place} {ticket}"),
+        95.. => format!("Q {place}"),
+        94 => format!("B {place}"),
+        93 if random.below(4) == 0 => format!("V {place}"),
+        80.. => format!("R {place} {ticket} {item}"),
+        _ => format!("W {place} {ticket} {item} {}", samples::value(random)),
+    };
+    list.call(&line);
+}

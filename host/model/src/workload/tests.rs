@@ -1,0 +1,78 @@
+//! What the parts of the list show.
+
+use super::*;
+
+/// The answers to the lines of a list that start with a letter.
+fn answers(list: &List, letter: &str) -> Vec<String> {
+    let mut replay = Replay::default();
+    let text = String::from_utf8(list.text.clone()).unwrap();
+    let played = text
+        .lines()
+        .map(|line| (line, replay.answer(line.as_bytes())));
+    let chosen = played.filter(|(line, _)| line.starts_with(letter));
+    chosen.map(|(_, answer)| answer).collect()
+}
+
+/// That the replicas at these places have the same turn, commits and values.
+fn agree(list: &List, places: &[usize]) {
+    let first = list.replica(places[0]);
+    for &place in places {
+        let (replica, due) = (list.replica(place), first.report());
+        let report = replica.report();
+        assert_eq!((report.turn, report.commits), (due.turn, due.commits));
+        assert_eq!(replica.values(), first.values());
+    }
+}
+
+#[test]
+fn marked_blocks() {
+    let mut list = List::default();
+    cases::all(&mut list);
+    let sent = answers(&list, "S ");
+    assert!(sent[0].ends_with("0300f802"), "{}", sent[0]);
+    assert!(sent[1].ends_with("3402182c"), "{}", sent[1]);
+}
+
+/// What each read gives: of h and n in the first family, of n in the others.
+#[test]
+fn families() {
+    let mut list = List::default();
+    story::all(&mut list);
+    let first = ["80", "80", "90", "88", "90", "88", "90", "88"];
+    let second = ["86", "88", "86", "84", "84", "84"];
+    let third = ["86", "86", "86"];
+    let due = first.iter().chain(&second).chain(&third);
+    let due: Vec<String> = due.map(|value| format!("0 {value}")).collect();
+    assert_eq!(answers(&list, "R "), due);
+    agree(&list, &[0, 1, 2]);
+    agree(&list, &[3, 4, 5]);
+    let values = answers(&list, "V ");
+    assert_eq!(values.len(), 9);
+    for family in values.chunks(3) {
+        assert!(family.iter().all(|values| *values == family[0]));
+    }
+}
+
+/// The random part alone has enough calls, and its groups end with equal copies unless they took
+/// forged blocks.
+#[test]
+fn rounds() {
+    let mut list = List::default();
+    let mut sizes = Vec::new();
+    let mut differ = 0;
+    for (seed, round) in random::ROUNDS.iter().enumerate() {
+        sizes.extend(round.sizes);
+        for places in random::play(&mut list, round, seed as u64) {
+            if !round.forged {
+                agree(&list, &places);
+            }
+            let first = list.replica(places[0]).values();
+            differ += i32::from(places.iter().any(|&k| list.replica(k).values() != first));
+            assert!(list.replica(places[0]).report().commits > 20, "seed {seed}");
+        }
+    }
+    assert!((2..=6).all(|size| sizes.contains(&size)));
+    assert!(differ > 0, "no forged block was taken");
+    let lines = list.text.iter().filter(|&&byte| byte == b'\n').count();
+    assert!(lines > 30_000, "{lines} calls");
+}
