@@ -1,4 +1,4 @@
-//! A list of calls as text, one to a line, and the model's answers as text.
+//! The program `replay` by the model: a list of calls as text, and the text that it prints.
 //!
 //! One call to a line, and one line printed for each; k is the place of a replica, 0 to 5.
 //!

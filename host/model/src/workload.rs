@@ -1,4 +1,5 @@
-//! A list of calls in the format of [`crate::replay`]. It is the same on every machine.
+//! The list of calls that is stored as the input of the program `replay`, in the format of
+//! [`crate::replay`]. It is the same on every machine.
 
 mod cases;
 mod malformed;

@@ -1,14 +1,46 @@
-//! The list of calls that the generator writes, and what the model answers.
+//! The stored input and output of the program `replay`: the model writes the same.
 
 use std::collections::BTreeMap;
+use std::path::Path;
 
 use model::replay::{self, PLACES};
 use model::workload;
+
+fn stored(file: &str) -> Vec<u8> {
+    let path = Path::new(env!("CARGO_MANIFEST_DIR"))
+        .join("../../crates/replay")
+        .join(file);
+    std::fs::read(&path).unwrap_or_else(|error| panic!("{}: {error}", path.display()))
+}
+
+/// That a stored file has this text. A difference is named by its first line.
+fn check(file: &str, text: &[u8]) {
+    let stored = stored(file);
+    let lines = |text: &[u8]| -> Vec<String> {
+        let lines = text.split(|&byte| byte == b'\n');
+        lines.map(|line| line.escape_ascii().to_string()).collect()
+    };
+    let (found, due) = (lines(&stored), lines(text));
+    for (at, (found, due)) in found.iter().zip(&due).enumerate() {
+        assert_eq!(found, due, "{file}, line {}", at + 1);
+    }
+    assert_eq!(found.len(), due.len(), "{file}: number of lines");
+}
 
 fn output(input: &[u8]) -> Vec<u8> {
     let mut output = Vec::new();
     replay::run(input, &mut output).unwrap();
     output
+}
+
+#[test]
+fn stored_input() {
+    check("stdin", &workload::calls());
+}
+
+#[test]
+fn stored_output() {
+    check("stdout", &output(&stored("stdin")));
 }
 
 /// What the answers of a list amount to.
@@ -63,9 +95,8 @@ fn totals(input: &[u8], output: &[u8]) -> Totals {
 }
 
 #[test]
-fn totals_of_the_list() {
-    let input = workload::calls();
-    let output = output(&input);
+fn totals_of_the_stored_list() {
+    let (input, output) = (stored("stdin"), stored("stdout"));
     assert_ne!(input.last(), Some(&b'\n'), "the last line has a line feed");
     let lines = |text: &[u8]| text.iter().filter(|&&byte| byte == b'\n').count();
     assert_eq!(

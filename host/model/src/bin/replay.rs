@@ -1,4 +1,4 @@
-//! Reads a list of calls from standard input and prints every answer, one to a line.
+//! Reads a list of calls from standard input and prints every answer, as the program `replay` must.
 //! The format is that of [`model::replay`].
 
 use std::io::{self, BufWriter};

@@ -1,4 +1,4 @@
-//! Prints the generated list of calls.
+//! Prints the list of calls that is stored as the input of the program `replay`.
 
 use std::io::{self, Write};
 
