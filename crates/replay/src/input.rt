@@ -43,12 +43,22 @@ fn keep(line: &mut [u8], n: usize, byte: u8) -> usize
     n
 }
 
+// The source, or an empty one where it reaches past what is lent.
+fn within(source: Source, most: usize) -> Source
+    ensures { λ r. ⌜ r .end ≤ most ⌝ }
+{
+    if source.end <= most {
+        source
+    } else {
+        Source { at: 0, end: 0 }
+    }
+}
+
 // The next line, to its newline or to the end of the input. What the slice has no room for is passed over.
 pub fn next_line(source: Source, buffer: &mut [u8], line: &mut [u8]) -> Line
-    requires { ⌜ source .end ≤ length (now buffer) ⌝ }
     ensures { λ r. ⌜ (r .source .end ≤ length (now (buffer .exit))) × (r .length ≤ length (now (line .exit))) ⌝ }
 {
-    let mut from = source;
+    let mut from = within(source, buffer.len());
     let mut n: usize = 0;
     // A proved loop ends, and nothing says that a line does: this counts down from what no line uses up.
     let mut turns = u64::MAX;

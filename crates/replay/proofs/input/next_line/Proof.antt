@@ -12,6 +12,9 @@ Inv-loop buffer₀ line₀ from₀ n₀ turns₀ buffer line from n turns = (fro
 abbrev μ-loop : tie.MeasureT-loop
 μ-loop buffer₀ line₀ from₀ n₀ turns₀ buffer line from n turns = turns
 
+within-requires : tie.Need-within-requires Inv-loop μ-loop
+within-requires c κs = search needs
+
 loop-holds : tie.Need-loop-holds Inv-loop μ-loop
 loop-holds c = search needs
 
@@ -69,6 +72,7 @@ next-line-spec =
     (tie.spec
     Inv-loop
     μ-loop
+    within-requires
     loop-holds
     ready-requires
     same-length
