@@ -8,7 +8,7 @@ use native.Mathlib.Omega.{arith}
 use borrow.Author.Tests.{eq-eqb, ne-eqb, eqb-true}
 use lib.Dec.{eqb, leb}
 use lib.IntN.{ℤ}
-use lib.ListN.{length, getD, set, take, List·getD-eq-default}
+use lib.ListN.{length, getD, set, take, replicate, List·getD-eq-default}
 use lib.Seq.{slice, length-take-le}
 use Rattle.block.specs.Answers.{firstOf, recordAt}
 use Rattle.block.specs.Message.{Record}
@@ -26,7 +26,7 @@ use Rattle.engine.proofs.ShapeWriteset.{committed}
 use Rattle.engine.specs.Calls.{Outcome, outcome}
 use Rattle.engine.specs.Calls.Answer.{refused, worked}
 use Rattle.engine.specs.Moves.{workLent, workRefusal, isSent, writesetAt, applied, stamped, spared, hitTickets, queueWithout, isLast, passNext, commitWriteset, workStep}
-use Rattle.working.specs.Lent.{workParts, Ending, endingOf}
+use Rattle.working.specs.Lent.{Trimmed, workParts, Ending, endingOf}
 
 -- ---- lengths
 
@@ -82,6 +82,9 @@ module _ (m : Memory) where
         work-writeset h e = e ∙ rw (long, ← start, ← kind, ne-eqb k 0 full, first, second, ne-eqb k 1 other, ← of, ← unsent, h)
 
 -- ---- a writeset
+
+pub none-named : Trimmed 0 (replicate 6 0)
+none-named = record { few = omega arith; zeros = refl }
 
 module _ (w : Record) (turn : Turn) (counts : Counts) (table : List Txn) (queue items : List ℕ) where
   pub own-ended : counts .aborted ≤ 4_294_967_295

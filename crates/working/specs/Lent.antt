@@ -1,9 +1,10 @@
 -- Which parts of the memory a work is lent, what its enum answers, and a writeset's end in two parts. The contract speaks of every memory with those parts.
-use Prim.Native.Nat.{ℕ, _+_, min}
+use Prim.Native.Nat.{ℕ, _+_, _-_, _≤_, min}
+use mathlib.Core.Path.{_≡_}
 use mathlib.Core.Bool.{Bool, cond}
 use mathlib.Core.List.{List, []}
 use lib.IntN.{ℤ}
-use lib.ListN.{length, set, take}
+use lib.ListN.{length, set, take, drop, replicate}
 use Rattle.block.specs.Message.{Record}
 use Rattle.memory.specs.declared.Counts.{Counts}
 use Rattle.memory.specs.declared.Turn.{Turn}
@@ -22,6 +23,15 @@ use Rattle.working.specs.declared.WorkAnswer.the-variants.{Worked, Refus
 abbrev pub workAnswer : WorkAnswer → List ℕ → Answer
 workAnswer (Worked s) tickets = worked (record { sender = s .sender; ticket = s .ticket; moved = s .moved; aborted = take (s .count) tickets })
 workAnswer (Refused n) tickets = refused n
+
+-- the array beside the answer: six tickets, n of them aborted, zeros behind
+pub record Trimmed (n : ℕ) (tickets : List ℕ) : Type 0 where
+  pub few : n ≤ 6
+  pub zeros : drop n tickets ≡ replicate (6 - n) 0
+
+abbrev pub Beside : WorkAnswer → List ℕ → Type 0
+Beside (Worked s) tickets = Trimmed (s .count) tickets
+Beside (Refused n) tickets = Trimmed 0 tickets
 
 abbrev pub workParts : Memory → Turn → Counts → List Txn → List ℕ → List ℕ → List ℤ → List ℕ → List ℕ → Memory
 workParts m turn counts table queue items values stamps places = record {

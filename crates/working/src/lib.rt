@@ -11,7 +11,7 @@ ghost use Rattle.memory.specs.Rows.{closed, rowOf, rowAt};
 ghost use Rattle.memory.specs.Turns.{advance, placeStart};
 ghost use Rattle.engine.specs.Calls.{outcome};
 ghost use Rattle.engine.specs.Moves.{writesetAt, commitWriteset, workStep};
-ghost use Rattle.working.specs.Lent.{workAnswer, workParts, ending, endingOf};
+ghost use Rattle.working.specs.Lent.{workAnswer, Trimmed, Beside, workParts, ending, endingOf};
 use block::reader::record_at;
 use memory::Counts;
 use memory::Turn;
@@ -36,7 +36,7 @@ pub enum WorkAnswer {
     Refused(u8),
 }
 
-// A work's answer; the tickets that it aborted, rising, in the first `count` of `aborted`; and turn, counts and table after it.
+// A work's answer; the tickets that it aborted, rising, in the first `count` of `aborted`, zeros behind; and turn, counts and table after it.
 pub struct Working {
     pub answer: WorkAnswer,
     pub aborted: [u32; 6],
@@ -206,7 +206,7 @@ fn end_other(
     block: &[u8],
     j: usize,
 ) -> Ended
-    ensures { λ r. ⌜ ending r (now (queue .exit)) ≡ endingOf false (writesetAt (now (block .entry)) j) turn counts table (now (queue .entry)) (now (items .entry)) ⌝ }
+    ensures { λ r. ⌜ (ending r (now (queue .exit)) ≡ endingOf false (writesetAt (now (block .entry)) j) turn counts table (now (queue .entry)) (now (items .entry))) × Trimmed (r .count) (r .aborted) ⌝ }
 {
     let hit = abort_rows(table, items, block, j);
     let tickets = hit.tickets;
@@ -242,7 +242,7 @@ fn end_writeset(
     j: usize,
 ) -> Ended
     requires { ⌜ ticket ≡ recordAt (now block) j .ticket ⌝ }
-    ensures { λ r. ⌜ ending r (now (queue .exit)) ≡ endingOf mine (writesetAt (now (block .entry)) j) turn counts table (now (queue .entry)) (now (items .entry)) ⌝ }
+    ensures { λ r. ⌜ (ending r (now (queue .exit)) ≡ endingOf mine (writesetAt (now (block .entry)) j) turn counts table (now (queue .entry)) (now (items .entry))) × Trimmed (r .count) (r .aborted) ⌝ }
 {
     if mine {
         return end_own(turn, counts, table, ticket);
@@ -290,7 +290,7 @@ fn commit(
     at: usize,
 ) -> Working
     requires { ⌜ (at ≡ placeStart (counts .replicas) (turn .slot)) × (at + 512 ≤ length (now places)) × (sender ≡ getD (slice at (at + 512) (now places)) 1 0) × (ticket ≡ recordAt (slice at (at + 512) (now places)) (counts .done) .ticket) ⌝ }
-    ensures { λ r. ⌜ ((m : Memory) → outcome (workAnswer (r .answer) (r .aborted)) (workParts m (r .turn) (r .counts) (r .table) (now (queue .exit)) (now (items .entry)) (now (values .exit)) (now (stamps .exit)) (now (places .exit))) ≡ commitWriteset (workParts m turn counts table (now (queue .entry)) (now (items .entry)) (now (values .entry)) (now (stamps .entry)) (now (places .entry))) (eqb sender (counts .own)) (writesetAt (slice at (at + 512) (now (places .entry))) (counts .done))) ⌝ }
+    ensures { λ r. ⌜ ((m : Memory) → outcome (workAnswer (r .answer) (r .aborted)) (workParts m (r .turn) (r .counts) (r .table) (now (queue .exit)) (now (items .entry)) (now (values .exit)) (now (stamps .exit)) (now (places .exit))) ≡ commitWriteset (workParts m turn counts table (now (queue .entry)) (now (items .entry)) (now (values .entry)) (now (stamps .entry)) (now (places .entry))) (eqb sender (counts .own)) (writesetAt (slice at (at + 512) (now (places .entry))) (counts .done))) × Beside (r .answer) (r .aborted) ⌝ }
 {
     let count = places[at + 3];
     let end = at + 512;
@@ -341,7 +341,7 @@ pub fn work(
     stamps: &mut [u32],
     places: &mut [u8],
 ) -> Working
-    ensures { λ r. ⌜ ((m : Memory) → outcome (workAnswer (r .answer) (r .aborted)) (workParts m (r .turn) (r .counts) (r .table) (now (queue .exit)) (now (items .entry)) (now (values .exit)) (now (stamps .exit)) (now (places .exit))) ≡ workStep (workParts m turn counts table (now (queue .entry)) (now (items .entry)) (now (values .entry)) (now (stamps .entry)) (now (places .entry)))) ⌝ }
+    ensures { λ r. ⌜ ((m : Memory) → outcome (workAnswer (r .answer) (r .aborted)) (workParts m (r .turn) (r .counts) (r .table) (now (queue .exit)) (now (items .entry)) (now (values .exit)) (now (stamps .exit)) (now (places .exit))) ≡ workStep (workParts m turn counts table (now (queue .entry)) (now (items .entry)) (now (values .entry)) (now (stamps .entry)) (now (places .entry)))) × Beside (r .answer) (r .aborted) ⌝ }
 {
     if !lengths_fit(
         counts.replicas,

@@ -62,11 +62,13 @@ module _ (l₀ : List ℕ) (n x : ℕ) (fits : n < length l₀) where
     }
 
   pub rising-end : (l : List ℕ) (moving : Bool) (next i : ℕ) → n ≤ i → Rising l₀ n x l moving next i
-      → take (n + 1) (set l n next) ≡ insertRising x (take n l₀)
+      → (take (n + 1) (set l n next) ≡ insertRising x (take n l₀)) × (drop (n + 1) (set l n next) ≡ drop (n + 1) l₀)
   unfolding insertRising
   rising-end l moving next i h s =
       let k : i ≡ n = omega (arith, s .within) in
       let e : length (take n l₀) ≡ n = length-take-le n l₀ (omega arith) in
       let r : drop i (take n l₀) ≡ [] = drop-of-length-le (take n l₀) {i = i} (omega arith) in
-      let t : toCome x moving next [] ≡ next ∷ [] = bool-by moving (λ q. rw q) (λ q. rw (q, s .waits q)) in
-      rw (add-one n, take-suc-set l n next (omega (arith, s .same-length))) (sym (s .whole ∙ rw (r, t, k)))
+      let t : toCome x moving next [] ≡ next ∷ [] = bool-by moving (λ q. rw q) (λ q. rw (q, s .waits q)) in (
+        rw (add-one n, take-suc-set l n next (omega (arith, s .same-length))) (sym (s .whole ∙ rw (r, t, k))),
+        drop-set-lt (n + 1) l n next (omega arith) ∙ same-later l l₀ n (rw k at (s .back)),
+      )

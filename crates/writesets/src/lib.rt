@@ -1,8 +1,8 @@
 // Committing a writeset: its values and stamps, the rows that it aborts, and the queue without those. Each contract is in the words of engine's
 // `specs/Moves.antt`, on any bytes and any lengths.
 ghost use mathlib.Core.Path.{_≡_};
-ghost use Prim.Native.Nat.{_+_, _≤_, _<_, min};
-ghost use lib.ListN.{take};
+ghost use Prim.Native.Nat.{_+_, _-_, _≤_, _<_, min};
+ghost use lib.ListN.{take, drop, replicate};
 ghost use Rattle.block.specs.Answers.{recordAt};
 ghost use Rattle.memory.specs.Rows.{has};
 ghost use Rattle.engine.specs.Moves.{writesetAt, applied, stamped, shares, isHit, spared, insertRising, hitTickets, queueWithout};
@@ -12,7 +12,7 @@ use memory::Txn;
 use memory::rows::clear_numbers;
 use memory::rows::write_count;
 
-// The table without the rows aborted, and their tickets: the first `count`, rising.
+// The table without the rows aborted, and their tickets: the first `count`, rising, with zeros behind.
 pub struct Aborts {
     pub table: [Txn; 6],
     pub tickets: [u32; 6],
@@ -111,7 +111,7 @@ fn is_hit(t: Txn, r: usize, items: &[u8], block: &[u8], j: usize) -> bool
 // The ticket among the first n: before the first that is above it, which moves up with all behind it.
 fn insert_rising(tickets: [u32; 6], n: usize, ticket: u32) -> [u32; 6]
     requires { ⌜ n < 6 ⌝ }
-    ensures { λ r. ⌜ take (n + 1) r ≡ insertRising ticket (take n tickets) ⌝ }
+    ensures { λ r. ⌜ (take (n + 1) r ≡ insertRising ticket (take n tickets)) × (drop (n + 1) r ≡ drop (n + 1) tickets) ⌝ }
 {
     let mut list = tickets;
     let mut next = ticket;
@@ -134,7 +134,7 @@ fn insert_rising(tickets: [u32; 6], n: usize, ticket: u32) -> [u32; 6]
 
 // The rows that record j hits are closed; from the last row to the first, as their tickets are listed.
 pub fn abort_rows(table: [Txn; 6], items: &[u8], block: &[u8], j: usize) -> Aborts
-    ensures { λ r. ⌜ ((r .table) ≡ spared (writesetAt (now (block .entry)) j .entries) (now (items .entry)) 0 table) × (take (r .count) (r .tickets) ≡ hitTickets (writesetAt (now (block .entry)) j .entries) (now (items .entry)) 0 table) × (r .count ≤ 6) ⌝ }
+    ensures { λ r. ⌜ ((r .table) ≡ spared (writesetAt (now (block .entry)) j .entries) (now (items .entry)) 0 table) × (take (r .count) (r .tickets) ≡ hitTickets (writesetAt (now (block .entry)) j .entries) (now (items .entry)) 0 table) × (r .count ≤ 6) × (drop (r .count) (r .tickets) ≡ replicate (6 - r .count) 0) ⌝ }
 {
     let mut rows = table;
     let mut tickets = [0u32; 6];

@@ -79,20 +79,22 @@ same-length-4 : tie.Need-same-length-4
 same-length-4 c = search needs
 
 returns : tie.Need-returns
-returns c = λ m.
+returns c =
     let p = c .before .before .before .before .before .before in
     let t = p .before .before .before .before .before in
     let v = t .before .before .before .before .before in
     let e = v .before .before .before .before .before .before .before in
     let s = e .before .before .before .before .before .before .before .before .before .before .before in
     let a = s .args in
-    let block = lent-slice (a .at) (a .at + 512) (a .places .now) (omega arith) in
-    writeset-committed m (a .turn) (a .counts) (a .table) (a .queue .now) (a .items .now) (a .values .now) (a .stamps .now) (a .places .now) (a .at) (s .pre .0)
-    (eqb (a .sender) (a .counts .own)) (writesetAt (slice (a .at) (a .at + 512) (a .places .now)) (a .counts .done)) (a .sender) (a .ticket) _ (s .pre .2) (s .pre .3)
-    (sym (getD-slice (a .places .now) 0 (a .at) (a .at + 512) 3 (a .at + 3) refl (omega arith)))
-    (ending (e .end-writeset .result) (e .end-writeset .last .1 .1 .1 .1 .1 .0)) (rw block at (e .end-writeset .ensures))
-    (p .pass-writeset .result .last) (p .pass-writeset .result .turn) (p .pass-writeset .result .counts) (v .apply-values .last .0) (t .apply-stamps .last .0) (p .pass-writeset .last .1 .1 .1 .0)
-    (rw block at (v .apply-values .ensures)) (rw block at (t .apply-stamps .ensures)) (p .pass-writeset .ensures .0) (p .pass-writeset .ensures .1) (p .pass-writeset .ensures .2) (p .pass-writeset .ensures .3)
+    let block = lent-slice (a .at) (a .at + 512) (a .places .now) (omega arith) in (
+      (λ m. writeset-committed m (a .turn) (a .counts) (a .table) (a .queue .now) (a .items .now) (a .values .now) (a .stamps .now) (a .places .now) (a .at) (s .pre .0)
+          (eqb (a .sender) (a .counts .own)) (writesetAt (slice (a .at) (a .at + 512) (a .places .now)) (a .counts .done)) (a .sender) (a .ticket) _ (s .pre .2) (s .pre .3)
+          (sym (getD-slice (a .places .now) 0 (a .at) (a .at + 512) 3 (a .at + 3) refl (omega arith)))
+          (ending (e .end-writeset .result) (e .end-writeset .last .1 .1 .1 .1 .1 .0)) (rw block at (e .end-writeset .ensures .0))
+          (p .pass-writeset .result .last) (p .pass-writeset .result .turn) (p .pass-writeset .result .counts) (v .apply-values .last .0) (t .apply-stamps .last .0) (p .pass-writeset .last .1 .1 .1 .0)
+          (rw block at (v .apply-values .ensures)) (rw block at (t .apply-stamps .ensures)) (p .pass-writeset .ensures .0) (p .pass-writeset .ensures .1) (p .pass-writeset .ensures .2) (p .pass-writeset .ensures .3)),
+      e .end-writeset .ensures .1,
+    )
 
 pub commit-spec : {M : Type 1} → statement M
 commit-spec =

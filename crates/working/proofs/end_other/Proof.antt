@@ -36,9 +36,11 @@ returns c =
     let q = b .before .before .before in
     let h = q .before .before .before .before in
     let s = h .before .before .before .before in
-    let hit = h .abort-rows .ensures in
-    other-ended _ (s .args .turn) (s .args .counts) (s .args .table) (s .args .queue .now) (s .args .items .now) (h .abort-rows .result .table) (h .abort-rows .result .tickets)
-    (q .queue-without .last .0) (h .abort-rows .result .count) (b .bump .result) (c .add .result) (hit .2) (six h) (hit .0) (hit .1) (q .queue-without .ensures) (b .bump .ensures) (c .add .ensures)
+    let hit = h .abort-rows .ensures in (
+      other-ended _ (s .args .turn) (s .args .counts) (s .args .table) (s .args .queue .now) (s .args .items .now) (h .abort-rows .result .table) (h .abort-rows .result .tickets)
+          (q .queue-without .last .0) (h .abort-rows .result .count) (b .bump .result) (c .add .result) (hit .2) (six h) (hit .0) (hit .1) (q .queue-without .ensures) (b .bump .ensures) (c .add .ensures),
+      record { few = hit .2; zeros = hit .3 },
+    )
 
 pub end-other-spec : {M : Type 1} → statement M
 end-other-spec =

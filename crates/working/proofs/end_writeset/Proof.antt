@@ -1,7 +1,7 @@
 -- `end_writeset` meets its contract: the replica's own, or another's.
 use Prim.Native.Nat.{_≤_}
 use native.Mathlib.Omega.{arith}
-use Rattle.working.proofs.WorkLaws.{own-ended}
+use Rattle.working.proofs.WorkLaws.{own-ended, none-named}
 use borrow.Author.Needs.{needs}
 use Rattle.working.proofs.end_writeset.Statement.{statement}
 use Rattle.working.proofs.end_writeset.Tie as tie
@@ -16,7 +16,7 @@ returns : tie.Need-returns
 returns c =
     let s = c .before .before .before .before .before in
     rw (c .end-own .ensures, c .before .if1 .taken, s .pre)
-    (own-ended _ (s .args .turn) (s .args .counts) (s .args .table) (s .args .queue .now) (s .args .items .now) (small s))
+    (own-ended _ (s .args .turn) (s .args .counts) (s .args .table) (s .args .queue .now) (s .args .items .now) (small s), none-named)
 
 end-other-requires : tie.Need-end-other-requires
 end-other-requires c κs = search needs

@@ -10,7 +10,7 @@ use lib.Seq.{slice}
 use Rattle.block.specs.Answers.{recordAt}
 use Rattle.block.proofs.ListLaws.{lent-slice, getD-slice}
 use Rattle.working.specs.Lent.{workParts}
-use Rattle.working.proofs.WorkLaws.{places-long, place-within, work-lengths, work-empty, work-next, work-unsent, work-writeset}
+use Rattle.working.proofs.WorkLaws.{places-long, place-within, work-lengths, work-empty, work-next, work-unsent, work-writeset, none-named}
 use borrow.Author.Needs.{needs}
 use Rattle.working.proofs.work.Statement.{statement}
 use Rattle.working.proofs.work.Tie as tie
@@ -61,8 +61,8 @@ same-length-4 : tie.Need-same-length-4
 same-length-4 c = search needs
 
 returns : tie.Need-returns
-returns c = λ m.
-    rw (c .unchanged .ensures) (work-lengths _ (sym (c .before .before .lengths-fit .ensures) ∙ not-true _ (c .before .if1 .taken)))
+returns c =
+    ((λ m. rw (c .unchanged .ensures) (work-lengths _ (sym (c .before .before .lengths-fit .ensures) ∙ not-true _ (c .before .if1 .taken)))), rw (c .unchanged .ensures) none-named)
 
 place-start-requires : tie.Need-place-start-requires
 place-start-requires c κs = search needs
@@ -86,11 +86,13 @@ same-length-8 : tie.Need-same-length-8
 same-length-8 c = search needs
 
 returns-2 : tie.Need-returns-2
-returns-2 c = λ m.
+returns-2 c =
     let k = c .before .before in
-    let p = k .before .before in
-    rw (c .unchanged2 .ensures)
-    (work-empty _ (long (p .before)) (p .place-start .result) (p .place-start .ensures) (k .byte-at .result) (k .byte-at .ensures) (c .before .if2 .taken))
+    let p = k .before .before in (
+      (λ m. rw (c .unchanged2 .ensures)
+          (work-empty _ (long (p .before)) (p .place-start .result) (p .place-start .ensures) (k .byte-at .result) (k .byte-at .ensures) (c .before .if2 .taken))),
+      rw (c .unchanged2 .ensures) none-named,
+    )
 
 add-sender : tie.Need-add-sender
 add-sender c = omega (arith, room c)
@@ -117,12 +119,14 @@ same-length-12 : tie.Need-same-length-12
 same-length-12 c = search needs
 
 returns-3 : tie.Need-returns-3
-returns-3 c = λ m.
+returns-3 c =
     let l = c .before .before .before in
     let k = l .before in
-    let p = k .before .before in
-    rw (c .passed .ensures)
-    (work-next _ (long (p .before)) (p .place-start .result) (p .place-start .ensures) (k .byte-at .result) (k .byte-at .ensures) (l .if2 .left) _ refl (c .before .if3 .taken))
+    let p = k .before .before in (
+      (λ m. rw (c .passed .ensures)
+          (work-next _ (long (p .before)) (p .place-start .result) (p .place-start .ensures) (k .byte-at .result) (k .byte-at .ensures) (l .if2 .left) _ refl (c .before .if3 .taken))),
+      rw (c .passed .ensures) none-named,
+    )
 
 add-end : tie.Need-add-end
 add-end c = omega (arith, room (c .before .before))
@@ -161,16 +165,18 @@ same-length-16 : tie.Need-same-length-16
 same-length-16 c = search needs
 
 returns-4 : tie.Need-returns-4
-returns-4 c = λ m.
+returns-4 c =
     let u = c .before .before in
     let r = u .before in
     let o = r .before .before .before .before in
     let l = o .before .before in
     let k = l .before in
-    let p = k .before .before in
-    rw (c .unchanged3 .ensures)
-    (work-unsent _ (long (p .before)) (p .place-start .result) (p .place-start .ensures) (k .byte-at .result) (k .byte-at .ensures) (l .if2 .left) _ refl (o .if3 .left)
-    (r .record-at .result .ticket) (ticket r) (u .own-unsent .result) (u .own-unsent .ensures) (c .before .if4 .taken))
+    let p = k .before .before in (
+      (λ m. rw (c .unchanged3 .ensures)
+          (work-unsent _ (long (p .before)) (p .place-start .result) (p .place-start .ensures) (k .byte-at .result) (k .byte-at .ensures) (l .if2 .left) _ refl (o .if3 .left)
+          (r .record-at .result .ticket) (ticket r) (u .own-unsent .result) (u .own-unsent .ensures) (c .before .if4 .taken))),
+      rw (c .unchanged3 .ensures) none-named,
+    )
 
 commit-requires : tie.Need-commit-requires
 commit-requires c κs =
@@ -197,7 +203,7 @@ same-length-20 : tie.Need-same-length-20
 same-length-20 c = search needs
 
 returns-5 : tie.Need-returns-5
-returns-5 c = λ m.
+returns-5 c =
     let d = c .before .before .before .before .before .before .before in
     let e = d .before .before .before .before .before in
     let u = e .before in
@@ -206,9 +212,11 @@ returns-5 c = λ m.
     let l = o .before .before in
     let k = l .before in
     let p = k .before .before in
-    let a = p .before .before .before .before .before .before .before .before .before .before .before .args in
-    work-writeset (workParts m (a .turn) (a .counts) (a .table) (a .queue .now) (a .items .now) (a .values .now) (a .stamps .now) (a .places .now)) (long (p .before)) (p .place-start .result) (p .place-start .ensures) (k .byte-at .result) (k .byte-at .ensures) (l .if2 .left) _ refl (o .if3 .left)
-    (r .record-at .result .ticket) (ticket r) (u .own-unsent .result) (u .own-unsent .ensures) (e .if4 .left) (d .commit .ensures m)
+    let a = p .before .before .before .before .before .before .before .before .before .before .before .args in (
+      (λ m. work-writeset (workParts m (a .turn) (a .counts) (a .table) (a .queue .now) (a .items .now) (a .values .now) (a .stamps .now) (a .places .now)) (long (p .before)) (p .place-start .result) (p .place-start .ensures) (k .byte-at .result) (k .byte-at .ensures) (l .if2 .left) _ refl (o .if3 .left)
+          (r .record-at .result .ticket) (ticket r) (u .own-unsent .result) (u .own-unsent .ensures) (e .if4 .left) (d .commit .ensures .0 m)),
+      d .commit .ensures .1,
+    )
 
 pub work-spec : {M : Type 1} → statement M
 work-spec =

@@ -1,6 +1,6 @@
 -- `abort_rows` meets its contract. The loop's invariant: the rows from r on that are hit are closed, and their tickets are listed. Assumes nothing.
 use Prim.Native.Nat.{_-_}
-use mathlib.Core.Path.{_≡_}
+use mathlib.Core.Path.{_≡_, refl}
 use native.Mathlib.Omega.{arith}
 use borrow.Author.Needs.{needs}
 use lib.ListN.{length}
@@ -19,7 +19,7 @@ loop-holds : tie.Need-loop-holds Inv-loop μ-loop
 loop-holds c =
     let a = c .before .before .args in
     let six : length (a .t1) ≡ 6 = search needs in
-    abort-none (writesetAt (a .block .now) (a .j) .entries) (a .items .now) (a .t1) six _
+    abort-none (writesetAt (a .block .now) (a .j) .entries) (a .items .now) (a .t1) six _ refl
 
 sub-r : tie.Need-sub-r Inv-loop μ-loop
 sub-r c = search needs
@@ -55,7 +55,7 @@ loop-again c =
     let a = b .before .before .before .args in
     let six : length (a .t1) ≡ 6 = search needs in
     abort-hit (writesetAt (a .block .now) (a .j) .entries) (a .items .now) (a .t1) six (b .loop .rows) (b .loop .tickets) (b .loop .count) (b .loop .r - 1) (b .loop .r)
-    (omega arith) (b .loop .inv) (h .is-hit .result) (h .is-hit .ensures) (c .before .if1 .taken) (c .insert-rising .result) (c .insert-rising .ensures)
+    (omega arith) (b .loop .inv) (h .is-hit .result) (h .is-hit .ensures) (c .before .if1 .taken) (c .insert-rising .result) (c .insert-rising .ensures .0) (c .insert-rising .ensures .1)
 
 loop-less-2 : tie.Need-loop-less-2 Inv-loop μ-loop
 loop-less-2 c = omega arith
@@ -73,7 +73,7 @@ returns : tie.Need-returns Inv-loop μ-loop
 returns c =
     let b = c .before in
     let e : b .loop .r ≡ 0 = omega arith in
-    (rw e at (b .loop .inv .rows-are), rw e at (b .loop .inv .tickets-are), omega (arith, b .loop .inv .room))
+    (rw e at (b .loop .inv .rows-are), rw e at (b .loop .inv .tickets-are), omega (arith, b .loop .inv .room), b .loop .inv .zeros)
 
 pub abort-rows-spec : {M : Type 1} → statement M
 abort-rows-spec =
