@@ -1,6 +1,6 @@
 -- A replica just made.
 use Prim.Native.Nat.{ℕ, _*_}
-use mathlib.Core.Bool.{Bool, true, false, cond, not, _&&_, _||_}
+use mathlib.Core.Bool.{Bool, true, false, not, _&&_, _||_}
 use mathlib.Core.List.{List, [], _∷_}
 use lib.Dec.{eqb, leb}
 use lib.IntN.{ℤ, pos}
@@ -11,8 +11,8 @@ use Rattle.memory.specs.declared.Counts.{Counts}
 use Rattle.memory.specs.declared.Turn.{Turn}
 use Rattle.memory.specs.Memory.{Transactions, Store, Blocks, Memory}
 use Rattle.memory.specs.Rows.{closed}
-use Rattle.engine.specs.Calls.{Outcome, outcome}
-use Rattle.engine.specs.Calls.Answer.{refused, made}
+use Rattle.engine.specs.Calls.{Outcome, outcome, unless}
+use Rattle.engine.specs.Calls.Answer.{made}
 
 abbrev pub turnZero : Turn
 turnZero = record { slot = 0; sent = false; applying = false }
@@ -73,16 +73,6 @@ makeRefusal m n own values =
     ∷ refuse 2 (sizeOut n own)
     ∷ [])
 
--- on the memory lent; refused, its slices stay, and turn, counts and table are those of no replica
+-- on the memory lent, whatever its turn, counts and table are
 unfoldable pub makeStep : Memory → ℕ → ℕ → List ℤ → Outcome
-makeStep m n own values =
-    cond (eqb (makeRefusal m n own values) 0)
-    (outcome made (madeMemory n own values))
-    (outcome (refused (makeRefusal m n own values))
-    (record {
-      turn = turnZero;
-      counts = countsFor 0 0;
-      txns = record { table = replicate 6 closed; queue = m .txns .queue; items = m .txns .items; writes = m .txns .writes; snapshots = m .txns .snapshots };
-      store = m .store;
-      blocks = m .blocks;
-    }))
+makeStep m n own values = unless (makeRefusal m n own values) m (outcome made (madeMemory n own values))

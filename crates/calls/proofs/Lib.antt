@@ -1,0 +1,2 @@
+-- Each reply from the call's outcome.
+pub mod ReplyLaws

@@ -1,0 +1,2 @@
+-- What a host is answered.
+pub mod Replies

@@ -1,0 +1,92 @@
+// The ten calls by value, with numbers for their answers: what stands between a host's lent parts and the engine. `height` is how many rows the host's table has;
+// where it is not six the answer is 1, and nothing changes.
+use engine::Report;
+use memory::Counts;
+use memory::Txn;
+
+pub mod client_calls;
+pub mod turn_calls;
+
+// Document 01's number, 0 where the call is accepted, and the replica's numbers after it; so in the replies below.
+#[repr(C)]
+pub struct Reply {
+    pub number: u8,
+    pub counts: Counts,
+}
+
+// The ticket is 0 where the begin is refused.
+#[repr(C)]
+pub struct BeginReply {
+    pub number: u8,
+    pub ticket: u32,
+    pub counts: Counts,
+}
+
+// The value is 0 where the read is refused.
+#[repr(C)]
+pub struct ReadReply {
+    pub number: u8,
+    pub value: i32,
+}
+
+// Whether the transaction was read-only, and so ended on the spot.
+#[repr(C)]
+pub struct AskReply {
+    pub number: u8,
+    pub read_only: bool,
+    pub counts: Counts,
+}
+
+// All zero where the report is refused.
+#[repr(C)]
+pub struct ReportReply {
+    pub number: u8,
+    pub report: Report,
+}
+
+// Whose writeset was committed (ticket 0 for a *next*), whether the turn moved, and the tickets aborted, rising, zeros behind the first `count`.
+#[repr(C)]
+pub struct WorkReply {
+    pub number: u8,
+    pub sender: u8,
+    pub moved: bool,
+    pub count: u8,
+    pub ticket: u32,
+    pub aborted: [u32; 6],
+    pub counts: Counts,
+}
+
+// A reply beside the table's rows after the call.
+pub struct Changed {
+    pub reply: Reply,
+    pub rows: [Txn; 6],
+}
+
+pub struct Begun {
+    pub reply: BeginReply,
+    pub rows: [Txn; 6],
+}
+
+pub struct Asked {
+    pub reply: AskReply,
+    pub rows: [Txn; 6],
+}
+
+// And beside what became of the turn: the number of a `moved`.
+pub struct Made {
+    pub reply: Reply,
+    pub rows: [Txn; 6],
+    pub change: u8,
+}
+
+pub struct Sent {
+    pub number: u8,
+    pub rows: [Txn; 6],
+    pub change: u8,
+}
+
+pub struct Worked {
+    pub reply: WorkReply,
+    pub rows: [Txn; 6],
+    pub change: u8,
+}

@@ -1,0 +1,5 @@
+-- From the calls by value to the calls on lent parts.
+pub mod LiftLaws
+pub mod ClientFacts
+pub mod TurnFacts
+pub mod Handed

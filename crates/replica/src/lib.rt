@@ -1,0 +1,253 @@
+// The interface that a host program uses: the ten calls of document 01, with the table lent as a slice of records and the turn behind a reference. Each takes the lent
+// parts apart, calls the engine, and puts back what changed; its contract is the equation with the engine's step.
+ghost use mathlib.Core.Path.{_≡_};
+ghost use lib.ListN.{length};
+ghost use Rattle.memory.specs.Memory.{Memory};
+ghost use Rattle.engine.specs.Make.{countsFor, makeStep};
+ghost use Rattle.engine.specs.Client.{beginStep, readStep, writeStep, askStep, withdrawStep, reportStep};
+ghost use Rattle.engine.specs.Moves.{sendStep, deliverStep, workStep};
+ghost use Rattle.client.specs.Lent.{allParts, beginParts, readParts, writeParts, askParts, withdrawParts, reportParts};
+ghost use Rattle.sending.specs.Lent.{sendParts, blockLeft};
+ghost use Rattle.delivering.specs.Lent.{deliverParts};
+ghost use Rattle.working.specs.Lent.{workParts};
+ghost use Rattle.calls.specs.Replies.{called, number, reply, beginReply, readReply, askReply, reportReply, workReply};
+use calls::AskReply;
+use calls::BeginReply;
+use calls::ReadReply;
+use calls::Reply;
+use calls::ReportReply;
+use calls::WorkReply;
+use calls::client_calls::ask_on;
+use calls::client_calls::begin_on;
+use calls::client_calls::read_on;
+use calls::client_calls::report_on;
+use calls::client_calls::withdraw_on;
+use calls::client_calls::write_on;
+use calls::turn_calls::deliver_on;
+use calls::turn_calls::make_on;
+use calls::turn_calls::send_on;
+use calls::turn_calls::work_on;
+use lent::copy_turn;
+use lent::end;
+use lent::find;
+use lent::load;
+use lent::move_turn;
+use lent::store;
+use memory::Counts;
+use memory::Turn;
+use memory::Txn;
+
+#[no_mangle]
+pub extern "C" fn stemline_make(
+    table: &mut [Txn],
+    turn: &mut Turn,
+    n: u32,
+    own: u32,
+    start: &[i32],
+    queue: &mut [u32],
+    items: &mut [u8],
+    writes: &mut [i32],
+    snapshots: &mut [i32],
+    values: &mut [i32],
+    stamps: &mut [u32],
+    places: &mut [u8],
+    outbox: &mut [u8],
+) -> Reply
+    ensures { λ r. ⌜ (r ≡ reply (called (length (now (table .entry))) (allParts (now (turn .entry)) (countsFor 0 0) (now (table .entry)) (now (queue .entry)) (now (items .entry)) (now (writes .entry)) (now (snapshots .entry)) (now (values .entry)) (now (stamps .entry)) (now (places .entry)) (now (outbox .entry))) (makeStep (allParts (now (turn .entry)) (countsFor 0 0) (now (table .entry)) (now (queue .entry)) (now (items .entry)) (now (writes .entry)) (now (snapshots .entry)) (now (values .entry)) (now (stamps .entry)) (now (places .entry)) (now (outbox .entry))) n own (now (start .entry))))) × (allParts (now (turn .exit)) (r .counts) (now (table .exit)) (now (queue .exit)) (now (items .exit)) (now (writes .exit)) (now (snapshots .exit)) (now (values .exit)) (now (stamps .exit)) (now (places .exit)) (now (outbox .exit)) ≡ called (length (now (table .entry))) (allParts (now (turn .entry)) (countsFor 0 0) (now (table .entry)) (now (queue .entry)) (now (items .entry)) (now (writes .entry)) (now (snapshots .entry)) (now (values .entry)) (now (stamps .entry)) (now (places .entry)) (now (outbox .entry))) (makeStep (allParts (now (turn .entry)) (countsFor 0 0) (now (table .entry)) (now (queue .entry)) (now (items .entry)) (now (writes .entry)) (now (snapshots .entry)) (now (values .entry)) (now (stamps .entry)) (now (places .entry)) (now (outbox .entry))) n own (now (start .entry))) .memory) ⌝ }
+{
+    let rows = load(table);
+    let done = make_on(
+        table.len(),
+        rows,
+        n,
+        own,
+        start,
+        queue,
+        items,
+        writes,
+        snapshots,
+        values,
+        stamps,
+        places,
+        outbox,
+    );
+    store(table, done.rows);
+    move_turn(turn, done.change);
+    done.reply
+}
+
+#[no_mangle]
+pub extern "C" fn stemline_begin(
+    table: &mut [Txn],
+    counts: Counts,
+    values: &[i32],
+    snapshots: &mut [i32],
+) -> BeginReply
+    ensures { λ r. ⌜ ((m : Memory) → (r ≡ beginReply (called (length (now (table .entry))) (beginParts m (now (table .entry)) counts (now (values .entry)) (now (snapshots .entry))) (beginStep (beginParts m (now (table .entry)) counts (now (values .entry)) (now (snapshots .entry)))))) × (beginParts m (now (table .exit)) (r .counts) (now (values .entry)) (now (snapshots .exit)) ≡ called (length (now (table .entry))) (beginParts m (now (table .entry)) counts (now (values .entry)) (now (snapshots .entry))) (beginStep (beginParts m (now (table .entry)) counts (now (values .entry)) (now (snapshots .entry)))) .memory)) ⌝ }
+{
+    let rows = load(table);
+    let done = begin_on(table.len(), rows, counts, values, snapshots);
+    store(table, done.rows);
+    done.reply
+}
+
+#[no_mangle]
+pub extern "C" fn stemline_read(
+    table: &[Txn],
+    items: &[u8],
+    writes: &[i32],
+    snapshots: &[i32],
+    ticket: u32,
+    item: u32,
+) -> ReadReply
+    ensures { λ r. ⌜ ((m : Memory) → (r ≡ readReply (called (length (now (table .entry))) (readParts m (now (table .entry)) (now (items .entry)) (now (writes .entry)) (now (snapshots .entry))) (readStep (readParts m (now (table .entry)) (now (items .entry)) (now (writes .entry)) (now (snapshots .entry))) ticket item))) × (readParts m (now (table .entry)) (now (items .entry)) (now (writes .entry)) (now (snapshots .entry)) ≡ called (length (now (table .entry))) (readParts m (now (table .entry)) (now (items .entry)) (now (writes .entry)) (now (snapshots .entry))) (readStep (readParts m (now (table .entry)) (now (items .entry)) (now (writes .entry)) (now (snapshots .entry))) ticket item) .memory)) ⌝ }
+{
+    let rows = load(table);
+    read_on(table.len(), rows, items, writes, snapshots, ticket, item)
+}
+
+#[no_mangle]
+pub extern "C" fn stemline_write(
+    table: &mut [Txn],
+    turn: &Turn,
+    counts: Counts,
+    items: &mut [u8],
+    writes: &mut [i32],
+    stamps: &[u32],
+    ticket: u32,
+    item: u32,
+    value: i32,
+) -> Reply
+    ensures { λ r. ⌜ ((m : Memory) → (r ≡ reply (called (length (now (table .entry))) (writeParts m (now (turn .entry)) counts (now (table .entry)) (now (items .entry)) (now (writes .entry)) (now (stamps .entry))) (writeStep (writeParts m (now (turn .entry)) counts (now (table .entry)) (now (items .entry)) (now (writes .entry)) (now (stamps .entry))) ticket item value))) × (writeParts m (now (turn .entry)) (r .counts) (now (table .exit)) (now (items .exit)) (now (writes .exit)) (now (stamps .entry)) ≡ called (length (now (table .entry))) (writeParts m (now (turn .entry)) counts (now (table .entry)) (now (items .entry)) (now (writes .entry)) (now (stamps .entry))) (writeStep (writeParts m (now (turn .entry)) counts (now (table .entry)) (now (items .entry)) (now (writes .entry)) (now (stamps .entry))) ticket item value) .memory)) ⌝ }
+{
+    let rows = load(table);
+    let now = copy_turn(turn);
+    let done = write_on(
+        table.len(),
+        rows,
+        now,
+        counts,
+        items,
+        writes,
+        stamps,
+        ticket,
+        item,
+        value,
+    );
+    store(table, done.rows);
+    done.reply
+}
+
+#[no_mangle]
+pub extern "C" fn stemline_ask(
+    table: &mut [Txn],
+    counts: Counts,
+    queue: &mut [u32],
+    ticket: u32,
+) -> AskReply
+    ensures { λ r. ⌜ ((m : Memory) → (r ≡ askReply (called (length (now (table .entry))) (askParts m counts (now (table .entry)) (now (queue .entry))) (askStep (askParts m counts (now (table .entry)) (now (queue .entry))) ticket))) × (askParts m (r .counts) (now (table .exit)) (now (queue .exit)) ≡ called (length (now (table .entry))) (askParts m counts (now (table .entry)) (now (queue .entry))) (askStep (askParts m counts (now (table .entry)) (now (queue .entry))) ticket) .memory)) ⌝ }
+{
+    let rows = load(table);
+    let done = ask_on(table.len(), rows, counts, queue, ticket);
+    store(table, done.rows);
+    done.reply
+}
+
+#[no_mangle]
+pub extern "C" fn stemline_withdraw(table: &mut [Txn], counts: Counts, ticket: u32) -> Reply
+    ensures { λ r. ⌜ ((m : Memory) → (r ≡ reply (called (length (now (table .entry))) (withdrawParts m counts (now (table .entry))) (withdrawStep (withdrawParts m counts (now (table .entry))) ticket))) × (withdrawParts m (r .counts) (now (table .exit)) ≡ called (length (now (table .entry))) (withdrawParts m counts (now (table .entry))) (withdrawStep (withdrawParts m counts (now (table .entry))) ticket) .memory)) ⌝ }
+{
+    let rows = load(table);
+    let done = withdraw_on(table.len(), rows, counts, ticket);
+    if done.reply.number != 0 {
+        return done.reply;
+    }
+    let at = find(table, ticket);
+    end(table, at);
+    done.reply
+}
+
+#[no_mangle]
+pub extern "C" fn stemline_report(table: &[Txn], turn: &Turn, counts: Counts) -> ReportReply
+    ensures { λ r. ⌜ ((m : Memory) → (r ≡ reportReply (called (length (now (table .entry))) (reportParts m (now (turn .entry)) counts (now (table .entry))) (reportStep (reportParts m (now (turn .entry)) counts (now (table .entry)))))) × (reportParts m (now (turn .entry)) counts (now (table .entry)) ≡ called (length (now (table .entry))) (reportParts m (now (turn .entry)) counts (now (table .entry))) (reportStep (reportParts m (now (turn .entry)) counts (now (table .entry)))) .memory)) ⌝ }
+{
+    let rows = load(table);
+    let now = copy_turn(turn);
+    report_on(table.len(), rows, now, counts)
+}
+
+#[no_mangle]
+pub extern "C" fn stemline_send(
+    table: &mut [Txn],
+    turn: &mut Turn,
+    counts: Counts,
+    queue: &mut [u32],
+    items: &[u8],
+    writes: &[i32],
+    outbox: &mut [u8],
+    block: &mut [u8],
+) -> u8
+    ensures { λ r. ⌜ ((m : Memory) → (r ≡ number (called (length (now (table .entry))) (sendParts m (now (turn .entry)) counts (now (table .entry)) (now (queue .entry)) (now (items .entry)) (now (writes .entry)) (now (outbox .entry))) (sendStep (sendParts m (now (turn .entry)) counts (now (table .entry)) (now (queue .entry)) (now (items .entry)) (now (writes .entry)) (now (outbox .entry))) (now (block .entry))))) × (sendParts m (now (turn .exit)) counts (now (table .exit)) (now (queue .exit)) (now (items .entry)) (now (writes .entry)) (now (outbox .exit)) ≡ called (length (now (table .entry))) (sendParts m (now (turn .entry)) counts (now (table .entry)) (now (queue .entry)) (now (items .entry)) (now (writes .entry)) (now (outbox .entry))) (sendStep (sendParts m (now (turn .entry)) counts (now (table .entry)) (now (queue .entry)) (now (items .entry)) (now (writes .entry)) (now (outbox .entry))) (now (block .entry))) .memory) × (now (block .exit) ≡ blockLeft (called (length (now (table .entry))) (sendParts m (now (turn .entry)) counts (now (table .entry)) (now (queue .entry)) (now (items .entry)) (now (writes .entry)) (now (outbox .entry))) (sendStep (sendParts m (now (turn .entry)) counts (now (table .entry)) (now (queue .entry)) (now (items .entry)) (now (writes .entry)) (now (outbox .entry))) (now (block .entry))) .answer) (now (block .entry)))) ⌝ }
+{
+    let rows = load(table);
+    let now = copy_turn(turn);
+    let done = send_on(
+        table.len(),
+        rows,
+        now,
+        counts,
+        queue,
+        items,
+        writes,
+        outbox,
+        block,
+    );
+    store(table, done.rows);
+    move_turn(turn, done.change);
+    done.number
+}
+
+#[no_mangle]
+pub extern "C" fn stemline_deliver(
+    turn: &Turn,
+    counts: Counts,
+    places: &mut [u8],
+    outbox: &[u8],
+    bytes: &[u8],
+) -> u8
+    ensures { λ r. ⌜ ((m : Memory) → (r ≡ number (deliverStep (deliverParts m (now (turn .entry)) counts (now (places .entry)) (now (outbox .entry))) (now (bytes .entry)))) × (deliverParts m (now (turn .entry)) counts (now (places .exit)) (now (outbox .entry)) ≡ deliverStep (deliverParts m (now (turn .entry)) counts (now (places .entry)) (now (outbox .entry))) (now (bytes .entry)) .memory)) ⌝ }
+{
+    let now = copy_turn(turn);
+    deliver_on(now, counts, places, outbox, bytes)
+}
+
+#[no_mangle]
+pub extern "C" fn stemline_work(
+    table: &mut [Txn],
+    turn: &mut Turn,
+    counts: Counts,
+    queue: &mut [u32],
+    items: &[u8],
+    values: &mut [i32],
+    stamps: &mut [u32],
+    places: &mut [u8],
+) -> WorkReply
+    ensures { λ r. ⌜ ((m : Memory) → (r ≡ workReply (called (length (now (table .entry))) (workParts m (now (turn .entry)) counts (now (table .entry)) (now (queue .entry)) (now (items .entry)) (now (values .entry)) (now (stamps .entry)) (now (places .entry))) (workStep (workParts m (now (turn .entry)) counts (now (table .entry)) (now (queue .entry)) (now (items .entry)) (now (values .entry)) (now (stamps .entry)) (now (places .entry)))))) × (workParts m (now (turn .exit)) (r .counts) (now (table .exit)) (now (queue .exit)) (now (items .entry)) (now (values .exit)) (now (stamps .exit)) (now (places .exit)) ≡ called (length (now (table .entry))) (workParts m (now (turn .entry)) counts (now (table .entry)) (now (queue .entry)) (now (items .entry)) (now (values .entry)) (now (stamps .entry)) (now (places .entry))) (workStep (workParts m (now (turn .entry)) counts (now (table .entry)) (now (queue .entry)) (now (items .entry)) (now (values .entry)) (now (stamps .entry)) (now (places .entry)))) .memory)) ⌝ }
+{
+    let rows = load(table);
+    let now = copy_turn(turn);
+    let done = work_on(
+        table.len(),
+        rows,
+        now,
+        counts,
+        queue,
+        items,
+        values,
+        stamps,
+        places,
+    );
+    store(table, done.rows);
+    move_turn(turn, done.change);
+    done.reply
+}
