@@ -1,11 +1,10 @@
-// The ten calls by value, with numbers for their answers: what stands between a host's lent parts and the engine. `height` is how many rows the host's table has;
+// What a host is answered, and the calls of a client by value: what stands between a host's lent parts and the engine. `height` is how many rows the host's table has;
 // where it is not six the answer is 1, and nothing changes.
 use engine::Report;
 use memory::Counts;
 use memory::Txn;
 
 pub mod client_calls;
-pub mod turn_calls;
 
 // Document 01's number, 0 where the call is accepted, and the replica's numbers after it; so in the replies below.
 #[repr(C)]
@@ -70,23 +69,4 @@ pub struct Begun {
 pub struct Asked {
     pub reply: AskReply,
     pub rows: [Txn; 6],
-}
-
-// And beside what became of the turn: the number of a `moved`.
-pub struct Made {
-    pub reply: Reply,
-    pub rows: [Txn; 6],
-    pub change: u8,
-}
-
-pub struct Sent {
-    pub number: u8,
-    pub rows: [Txn; 6],
-    pub change: u8,
-}
-
-pub struct Worked {
-    pub reply: WorkReply,
-    pub rows: [Txn; 6],
-    pub change: u8,
 }

@@ -19,9 +19,9 @@ use Rattle.lent.specs.Turns.{moved}
 use Rattle.calls.specs.Replies.{called, number, reply, workReply}
 use Rattle.calls.specs.declared.Reply.{Reply}
 use Rattle.calls.specs.declared.WorkReply.{WorkReply}
-use Rattle.calls.specs.declared.Made.{Made}
-use Rattle.calls.specs.declared.Sent.{Sent}
-use Rattle.calls.specs.declared.Worked.{Worked}
+use Rattle.turn_calls.specs.declared.Made.{Made}
+use Rattle.turn_calls.specs.declared.Sent.{Sent}
+use Rattle.turn_calls.specs.declared.Worked.{Worked}
 use Rattle.replica.proofs.LiftLaws.{lift-reply, lift-memory}
 
 abbrev pub MakeOn : ℕ → List Txn → ℕ → ℕ → List ℤ → List ℕ → List ℕ → List ℤ → List ℤ → List ℤ → List ℕ → List ℕ → List ℕ → Made → List ℕ → List ℕ → List ℤ → List ℤ → List ℤ → List ℕ → List ℕ → List ℕ → Type 0

@@ -23,10 +23,6 @@ use calls::client_calls::read_on;
 use calls::client_calls::report_on;
 use calls::client_calls::withdraw_on;
 use calls::client_calls::write_on;
-use calls::turn_calls::deliver_on;
-use calls::turn_calls::make_on;
-use calls::turn_calls::send_on;
-use calls::turn_calls::work_on;
 use lent::copy_turn;
 use lent::end;
 use lent::find;
@@ -36,6 +32,10 @@ use lent::store;
 use memory::Counts;
 use memory::Turn;
 use memory::Txn;
+use turn_calls::deliver_on;
+use turn_calls::make_on;
+use turn_calls::send_on;
+use turn_calls::work_on;
 
 #[no_mangle]
 pub extern "C" fn stemline_make(

@@ -51,10 +51,10 @@ use Rattle.replica.proofs.TurnFacts.{DeliverOn}
 use Rattle.lent.proofs.copy_turn.Symbol as copy-def
 use Rattle.lent.proofs.copy_turn.Symbol.{name as #copy}
 use Rattle.lent.proofs.copy_turn.Met as copy-thm
-use Rattle.calls.proofs.turn_calls.deliver_on as core
-use Rattle.calls.proofs.turn_calls.deliver_on.Symbol as core-def
-use Rattle.calls.proofs.turn_calls.deliver_on.Symbol.{name as #core}
-use Rattle.calls.proofs.turn_calls.deliver_on.Met as core-thm
+use Rattle.turn_calls.proofs.deliver_on as core
+use Rattle.turn_calls.proofs.deliver_on.Symbol as core-def
+use Rattle.turn_calls.proofs.deliver_on.Symbol.{name as #core}
+use Rattle.turn_calls.proofs.deliver_on.Met as core-thm
 use Rattle.replica.proofs.stemline_deliver.Key.{name as #own}
 use Rattle.replica.proofs.stemline_deliver as own
 use Rattle.replica.proofs.stemline_deliver.Statement as stated
@@ -156,4 +156,4 @@ stemline-deliver-spec 𝓤 H 𝓜 𝓖 𝓡 =
     (tables 𝓤 H 𝓜 𝓡 code.env .C) (tables 𝓤 H 𝓜 𝓡 code.env .Λ) #own code.function (code.unfolded 𝓤 H 𝓜 𝓡)
     (meets 𝓤 H (𝓖 .A) (givenOf 𝓤 H 𝓜 𝓖) (𝓜 .mem) (𝓡 .run) (tablesOf 𝓤 H 𝓜 (tables 𝓤 H 𝓜 𝓡 code.env))
     (cited 𝓤 H (CopyTurn 𝓤 H (𝓖 .A) (𝓜 .mem) (𝓡 .run)) 𝓜 𝓡 code.env #copy copy-def.routine code.calls-lent·copy-turn (copy-thm.met 𝓤 H 𝓜 𝓖 𝓡))
-    (cited 𝓤 H (Core 𝓤 H (𝓖 .A) (𝓜 .mem) (𝓡 .run)) 𝓜 𝓡 code.env #core core-def.routine code.calls-calls·turn-calls·deliver-on (core-thm.met 𝓤 H 𝓜 𝓖 𝓡)))
+    (cited 𝓤 H (Core 𝓤 H (𝓖 .A) (𝓜 .mem) (𝓡 .run)) 𝓜 𝓡 code.env #core core-def.routine code.calls-turn-calls·deliver-on (core-thm.met 𝓤 H 𝓜 𝓖 𝓡)))

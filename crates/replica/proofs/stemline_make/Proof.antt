@@ -52,18 +52,18 @@ use Rattle.lent.proofs.Cursor as U
 use Rattle.lent.proofs.Callees.{Load, Store, MoveTurn, to-load, asks-load, gives-load, to-store, asks-store, gives-store, stored-length, to-move, asks-move, gives-move}
 use Rattle.replica.proofs.Handed.{handed, goes-handed, is-rows}
 use Rattle.replica.proofs.TurnFacts.{MakeOn, make-did}
-use Rattle.calls.specs.declared.Made.{Made}
-use Rattle.calls.proofs.Made as D
-use Rattle.calls.proofs.Made.Laws as D′
+use Rattle.turn_calls.specs.declared.Made.{Made}
+use Rattle.turn_calls.proofs.Made as D
+use Rattle.turn_calls.proofs.Made.Laws as D′
 use Rattle.calls.proofs.Reply as Y
 use Rattle.calls.proofs.Reply.Laws as Y′
 use Rattle.lent.proofs.load.Symbol as load-def
 use Rattle.lent.proofs.load.Symbol.{name as #load}
 use Rattle.lent.proofs.load.Met as load-thm
-use Rattle.calls.proofs.turn_calls.make_on as core
-use Rattle.calls.proofs.turn_calls.make_on.Symbol as core-def
-use Rattle.calls.proofs.turn_calls.make_on.Symbol.{name as #core}
-use Rattle.calls.proofs.turn_calls.make_on.Met as core-thm
+use Rattle.turn_calls.proofs.make_on as core
+use Rattle.turn_calls.proofs.make_on.Symbol as core-def
+use Rattle.turn_calls.proofs.make_on.Symbol.{name as #core}
+use Rattle.turn_calls.proofs.make_on.Met as core-thm
 use Rattle.lent.proofs.store.Symbol as store-def
 use Rattle.lent.proofs.store.Symbol.{name as #store}
 use Rattle.lent.proofs.store.Met as store-thm
@@ -204,6 +204,6 @@ stemline-make-spec 𝓤 H 𝓜 𝓖 𝓡 =
     (tables 𝓤 H 𝓜 𝓡 code.env .C) (tables 𝓤 H 𝓜 𝓡 code.env .Λ) #own code.function (code.unfolded 𝓤 H 𝓜 𝓡)
     (meets 𝓤 H (𝓖 .A) (givenOf 𝓤 H 𝓜 𝓖) (𝓜 .mem) (𝓡 .run) (tablesOf 𝓤 H 𝓜 (tables 𝓤 H 𝓜 𝓡 code.env))
     (cited 𝓤 H (Load 𝓤 H (𝓖 .A) (𝓜 .mem) (𝓡 .run)) 𝓜 𝓡 code.env #load load-def.routine code.calls-lent·load (load-thm.met 𝓤 H 𝓜 𝓖 𝓡))
-    (cited 𝓤 H (Core 𝓤 H (𝓖 .A) (𝓜 .mem) (𝓡 .run)) 𝓜 𝓡 code.env #core core-def.routine code.calls-calls·turn-calls·make-on (core-thm.met 𝓤 H 𝓜 𝓖 𝓡))
+    (cited 𝓤 H (Core 𝓤 H (𝓖 .A) (𝓜 .mem) (𝓡 .run)) 𝓜 𝓡 code.env #core core-def.routine code.calls-turn-calls·make-on (core-thm.met 𝓤 H 𝓜 𝓖 𝓡))
     (cited 𝓤 H (Store 𝓤 H (𝓖 .A) (𝓜 .mem) (𝓡 .run)) 𝓜 𝓡 code.env #store store-def.routine code.calls-lent·store (store-thm.met 𝓤 H 𝓜 𝓖 𝓡))
     (cited 𝓤 H (MoveTurn 𝓤 H (𝓖 .A) (𝓜 .mem) (𝓡 .run)) 𝓜 𝓡 code.env #move move-def.routine code.calls-lent·move-turn (move-thm.met 𝓤 H 𝓜 𝓖 𝓡)))

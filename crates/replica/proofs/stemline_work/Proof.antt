@@ -55,9 +55,9 @@ use Rattle.lent.proofs.Cursor as U
 use Rattle.lent.proofs.Callees.{Load, Store, CopyTurn, MoveTurn, to-load, asks-load, gives-load, to-store, asks-store, gives-store, stored-length, to-copy, asks-copy, gives-copy, to-move, asks-move, gives-move}
 use Rattle.replica.proofs.Handed.{handed, goes-handed, is-rows}
 use Rattle.replica.proofs.TurnFacts.{WorkOn, work-did}
-use Rattle.calls.specs.declared.Worked.{Worked}
-use Rattle.calls.proofs.Worked as D
-use Rattle.calls.proofs.Worked.Laws as D′
+use Rattle.turn_calls.specs.declared.Worked.{Worked}
+use Rattle.turn_calls.proofs.Worked as D
+use Rattle.turn_calls.proofs.Worked.Laws as D′
 use Rattle.calls.proofs.WorkReply as Y
 use Rattle.calls.proofs.WorkReply.Laws as Y′
 use Rattle.lent.proofs.load.Symbol as load-def
@@ -66,10 +66,10 @@ use Rattle.lent.proofs.load.Met as load-thm
 use Rattle.lent.proofs.copy_turn.Symbol as copy-def
 use Rattle.lent.proofs.copy_turn.Symbol.{name as #copy}
 use Rattle.lent.proofs.copy_turn.Met as copy-thm
-use Rattle.calls.proofs.turn_calls.work_on as core
-use Rattle.calls.proofs.turn_calls.work_on.Symbol as core-def
-use Rattle.calls.proofs.turn_calls.work_on.Symbol.{name as #core}
-use Rattle.calls.proofs.turn_calls.work_on.Met as core-thm
+use Rattle.turn_calls.proofs.work_on as core
+use Rattle.turn_calls.proofs.work_on.Symbol as core-def
+use Rattle.turn_calls.proofs.work_on.Symbol.{name as #core}
+use Rattle.turn_calls.proofs.work_on.Met as core-thm
 use Rattle.lent.proofs.store.Symbol as store-def
 use Rattle.lent.proofs.store.Symbol.{name as #store}
 use Rattle.lent.proofs.store.Met as store-thm
@@ -208,6 +208,6 @@ stemline-work-spec 𝓤 H 𝓜 𝓖 𝓡 =
     (meets 𝓤 H (𝓖 .A) (givenOf 𝓤 H 𝓜 𝓖) (𝓜 .mem) (𝓡 .run) (tablesOf 𝓤 H 𝓜 (tables 𝓤 H 𝓜 𝓡 code.env))
     (cited 𝓤 H (Load 𝓤 H (𝓖 .A) (𝓜 .mem) (𝓡 .run)) 𝓜 𝓡 code.env #load load-def.routine code.calls-lent·load (load-thm.met 𝓤 H 𝓜 𝓖 𝓡))
     (cited 𝓤 H (CopyTurn 𝓤 H (𝓖 .A) (𝓜 .mem) (𝓡 .run)) 𝓜 𝓡 code.env #copy copy-def.routine code.calls-lent·copy-turn (copy-thm.met 𝓤 H 𝓜 𝓖 𝓡))
-    (cited 𝓤 H (Core 𝓤 H (𝓖 .A) (𝓜 .mem) (𝓡 .run)) 𝓜 𝓡 code.env #core core-def.routine code.calls-calls·turn-calls·work-on (core-thm.met 𝓤 H 𝓜 𝓖 𝓡))
+    (cited 𝓤 H (Core 𝓤 H (𝓖 .A) (𝓜 .mem) (𝓡 .run)) 𝓜 𝓡 code.env #core core-def.routine code.calls-turn-calls·work-on (core-thm.met 𝓤 H 𝓜 𝓖 𝓡))
     (cited 𝓤 H (Store 𝓤 H (𝓖 .A) (𝓜 .mem) (𝓡 .run)) 𝓜 𝓡 code.env #store store-def.routine code.calls-lent·store (store-thm.met 𝓤 H 𝓜 𝓖 𝓡))
     (cited 𝓤 H (MoveTurn 𝓤 H (𝓖 .A) (𝓜 .mem) (𝓡 .run)) 𝓜 𝓡 code.env #move move-def.routine code.calls-lent·move-turn (move-thm.met 𝓤 H 𝓜 𝓖 𝓡)))

@@ -1,0 +1,267 @@
+// Make, and what moves the turn, by value; as the calls of a client in `calls`.
+ghost use mathlib.Core.Path.{_≡_};
+ghost use mathlib.Core.Bool.{false};
+ghost use lib.ListN.{replicate};
+ghost use Rattle.memory.specs.declared.Turn.{Turn};
+ghost use Rattle.memory.specs.Memory.{Memory};
+ghost use Rattle.engine.specs.Make.{countsFor, makeStep};
+ghost use Rattle.engine.specs.Moves.{sendStep, deliverStep, workStep};
+ghost use Rattle.client.specs.Lent.{allParts};
+ghost use Rattle.lent.specs.Turns.{moved};
+ghost use Rattle.sending.specs.Lent.{sendParts, blockLeft};
+ghost use Rattle.delivering.specs.Lent.{deliverParts};
+ghost use Rattle.working.specs.Lent.{workParts};
+ghost use Rattle.calls.specs.Replies.{called, reply, number, workReply, turnChange};
+use calls::Reply;
+use calls::WorkReply;
+use client::Answered;
+use delivering::DeliverAnswer;
+use delivering::deliver;
+use making::make;
+use memory::Counts;
+use memory::Turn;
+use memory::Txn;
+use sending::SendAnswer;
+use sending::send;
+use working::Step;
+use working::WorkAnswer;
+use working::work;
+
+// A reply beside the table's rows after the call, and beside what became of the turn: the number of a `moved`.
+pub struct Made {
+    pub reply: Reply,
+    pub rows: [Txn; 6],
+    pub change: u8,
+}
+
+pub struct Sent {
+    pub number: u8,
+    pub rows: [Txn; 6],
+    pub change: u8,
+}
+
+pub struct Worked {
+    pub reply: WorkReply,
+    pub rows: [Txn; 6],
+    pub change: u8,
+}
+
+// The numbers of no replica.
+fn no_counts() -> Counts
+    ensures { λ r. ⌜ r ≡ countsFor 0 0 ⌝ }
+{
+    Counts {
+        replicas: 0,
+        own: 0,
+        commits: 0,
+        done: 0,
+        tickets: 0,
+        committed: 0,
+        read_only: 0,
+        aborted: 0,
+        withdrawn: 0,
+    }
+}
+
+pub fn make_on(
+    height: usize,
+    rows: [Txn; 6],
+    n: u32,
+    own: u32,
+    start: &[i32],
+    queue: &mut [u32],
+    items: &mut [u8],
+    writes: &mut [i32],
+    snapshots: &mut [i32],
+    values: &mut [i32],
+    stamps: &mut [u32],
+    places: &mut [u8],
+    outbox: &mut [u8],
+) -> Made
+    ensures { λ r. ⌜ ((turn : Turn) → (r .reply ≡ reply (called height (allParts turn (countsFor 0 0) rows (now (queue .entry)) (now (items .entry)) (now (writes .entry)) (now (snapshots .entry)) (now (values .entry)) (now (stamps .entry)) (now (places .entry)) (now (outbox .entry))) (makeStep (allParts turn (countsFor 0 0) rows (now (queue .entry)) (now (items .entry)) (now (writes .entry)) (now (snapshots .entry)) (now (values .entry)) (now (stamps .entry)) (now (places .entry)) (now (outbox .entry))) n own (now (start .entry))))) × (allParts (moved (r .change) turn) (r .reply .counts) (r .rows) (now (queue .exit)) (now (items .exit)) (now (writes .exit)) (now (snapshots .exit)) (now (values .exit)) (now (stamps .exit)) (now (places .exit)) (now (outbox .exit)) ≡ called height (allParts turn (countsFor 0 0) rows (now (queue .entry)) (now (items .entry)) (now (writes .entry)) (now (snapshots .entry)) (now (values .entry)) (now (stamps .entry)) (now (places .entry)) (now (outbox .entry))) (makeStep (allParts turn (countsFor 0 0) rows (now (queue .entry)) (now (items .entry)) (now (writes .entry)) (now (snapshots .entry)) (now (values .entry)) (now (stamps .entry)) (now (places .entry)) (now (outbox .entry))) n own (now (start .entry))) .memory)) ⌝ }
+{
+    if height != 6 {
+        return Made {
+            reply: Reply {
+                number: 1,
+                counts: no_counts(),
+            },
+            rows: rows,
+            change: 0,
+        };
+    }
+    let done = make(
+        n,
+        own,
+        start,
+        &mut *queue,
+        &mut *items,
+        &mut *writes,
+        &mut *snapshots,
+        &mut *values,
+        &mut *stamps,
+        &mut *places,
+        &mut *outbox,
+    );
+    let fresh = done.table;
+    let numbers = done.counts;
+    let answer = done.answer;
+    match answer {
+        Answered::Accepted => Made {
+            reply: Reply {
+                number: 0,
+                counts: numbers,
+            },
+            rows: fresh,
+            change: 4,
+        },
+        Answered::Refused(number) => Made {
+            reply: Reply {
+                number: number,
+                counts: numbers,
+            },
+            rows: rows,
+            change: 0,
+        },
+    }
+}
+
+pub fn send_on(
+    height: usize,
+    rows: [Txn; 6],
+    turn: Turn,
+    counts: Counts,
+    queue: &mut [u32],
+    items: &[u8],
+    writes: &[i32],
+    outbox: &mut [u8],
+    block: &mut [u8],
+) -> Sent
+    ensures { λ r. ⌜ ((m : Memory) → (r .number ≡ number (called height (sendParts m turn counts rows (now (queue .entry)) (now (items .entry)) (now (writes .entry)) (now (outbox .entry))) (sendStep (sendParts m turn counts rows (now (queue .entry)) (now (items .entry)) (now (writes .entry)) (now (outbox .entry))) (now (block .entry))))) × (sendParts m (moved (r .change) turn) counts (r .rows) (now (queue .exit)) (now (items .entry)) (now (writes .entry)) (now (outbox .exit)) ≡ called height (sendParts m turn counts rows (now (queue .entry)) (now (items .entry)) (now (writes .entry)) (now (outbox .entry))) (sendStep (sendParts m turn counts rows (now (queue .entry)) (now (items .entry)) (now (writes .entry)) (now (outbox .entry))) (now (block .entry))) .memory) × (now (block .exit) ≡ blockLeft (called height (sendParts m turn counts rows (now (queue .entry)) (now (items .entry)) (now (writes .entry)) (now (outbox .entry))) (sendStep (sendParts m turn counts rows (now (queue .entry)) (now (items .entry)) (now (writes .entry)) (now (outbox .entry))) (now (block .entry))) .answer) (now (block .entry)))) ⌝ }
+{
+    if height != 6 {
+        return Sent {
+            number: 1,
+            rows: rows,
+            change: 0,
+        };
+    }
+    let done = send(
+        turn,
+        counts,
+        rows,
+        &mut *queue,
+        items,
+        writes,
+        &mut *outbox,
+        &mut *block,
+    );
+    let after = done.table;
+    let answer = done.answer;
+    match answer {
+        SendAnswer::Sent => Sent {
+            number: 0,
+            rows: after,
+            change: 1,
+        },
+        SendAnswer::Refused(number) => Sent {
+            number: number,
+            rows: after,
+            change: 0,
+        },
+    }
+}
+
+pub fn deliver_on(turn: Turn, counts: Counts, places: &mut [u8], outbox: &[u8], bytes: &[u8]) -> u8
+    ensures { λ r. ⌜ ((m : Memory) → (r ≡ number (deliverStep (deliverParts m turn counts (now (places .entry)) (now (outbox .entry))) (now (bytes .entry)))) × (deliverParts m turn counts (now (places .exit)) (now (outbox .entry)) ≡ deliverStep (deliverParts m turn counts (now (places .entry)) (now (outbox .entry))) (now (bytes .entry)) .memory)) ⌝ }
+{
+    let answer = deliver(turn, counts, &mut *places, outbox, bytes);
+    match answer {
+        DeliverAnswer::Kept => 0,
+        DeliverAnswer::Refused(number) => number,
+    }
+}
+
+// A refused work's reply.
+fn not_worked(number: u8, counts: Counts) -> WorkReply
+    ensures { λ r. ⌜ r ≡ record { number = number; sender = 0; moved = false; count = 0; ticket = 0; aborted = replicate 6 0; counts = counts } ⌝ }
+{
+    WorkReply {
+        number: number,
+        sender: 0,
+        moved: false,
+        count: 0,
+        ticket: 0,
+        aborted: [0; 6],
+        counts: counts,
+    }
+}
+
+// What a step did to the turn.
+fn turn_change(s: Step, own: u8) -> u8
+    ensures { λ r. ⌜ r ≡ turnChange (s .moved) (s .sender) own ⌝ }
+{
+    if s.moved {
+        return 3;
+    }
+    if s.sender == own {
+        return 0;
+    }
+    2
+}
+
+pub fn work_on(
+    height: usize,
+    rows: [Txn; 6],
+    turn: Turn,
+    counts: Counts,
+    queue: &mut [u32],
+    items: &[u8],
+    values: &mut [i32],
+    stamps: &mut [u32],
+    places: &mut [u8],
+) -> Worked
+    ensures { λ r. ⌜ ((m : Memory) → (r .reply ≡ workReply (called height (workParts m turn counts rows (now (queue .entry)) (now (items .entry)) (now (values .entry)) (now (stamps .entry)) (now (places .entry))) (workStep (workParts m turn counts rows (now (queue .entry)) (now (items .entry)) (now (values .entry)) (now (stamps .entry)) (now (places .entry)))))) × (workParts m (moved (r .change) turn) (r .reply .counts) (r .rows) (now (queue .exit)) (now (items .entry)) (now (values .exit)) (now (stamps .exit)) (now (places .exit)) ≡ called height (workParts m turn counts rows (now (queue .entry)) (now (items .entry)) (now (values .entry)) (now (stamps .entry)) (now (places .entry))) (workStep (workParts m turn counts rows (now (queue .entry)) (now (items .entry)) (now (values .entry)) (now (stamps .entry)) (now (places .entry)))) .memory)) ⌝ }
+{
+    if height != 6 {
+        return Worked {
+            reply: not_worked(1, counts),
+            rows: rows,
+            change: 0,
+        };
+    }
+    let done = work(
+        turn,
+        counts,
+        rows,
+        &mut *queue,
+        items,
+        &mut *values,
+        &mut *stamps,
+        &mut *places,
+    );
+    let after = done.table;
+    let numbers = done.counts;
+    let aborted = done.aborted;
+    let answer = done.answer;
+    match answer {
+        WorkAnswer::Worked(s) => Worked {
+            reply: WorkReply {
+                number: 0,
+                sender: s.sender,
+                moved: s.moved,
+                count: s.count,
+                ticket: s.ticket,
+                aborted: aborted,
+                counts: numbers,
+            },
+            rows: after,
+            change: turn_change(s, counts.own),
+        },
+        WorkAnswer::Refused(number) => Worked {
+            reply: not_worked(number, numbers),
+            rows: after,
+            change: 0,
+        },
+    }
+}
