@@ -1,4 +1,4 @@
--- What demand 3 claims after every list of calls. `proofs/Agreement.antt` has the proof.
+-- What demand 3 claims after every list of calls. `proofs/Theorem.antt` has the proof.
 use Prim.Native.Nat.{ℕ, suc, _-_, _<_, _≤_}
 use mathlib.Core.Path.{_≡_}
 use mathlib.Core.Bool.{true}

@@ -4,6 +4,7 @@
 //! The benchmark takes it as its baseline.
 
 pub mod block;
+pub mod drive;
 pub mod observer;
 pub mod refusal;
 pub mod replay;

@@ -20,51 +20,51 @@ pub const OPEN: usize = RECORDS;
 /// The turn once every slot is processed.
 pub const SLOTS: u32 = MAX_SLOT + 1;
 
-/// One replica of a group.
+/// One replica of a group. Its fields are public for the tests that compare them or set them.
 #[derive(Clone, Debug, PartialEq, Eq)]
 pub struct Replica {
-    own: u8,
-    values: [i32; ITEMS],
+    pub own: u8,
+    pub values: [i32; ITEMS],
     /// Per item the commit count just after its last write (document 01's stamps).
-    stamps: [u32; ITEMS],
-    commits: u32,
+    pub stamps: [u32; ITEMS],
+    pub commits: u32,
     /// The slot that is processed next (document 01's turn).
-    turn: u32,
+    pub turn: u32,
     /// The block sent for the turn. Document 01's sent mark is on where there is one.
-    outbox: Option<[u8; BLOCK]>,
+    pub outbox: Option<[u8; BLOCK]>,
     /// The messages that wait, that of slot s at index s mod N (document 01's places).
-    inbox: Vec<Option<Message>>,
+    pub inbox: Vec<Option<Message>>,
     /// The writesets of the turn's message that are committed.
-    done: usize,
+    pub done: usize,
     /// Whether a message of another replica is committed in part (document 01's applying mark).
-    applying: bool,
+    pub applying: bool,
     /// Rising by ticket.
-    open: Vec<Transaction>,
+    pub open: Vec<Transaction>,
     /// The tickets that wait for the next own block (document 01's asked list).
-    queue: Vec<u32>,
+    pub queue: Vec<u32>,
     /// The tickets given: the last one given.
-    tickets: u32,
-    committed: u32,
-    read_only: u32,
-    aborted: u32,
-    withdrawn: u32,
+    pub tickets: u32,
+    pub committed: u32,
+    pub read_only: u32,
+    pub aborted: u32,
+    pub withdrawn: u32,
 }
 
 /// An open transaction.
 #[derive(Clone, Debug, PartialEq, Eq)]
-struct Transaction {
-    ticket: u32,
-    stage: Stage,
+pub struct Transaction {
+    pub ticket: u32,
+    pub stage: Stage,
     /// The commit count when it began.
-    snapshot: u32,
+    pub snapshot: u32,
     /// The values when it began.
-    values: Box<[i32; ITEMS]>,
+    pub values: Box<[i32; ITEMS]>,
     /// The writeset. Its items are locked until the transaction ends.
-    writes: BTreeMap<u8, i32>,
+    pub writes: BTreeMap<u8, i32>,
 }
 
 #[derive(Clone, Copy, Debug, PartialEq, Eq)]
-enum Stage {
+pub enum Stage {
     Active,
     Asked,
     Sent,

@@ -1,10 +1,10 @@
 //! Replicas with a fault: each differs from the model in some call, and the observer objects to each
 //! that demand 3 forbids.
 
+use model::drive::{Group, Style};
 use model::samples::Random;
 
 use crate::common::start_values;
-use crate::drive::{Group, Style};
 use crate::history::{Fault, Historical};
 use crate::single::Pair;
 

@@ -1,11 +1,11 @@
 //! Random runs of whole groups under the observer. Only blocks that were handed out can be
 //! accepted; others are damaged, ill formed or of another group, and refused.
 
+use model::drive::{Group, Seen, Style, STYLES};
 use model::replica::{Replica, Report, SLOTS};
 use model::samples::Random;
 
-use crate::common::{make, Seen};
-use crate::drive::{Group, Style, STYLES};
+use crate::common::make;
 
 /// What a run of a group met, and how often it ended with what.
 struct Run {

@@ -4,10 +4,9 @@
 mod turn;
 
 use model::block::{self, Entry, Message, Record, BLOCK, MAX_TICKET};
+use model::drive::Subject;
 use model::replica::{Report, Work, ITEMS};
 use model::trace::{Answer, Call};
-
-use crate::common::Subject;
 
 /// What a replica by history does wrong (the list of document 01's "Misdrawn replicas").
 #[derive(Clone, Copy, Debug, PartialEq, Eq)]

@@ -2,7 +2,6 @@
 
 mod cases;
 mod common;
-mod drive;
 mod faults;
 mod group;
 mod history;

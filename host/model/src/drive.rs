@@ -1,13 +1,24 @@
-//! Groups of replicas that are driven by hand or at random, under an observer.
+//! For tests: replicas that are driven by hand or at random. Here whole groups under an observer; in
+//! `peers` one replica among forged peers.
+
+mod peers;
+mod tally;
 
 use std::collections::BTreeMap;
 
-use model::block::{self, BLOCK, MAX_TICKET};
-use model::observer::Observer;
-use model::samples::{self, break_form, damage, Random};
-use model::trace::{Answer, Call};
+use crate::block::{self, BLOCK, MAX_TICKET};
+use crate::observer::Observer;
+use crate::replica::ITEMS;
+use crate::samples::{self, block_of, break_form, damage, Random};
+use crate::trace::{Answer, Call};
 
-use crate::common::{block_of, start_values, Seen, Subject, Tally};
+pub use self::peers::Peers;
+pub use self::tally::{Seen, Subject, Tally};
+
+/// The values that every test's replicas start with: item i has 10·i − 600.
+pub fn start_values() -> [i32; ITEMS] {
+    std::array::from_fn(|item| 10 * item as i32 - 600)
+}
 
 /// How the random calls of a run are chosen.
 #[derive(Clone, Copy)]

@@ -1,0 +1,2 @@
+-- What ties a host's calls to the engine's.
+pub mod Hosted

@@ -1,0 +1,152 @@
+//! A replica in plain Rust, written for speed: fixed arrays, nothing allocated, blocks kept as their
+//! bytes. The second model is written for clarity; this is what the library's speed is held to. A
+//! test holds it to the model.
+
+mod client;
+mod turn;
+
+use model::block::{BLOCK, ENTRIES, RECORDS};
+use model::refusal::OUT_OF_RANGE;
+use model::replica::{Report, ITEMS};
+
+/// The most open transactions.
+const OPEN: usize = RECORDS;
+
+#[derive(Clone)]
+pub struct Replica {
+    n: u8,
+    own: u8,
+    /// The writesets committed of the block at the turn.
+    done: u8,
+    sent: bool,
+    applying: bool,
+    turn: u32,
+    commits: u32,
+    tickets: u32,
+    committed: u32,
+    read_only: u32,
+    aborted: u32,
+    withdrawn: u32,
+    /// The first `queued` tickets wait for the next own block.
+    queued: usize,
+    queue: [u32; OPEN],
+    rows: [Row; OPEN],
+    values: [i32; ITEMS],
+    stamps: [u32; ITEMS],
+    /// The first byte is 0 where no block waits.
+    places: [[u8; BLOCK]; 6],
+    outbox: [u8; BLOCK],
+}
+
+/// An open transaction; ticket 0 is a free row.
+#[derive(Clone)]
+struct Row {
+    ticket: u32,
+    snapshot: u32,
+    stage: Stage,
+    /// The first `count` items, rising, and their values.
+    count: usize,
+    items: [u8; ENTRIES],
+    writes: [i32; ENTRIES],
+    /// The values when it began.
+    values: [i32; ITEMS],
+}
+
+#[derive(Clone, Copy, PartialEq, Eq)]
+enum Stage {
+    Active,
+    Asked,
+    Sent,
+}
+
+impl Row {
+    const FREE: Row = Row {
+        ticket: 0,
+        snapshot: 0,
+        stage: Stage::Active,
+        count: 0,
+        items: [0; ENTRIES],
+        writes: [0; ENTRIES],
+        values: [0; ITEMS],
+    };
+
+    fn items(&self) -> &[u8] {
+        &self.items[..self.count]
+    }
+
+    fn is_open(&self) -> bool {
+        self.ticket != 0
+    }
+
+    fn end(&mut self) {
+        self.ticket = 0;
+        self.count = 0;
+    }
+}
+
+/// What one work did.
+#[derive(Clone, Copy)]
+pub struct Work {
+    pub sender: u8,
+    pub ticket: u32,
+    pub moved: bool,
+    /// The first `count`, rising.
+    pub aborted: [u32; OPEN],
+    pub count: usize,
+}
+
+impl Replica {
+    pub fn make(n: u32, own: u32, values: &[i32; ITEMS]) -> Result<Replica, u8> {
+        if !(2..=6).contains(&n) || own >= n {
+            return Err(OUT_OF_RANGE);
+        }
+        Ok(Replica {
+            n: n as u8,
+            own: own as u8,
+            done: 0,
+            sent: false,
+            applying: false,
+            turn: 0,
+            commits: 0,
+            tickets: 0,
+            committed: 0,
+            read_only: 0,
+            aborted: 0,
+            withdrawn: 0,
+            queued: 0,
+            queue: [0; OPEN],
+            rows: [Row::FREE; OPEN],
+            values: *values,
+            stamps: [0; ITEMS],
+            places: [[0; BLOCK]; 6],
+            outbox: [0; BLOCK],
+        })
+    }
+
+    pub fn values(&self) -> &[i32; ITEMS] {
+        &self.values
+    }
+
+    pub fn report(&self) -> Report {
+        let open = self.rows.iter().filter(|row| row.is_open());
+        Report {
+            turn: self.turn,
+            commits: self.commits,
+            tickets: self.tickets,
+            open: open.count() as u32,
+            committed: self.committed,
+            read_only: self.read_only,
+            aborted: self.aborted,
+            withdrawn: self.withdrawn,
+        }
+    }
+
+    /// For tests, as the model's.
+    #[doc(hidden)]
+    pub fn fast_forward(mut self, slots: u32, tickets: u32) -> Replica {
+        self.turn += slots;
+        self.tickets += tickets;
+        self.withdrawn += tickets;
+        self
+    }
+}

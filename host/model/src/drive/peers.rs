@@ -1,0 +1,123 @@
+//! One replica among forged peers: the calls that it gets.
+
+use super::{local_call, Seen, Style, Tally};
+use crate::block::{self, Entry, Message, Record, BLOCK, MAX_TICKET, NEXT, TO_COMMIT};
+use crate::replica::{Report, SLOTS};
+use crate::samples::{self, break_form, damage, Random};
+use crate::trace::{Answer, Call};
+
+/// What is known of a replica from its calls and answers, and so what it may be sent next.
+pub struct Peers {
+    n: u32,
+    pub tally: Tally,
+    pub seen: Seen,
+    /// The blocks that were delivered or sent last.
+    recent: Vec<[u8; BLOCK]>,
+    /// The last own block.
+    own: Option<[u8; BLOCK]>,
+}
+
+impl Peers {
+    /// The peers of a replica in a group of `n`, of which no call is seen yet.
+    pub fn new(n: u32, own: u32, report: Report) -> Peers {
+        Peers {
+            n,
+            tally: Tally::new(own as usize, report),
+            seen: Seen::default(),
+            recent: Vec::new(),
+            own: None,
+        }
+    }
+
+    /// A random call.
+    pub fn random_call(&self, random: &mut Random, style: Style) -> Call {
+        match random.below(50) {
+            _ if random.below(100) < style.local => local_call(random, &self.tally, style),
+            0..8 => Call::Send,
+            8..28 => Call::Deliver {
+                bytes: self.random_bytes(random, style.items),
+            },
+            _ => Call::Work,
+        }
+    }
+
+    /// Takes in the answer to a call.
+    pub fn feed(&mut self, call: &Call, answer: &Result<Answer, u8>) {
+        self.tally.feed(call, answer);
+        self.seen.feed(call, answer);
+        self.keep(call, answer);
+    }
+
+    fn keep(&mut self, call: &Call, answer: &Result<Answer, u8>) {
+        let block = match (call, answer) {
+            (_, Ok(Answer::Block(block))) => {
+                self.own = Some(**block);
+                **block
+            }
+            (Call::Deliver { bytes }, Ok(_)) => bytes.as_slice().try_into().unwrap(),
+            _ => return,
+        };
+        if self.recent.len() == 12 {
+            self.recent.remove(0);
+        }
+        self.recent.push(block);
+    }
+
+    /// Bytes to deliver: forged for the turn and around it, own, repeated, damaged.
+    fn random_bytes(&self, random: &mut Random, items: usize) -> Vec<u8> {
+        let turn = self.tally.report.turn;
+        let near = turn + random.below(self.n as usize) as u32;
+        let far = (turn + random.below(12) as u32).saturating_sub(4);
+        let slot = random.pick(&[turn, turn, turn, near, near, far]);
+        let mut block = self.forged(random, slot.min(SLOTS - 1), items);
+        match random.below(30) {
+            0..8 => block = self.own.unwrap_or(block),
+            8..10 if !self.recent.is_empty() => block = random.pick(&self.recent),
+            10 => block = block::encode(&samples::message(random)),
+            11 => break_form(random, &mut block),
+            12 => damage(random, &mut block),
+            13 => random.fill(&mut block),
+            14 => {
+                let mut bytes = block.to_vec();
+                bytes.resize(random.below(600), 0);
+                return bytes;
+            }
+            _ => {}
+        }
+        block.to_vec()
+    }
+
+    /// A well-formed block that no replica sent.
+    fn forged(&self, random: &mut Random, slot: u32, items: usize) -> [u8; BLOCK] {
+        let count = random.pick(&[0, 1, 1, 2, 3, 6]);
+        let first = 1 + random.below(MAX_TICKET as usize - 6) as u32;
+        let records: Vec<Record> = (0..count)
+            .map(|j| Record {
+                ticket: first + j,
+                entries: forged_entries(random, items),
+            })
+            .collect();
+        block::encode(&Message {
+            kind: if count == 0 { NEXT } else { TO_COMMIT },
+            sender: (slot % self.n) as u8,
+            replicas: self.n as u8,
+            slot,
+            records,
+        })
+    }
+}
+
+fn forged_entries(random: &mut Random, items: usize) -> Vec<Entry> {
+    let mut chosen: Vec<u8> = (0..1 + random.below(8))
+        .map(|_| random.below(items) as u8)
+        .collect();
+    chosen.sort_unstable();
+    chosen.dedup();
+    chosen
+        .into_iter()
+        .map(|item| Entry {
+            item,
+            value: samples::value(random),
+        })
+        .collect()
+}

@@ -1,0 +1,143 @@
+//! What the answers of a replica amount to, and what a run met.
+
+use crate::replica::{Replica, Report, ITEMS};
+use crate::trace::{Answer, Call};
+
+/// A replica under test: the model's, or another that is compared with it.
+pub trait Subject {
+    fn call(&mut self, call: &Call) -> Result<Answer, u8>;
+    fn report(&self) -> Report;
+    fn values(&self) -> [i32; ITEMS];
+}
+
+impl Subject for Replica {
+    fn call(&mut self, call: &Call) -> Result<Answer, u8> {
+        Replica::call(self, call)
+    }
+    fn report(&self) -> Report {
+        Replica::report(self)
+    }
+    fn values(&self) -> [i32; ITEMS] {
+        *Replica::values(self)
+    }
+}
+
+/// What the answers of one replica amount to.
+#[derive(Clone)]
+pub struct Tally {
+    own: u8,
+    /// The report that is due.
+    pub report: Report,
+    /// The tickets open.
+    pub open: Vec<u32>,
+}
+
+impl Tally {
+    /// Of a replica of which no call is seen yet.
+    pub fn new(own: usize, report: Report) -> Tally {
+        Tally {
+            own: own as u8,
+            report,
+            open: Vec::new(),
+        }
+    }
+
+    pub fn feed(&mut self, call: &Call, answer: &Result<Answer, u8>) {
+        let report = &mut self.report;
+        match (call, answer) {
+            (_, Ok(Answer::Ticket(ticket))) => {
+                report.tickets += 1;
+                self.open.push(*ticket);
+            }
+            (Call::Ask { ticket }, Ok(Answer::ReadOnly(true))) => {
+                report.read_only += 1;
+                self.close(*ticket);
+            }
+            (Call::Withdraw { ticket }, Ok(_)) => {
+                report.withdrawn += 1;
+                self.close(*ticket);
+            }
+            (Call::Write { ticket, .. }, Err(9)) => {
+                report.aborted += 1;
+                self.close(*ticket);
+            }
+            (_, Ok(Answer::Work(work))) => {
+                report.turn += u32::from(work.moved);
+                report.commits += u32::from(work.ticket != 0);
+                report.aborted += work.aborted.len() as u32;
+                let own = work.sender == self.own && work.ticket != 0;
+                report.committed += u32::from(own);
+                if own {
+                    self.close(work.ticket);
+                }
+                for &ticket in &work.aborted {
+                    self.close(ticket);
+                }
+            }
+            _ => {}
+        }
+        self.report.open = self.open.len() as u32;
+    }
+
+    fn close(&mut self, ticket: u32) {
+        self.open.retain(|&open| open != ticket);
+    }
+}
+
+/// What a run met, so that a test can say that it met enough.
+#[derive(Clone, Debug, Default)]
+pub struct Seen {
+    pub calls: u32,
+    /// By refusal number.
+    pub refused: [u32; 23],
+    pub commits: u32,
+    /// Transactions aborted by a work, and by a write.
+    pub aborted: u32,
+    pub stale: u32,
+    pub read_only: u32,
+    pub withdrawn: u32,
+    /// Blocks sent, by their number of records.
+    pub sent: [u32; 7],
+    pub delivered: u32,
+}
+
+impl Seen {
+    pub fn feed(&mut self, call: &Call, answer: &Result<Answer, u8>) {
+        self.calls += 1;
+        match (call, answer) {
+            (_, Err(number)) => {
+                self.refused[usize::from(*number)] += 1;
+                self.stale += u32::from(*number == 9);
+            }
+            (_, Ok(Answer::Work(work))) => {
+                self.commits += u32::from(work.ticket != 0);
+                self.aborted += work.aborted.len() as u32;
+            }
+            (_, Ok(Answer::ReadOnly(true))) => self.read_only += 1,
+            (_, Ok(Answer::Block(block))) => self.sent[usize::from(block[3])] += 1,
+            (Call::Withdraw { .. }, Ok(_)) => self.withdrawn += 1,
+            (Call::Deliver { .. }, Ok(_)) => self.delivered += 1,
+            _ => {}
+        }
+    }
+
+    pub fn add(&mut self, other: &Seen) {
+        let sum = |into: &mut [u32], from: &[u32]| {
+            into.iter_mut().zip(from).for_each(|(a, b)| *a += b);
+        };
+        sum(&mut self.refused, &other.refused);
+        sum(&mut self.sent, &other.sent);
+        self.calls += other.calls;
+        self.commits += other.commits;
+        self.aborted += other.aborted;
+        self.stale += other.stale;
+        self.read_only += other.read_only;
+        self.withdrawn += other.withdrawn;
+        self.delivered += other.delivered;
+    }
+
+    /// The refusal numbers met at least `least` times.
+    pub fn numbers(&self, least: u32) -> Vec<usize> {
+        (1..23).filter(|&n| self.refused[n] >= least).collect()
+    }
+}

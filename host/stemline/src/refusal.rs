@@ -1,0 +1,163 @@
+//! Why a call is refused.
+
+use std::{error, fmt};
+
+/// Why a call is refused: one case for each number of document 01's table.
+#[derive(Clone, Copy, Debug, PartialEq, Eq, Hash)]
+#[non_exhaustive]
+pub enum Refusal {
+    WrongLength,
+    OutOfRange,
+    NotOpen,
+    NotActive,
+    AllOpen,
+    TicketsSpent,
+    Applying,
+    Locked,
+    /// The only refusal that changes something: the transaction ends as aborted.
+    Stale,
+    WritesetFull,
+    NotOurTurn,
+    AlreadySent,
+    SlotsSpent,
+    WrongCheck,
+    WrongForm,
+    WrongGroup,
+    PastSlot,
+    FarSlot,
+    NotSent,
+    SlotTaken,
+    NothingWaits,
+    NotOpenAsSent,
+    /// A number that the table does not have: the library is newer than this crate.
+    Unknown(u8),
+}
+
+/// The cases in the order of their numbers, from 1 on, and what each says.
+const TABLE: [(Refusal, &str); 22] = [
+    (
+        Refusal::WrongLength,
+        "a lent slice has not its exact length",
+    ),
+    (
+        Refusal::OutOfRange,
+        "the number of replicas, the own number or the item is out of range",
+    ),
+    (Refusal::NotOpen, "no open transaction has this ticket"),
+    (
+        Refusal::NotActive,
+        "the transaction is asked or sent already",
+    ),
+    (Refusal::AllOpen, "6 transactions are open"),
+    (Refusal::TicketsSpent, "all 100,000,000 tickets are given"),
+    (
+        Refusal::Applying,
+        "a block of another replica is being applied",
+    ),
+    (Refusal::Locked, "another open transaction holds the item"),
+    (
+        Refusal::Stale,
+        "the item has changed since the snapshot; the transaction is aborted",
+    ),
+    (
+        Refusal::WritesetFull,
+        "the transaction has written 8 items, and this is a ninth",
+    ),
+    (Refusal::NotOurTurn, "the turn is another replica's slot"),
+    (
+        Refusal::AlreadySent,
+        "the block for this slot is sent already",
+    ),
+    (Refusal::SlotsSpent, "all 100,000,000 slots are processed"),
+    (Refusal::WrongCheck, "the block's check does not match"),
+    (Refusal::WrongForm, "the block is not well formed"),
+    (
+        Refusal::WrongGroup,
+        "the block is of a group of another size",
+    ),
+    (Refusal::PastSlot, "the block's slot is below the turn"),
+    (
+        Refusal::FarSlot,
+        "the block's slot is too far above the turn",
+    ),
+    (
+        Refusal::NotSent,
+        "the block names this replica as its sender, which did not send it for its present turn",
+    ),
+    (Refusal::SlotTaken, "a block for this slot waits already"),
+    (Refusal::NothingWaits, "no block waits for the turn"),
+    (
+        Refusal::NotOpenAsSent,
+        "an own writeset whose transaction is not open as sent",
+    ),
+];
+
+impl Refusal {
+    /// The refusal of a number; `None` for 0, which accepts.
+    pub fn from_number(number: u8) -> Option<Refusal> {
+        let at = number.checked_sub(1)?;
+        let known = TABLE.get(usize::from(at));
+        Some(known.map_or(Refusal::Unknown(number), |&(refusal, _)| refusal))
+    }
+
+    /// The number in document 01's table.
+    pub fn number(self) -> u8 {
+        match self {
+            Refusal::Unknown(number) => number,
+            known => 1 + known.entry() as u8,
+        }
+    }
+
+    /// Where the table has it; behind its end for an unknown number.
+    fn entry(self) -> usize {
+        let at = TABLE.iter().position(|&(refusal, _)| refusal == self);
+        at.unwrap_or(TABLE.len())
+    }
+}
+
+impl fmt::Display for Refusal {
+    fn fmt(&self, f: &mut fmt::Formatter) -> fmt::Result {
+        match TABLE.get(self.entry()) {
+            Some((_, words)) => write!(f, "{words} ({})", self.number()),
+            None => write!(f, "refused by an unknown number ({})", self.number()),
+        }
+    }
+}
+
+impl error::Error for Refusal {}
+
+#[cfg(test)]
+mod tests {
+    use super::*;
+
+    #[test]
+    fn numbers_and_back() {
+        assert_eq!(Refusal::from_number(0), None);
+        for number in 1..=u8::MAX {
+            let refusal = Refusal::from_number(number).unwrap();
+            assert_eq!(refusal.number(), number);
+            assert_eq!(matches!(refusal, Refusal::Unknown(_)), number > 22);
+        }
+    }
+
+    #[test]
+    fn words() {
+        let words = |number| Refusal::from_number(number).unwrap().to_string();
+        assert_eq!(words(14), "the block's check does not match (14)");
+        assert_eq!(words(23), "refused by an unknown number (23)");
+        let said: Vec<String> = (1..=23).map(words).collect();
+        assert!((1..23).all(|at| !said[..at].contains(&said[at])));
+        let boxed: Box<dyn error::Error> = Box::new(Refusal::Stale);
+        assert!(boxed.to_string().ends_with("(9)"));
+    }
+
+    /// By the table of document 01.
+    #[test]
+    fn cases_by_number() {
+        assert_eq!(Refusal::from_number(1), Some(Refusal::WrongLength));
+        assert_eq!(Refusal::from_number(9), Some(Refusal::Stale));
+        assert_eq!(Refusal::from_number(13), Some(Refusal::SlotsSpent));
+        assert_eq!(Refusal::from_number(21), Some(Refusal::NothingWaits));
+        assert_eq!(Refusal::from_number(22), Some(Refusal::NotOpenAsSent));
+    }
+}

@@ -1,0 +1,254 @@
+//! Memory altered by something else than a call: every call returns, the same call on the same
+//! memory gives the same, and a refused one changes nothing.
+
+use model::block::{self, BLOCK, MAX_TICKET};
+use model::drive::{start_values, Peers, Subject, STYLES};
+use model::samples::{self, Random};
+use stemline::ffi::Txn;
+use stemline::Memory;
+
+use crate::both::Both;
+
+const ROUNDS: usize = 2_000;
+/// Calls at one altered memory, each on what the last one left.
+const CALLS: usize = 60;
+
+/// A number with the limits of what a call compares it with.
+fn number(random: &mut Random) -> u32 {
+    let any = random.bits() as u32;
+    let small = random.below(12) as u32;
+    let last = MAX_TICKET - 1 + random.below(3) as u32;
+    random.pick(&[0, small, small, small, last, u32::MAX - 1, u32::MAX, any])
+}
+
+fn byte(random: &mut Random) -> u8 {
+    let any = random.byte();
+    let small = random.below(10) as u8;
+    random.pick(&[0, small, small, small, 7, 8, 9, 127, 128, 200, 255, any])
+}
+
+fn fill_numbers(random: &mut Random, numbers: &mut [u32]) {
+    numbers.fill_with(|| number(random));
+}
+
+fn row(random: &mut Random) -> Txn {
+    Txn {
+        ticket: number(random),
+        stage: byte(random),
+        snapshot: number(random),
+        writes: byte(random),
+    }
+}
+
+/// A block, most often with a right check: well formed, or with bytes of any kind in it.
+fn place(random: &mut Random, replicas: u8) -> [u8; BLOCK] {
+    let mut block = block::encode(&samples::message(random));
+    block[2] = replicas;
+    for _ in 0..random.pick(&[0, 0, 1, 3, 20]) {
+        let reach = random.pick(&[24, BLOCK]);
+        let at = random.below(reach);
+        block[at] = byte(random);
+    }
+    if random.below(4) == 0 {
+        random.fill(&mut block);
+        block[0] = byte(random);
+        block[3] = byte(random);
+    }
+    if random.below(8) > 0 {
+        block::put_check(&mut block);
+    }
+    block
+}
+
+/// A memory that calls have led to.
+fn reached(random: &mut Random, seed: u64) -> Memory {
+    let n = 2 + random.below(5) as u32;
+    let own = random.below(n as usize) as u32;
+    let mut both = Both::new(n, own, &start_values());
+    let mut peers = Peers::new(n, own, both.report());
+    for _ in 0..random.below(200) {
+        let call = peers.random_call(random, STYLES[seed as usize % 4]);
+        let answer = both.call(&call);
+        peers.feed(&call, &answer);
+    }
+    both.library.memory().clone()
+}
+
+/// Alters one part.
+fn alter(random: &mut Random, memory: &mut Memory) {
+    let replicas = memory.counts.replicas;
+    let counts = &mut memory.counts;
+    match random.below(16) {
+        0 => memory.table[random.below(6)] = row(random),
+        1 => memory.table.fill_with(|| row(random)),
+        2 => memory.table[random.below(6)].stage = byte(random),
+        3 => memory.table[random.below(6)].writes = byte(random),
+        4 => memory.turn.slot = number(random),
+        5 => memory.turn.sent ^= true,
+        6 => memory.turn.applying ^= true,
+        7 => memory.items.fill_with(|| byte(random)),
+        8 => fill_numbers(random, &mut memory.queue),
+        9 => fill_numbers(random, &mut memory.stamps),
+        10 => counts.done = byte(random),
+        11 => counts.own = byte(random),
+        12 => {
+            counts.commits = number(random);
+            counts.tickets = number(random);
+            counts.committed = number(random);
+            counts.read_only = number(random);
+            counts.aborted = number(random);
+            counts.withdrawn = number(random);
+        }
+        13 => {
+            // Most often with places of the right length, so that the calls get past 1.
+            counts.replicas = byte(random);
+            let length = BLOCK * usize::from(counts.replicas);
+            let mut places = memory.places.to_vec();
+            if random.below(8) > 0 {
+                places.resize(length, random.byte());
+            }
+            memory.places = places.into_boxed_slice();
+        }
+        14 => {
+            let (places, _) = memory.places.as_chunks_mut::<BLOCK>();
+            places
+                .iter_mut()
+                .for_each(|at| *at = place(random, replicas));
+        }
+        _ => memory.outbox = place(random, replicas),
+    }
+}
+
+/// Which call, and what goes with it.
+#[derive(Debug)]
+struct Asked {
+    call: usize,
+    ticket: u32,
+    item: u32,
+    value: i32,
+    bytes: Vec<u8>,
+}
+
+impl Asked {
+    fn random(random: &mut Random, memory: &Memory) -> Asked {
+        let row = memory.table[random.below(6)];
+        let replicas = memory.counts.replicas;
+        let outbox = memory.outbox;
+        let any = number(random);
+        Asked {
+            call: random.below(10),
+            ticket: random.pick(&[row.ticket, row.ticket, row.ticket, any]),
+            item: random.below(130) as u32,
+            value: samples::value(random),
+            bytes: match random.below(4) {
+                0 => outbox.to_vec(),
+                1 => samples::block_of(2, any % 1_000, &[]).to_vec(),
+                _ => place(random, replicas).to_vec(),
+            },
+        }
+    }
+
+    /// The number of the answer, and the answer as text.
+    fn call(&self, memory: &mut Memory) -> (u8, String) {
+        macro_rules! said {
+            ($reply:expr) => {{
+                let reply = $reply;
+                (reply.number, format!("{reply:?}"))
+            }};
+        }
+        match self.call {
+            0 => said!(memory.make(self.ticket % 8, self.item % 8, &start_values())),
+            1 => said!(memory.begin()),
+            2 => said!(memory.read(self.ticket, self.item)),
+            3 | 4 => said!(memory.write(self.ticket, self.item, self.value)),
+            5 => said!(memory.ask(self.ticket)),
+            6 => said!(memory.withdraw(self.ticket)),
+            7 => {
+                let mut block = [0; BLOCK];
+                let number = memory.send(&mut block);
+                (number, format!("{number} {block:?}"))
+            }
+            8 => {
+                let number = memory.deliver(&self.bytes);
+                (number, format!("{number}"))
+            }
+            _ => {
+                let (number, report) = said!(memory.report());
+                assert_eq!(number, 0, "a report: {report}");
+                said!(memory.work())
+            }
+        }
+    }
+}
+
+#[test]
+fn every_call_returns() {
+    let mut numbers = [0u32; 23];
+    for seed in 0..ROUNDS as u64 {
+        let mut random = Random::new(seed);
+        let mut memory = reached(&mut random, seed);
+        for _ in 0..random.pick(&[1, 2, 3, 40]) {
+            alter(&mut random, &mut memory);
+        }
+        for call in 0..CALLS {
+            if random.below(10) == 0 {
+                alter(&mut random, &mut memory);
+            }
+            let asked = Asked::random(&mut random, &memory);
+            let before = memory.clone();
+            let mut copy = memory.clone();
+            let answer = asked.call(&mut memory);
+            let again = asked.call(&mut copy);
+            let place = format!("seed {seed}, call {call}: {asked:?}");
+            assert_eq!(answer, again, "{place}");
+            assert!(memory == copy, "{place}: the memories differ");
+            if answer.0 != 0 && answer.0 != 9 {
+                assert!(memory == before, "{place}: {answer:?} changed something");
+            }
+            numbers[usize::from(answer.0)] += 1;
+        }
+    }
+    // Every number of the table is met here too.
+    let missing: Vec<usize> = (0..23).filter(|&number| numbers[number] == 0).collect();
+    assert_eq!(missing, [0; 0], "{numbers:?}");
+}
+
+/// What the engine's definitions say of single alterations.
+#[test]
+fn single_alterations() {
+    let fresh = || {
+        let both = Both::new(2, 0, &start_values());
+        both.library.memory().clone()
+    };
+    // A row that claims more than 8 writes has 8: the ninth item is refused by 10.
+    let mut memory = fresh();
+    memory.begin();
+    memory.table[0].writes = 200;
+    for (at, item) in memory.items[..8].iter_mut().enumerate() {
+        *item = 10 + at as u8;
+    }
+    assert_eq!(memory.write(1, 9, 0).number, 10);
+    assert_eq!(memory.write(1, 12, 0).number, 0);
+    // A count at its type's limit stays.
+    let mut memory = fresh();
+    memory.counts.withdrawn = u32::MAX;
+    memory.begin();
+    assert_eq!(memory.withdraw(1).number, 0);
+    assert_eq!(memory.counts.withdrawn, u32::MAX);
+    // A stage above 2 is not active.
+    let mut memory = fresh();
+    memory.begin();
+    memory.table[0].stage = 3;
+    assert_eq!(memory.ask(1).number, 4);
+    // With an N of 0 and no place every place is empty; of 200, every block is another group's.
+    let mut memory = fresh();
+    memory.counts.replicas = 0;
+    assert_eq!(memory.work().number, 1);
+    memory.places = Box::new([]);
+    assert_eq!(memory.work().number, 21);
+    let good = samples::block_of(2, 1, &[]);
+    memory.counts.replicas = 200;
+    assert_eq!(memory.deliver(&good), 1);
+    memory.places = vec![0; 200 * BLOCK].into_boxed_slice();
+    assert_eq!(memory.deliver(&good), 16);
+}

@@ -1,0 +1,190 @@
+//! A replica of the library and one of the model that get the same calls. After each call the
+//! answers are compared, and all memory that the interface shows.
+
+use model::block::{self, BLOCK};
+use model::drive::Subject;
+use model::replica::{self as second, Stage, ITEMS};
+use model::trace::{Answer, Call};
+use stemline::{Asked, Memory, Refusal, Replica};
+
+pub struct Both {
+    pub library: Replica,
+    pub model: second::Replica,
+    /// The library's memory before the call.
+    before: Memory,
+}
+
+impl Both {
+    pub fn new(n: u32, own: u32, values: &[i32; ITEMS]) -> Both {
+        let library = Replica::new(n, own, values).unwrap();
+        let model = second::Replica::make(n, own, values).unwrap();
+        Both::of(library, model)
+    }
+
+    pub fn of(library: Replica, model: second::Replica) -> Both {
+        let both = Both {
+            before: library.memory().clone(),
+            library,
+            model,
+        };
+        same(&both.model, both.library.memory());
+        both
+    }
+
+    /// Both after so many slots without records and so many transactions withdrawn.
+    pub fn late(self, slots: u32, tickets: u32) -> Both {
+        let mut memory = self.library.memory().clone();
+        memory.turn.slot += slots;
+        memory.counts.tickets += tickets;
+        memory.counts.withdrawn += tickets;
+        let model = self.model.fast_forward(slots, tickets);
+        Both::of(Replica::from_memory(memory), model)
+    }
+}
+
+impl Subject for Both {
+    fn call(&mut self, call: &Call) -> Result<Answer, u8> {
+        self.before.clone_from(self.library.memory());
+        let answer = play(&mut self.library, call);
+        let due = self.model.call(call);
+        assert_eq!(answer, due, "{call:?}: the library's answer, the model's");
+        same(&self.model, self.library.memory());
+        // The interface shows more than the model has: what is left in free rows, and the like.
+        if answer.is_err() && answer != Err(9) || matches!(call, Call::Read { .. } | Call::Report) {
+            let after = self.library.memory();
+            assert!(*after == self.before, "changed by {call:?}, {answer:?}");
+        }
+        answer
+    }
+
+    fn report(&self) -> second::Report {
+        report(&self.library)
+    }
+
+    fn values(&self) -> [i32; ITEMS] {
+        *self.library.values()
+    }
+}
+
+fn report(replica: &Replica) -> second::Report {
+    let report = replica.report();
+    second::Report {
+        turn: report.turn,
+        commits: report.commits,
+        tickets: report.tickets,
+        open: report.active,
+        committed: report.committed,
+        read_only: report.read_only,
+        aborted: report.aborted,
+        withdrawn: report.withdrawn,
+    }
+}
+
+/// One call at the library's replica, its answer as the model's.
+pub fn play(replica: &mut Replica, call: &Call) -> Result<Answer, u8> {
+    let played: Result<Answer, Refusal> = match *call {
+        Call::Begin => replica.begin().map(Answer::Ticket),
+        Call::Read { ticket, item } => replica.read(ticket, item).map(Answer::Value),
+        Call::Write {
+            ticket,
+            item,
+            value,
+        } => replica.write(ticket, item, value).map(|()| Answer::Done),
+        Call::Ask { ticket } => {
+            let asked = replica.ask(ticket);
+            asked.map(|asked| Answer::ReadOnly(asked == Asked::ReadOnly))
+        }
+        Call::Withdraw { ticket } => replica.withdraw(ticket).map(|()| Answer::Done),
+        Call::Report => Ok(Answer::Report(report(replica))),
+        Call::Send => replica.send().map(|block| Answer::Block(Box::new(block))),
+        Call::Deliver { ref bytes } => replica.deliver(bytes).map(|()| Answer::Done),
+        Call::Work => replica.work().map(|work| {
+            Answer::Work(second::Work {
+                sender: work.sender,
+                ticket: work.ticket,
+                moved: work.moved,
+                aborted: work.aborted().to_vec(),
+            })
+        }),
+    };
+    played.map_err(Refusal::number)
+}
+
+/// Stops where the library's memory is not the model's.
+pub fn same(model: &second::Replica, memory: &Memory) {
+    let counts = &memory.counts;
+    assert_eq!(
+        [
+            usize::from(counts.replicas),
+            usize::from(counts.own),
+            usize::from(counts.done)
+        ],
+        [model.inbox.len(), usize::from(model.own), model.done]
+    );
+    assert_eq!(
+        [
+            counts.commits,
+            counts.tickets,
+            counts.committed,
+            counts.read_only,
+            counts.aborted,
+            counts.withdrawn
+        ],
+        [
+            model.commits,
+            model.tickets,
+            model.committed,
+            model.read_only,
+            model.aborted,
+            model.withdrawn
+        ]
+    );
+    let turn = memory.turn;
+    let due = (model.turn, model.outbox.is_some(), model.applying);
+    assert_eq!((turn.slot, turn.sent, turn.applying), due);
+    assert!(memory.values == model.values, "values");
+    assert!(memory.stamps == model.stamps, "stamps");
+    if let Some(sent) = &model.outbox {
+        assert!(memory.outbox == *sent, "outbox");
+    }
+    let (queued, behind) = memory.queue.split_at(model.queue.len());
+    assert_eq!(queued, model.queue);
+    assert!(behind.iter().all(|&ticket| ticket == 0), "behind the queue");
+    same_rows(model, memory);
+    same_places(model, memory);
+}
+
+/// The rows that are not free, rising by ticket, are the open transactions.
+fn same_rows(model: &second::Replica, memory: &Memory) {
+    let mut rows: Vec<usize> = (0..6).filter(|&r| memory.table[r].ticket != 0).collect();
+    rows.sort_by_key(|&r| memory.table[r].ticket);
+    assert_eq!(rows.len(), model.open.len());
+    for (r, open) in rows.into_iter().zip(&model.open) {
+        let row = memory.table[r];
+        let stage = match open.stage {
+            Stage::Active => 0,
+            Stage::Asked => 1,
+            Stage::Sent => 2,
+        };
+        let due = (open.ticket, stage, open.snapshot);
+        assert_eq!((row.ticket, row.stage, row.snapshot), due);
+        let count = usize::from(row.writes);
+        let items = memory.items[8 * r..][..count].iter();
+        let values = memory.writes[8 * r..][..count].iter();
+        assert!(items.zip(values).eq(&open.writes), "writes of {row:?}");
+        let snapshot = &memory.snapshots[ITEMS * r..][..ITEMS];
+        assert!(*snapshot == open.values[..], "snapshot of {row:?}");
+    }
+}
+
+/// Each place holds the block of the message that waits there, or is empty.
+fn same_places(model: &second::Replica, memory: &Memory) {
+    let (places, _) = memory.places.as_chunks::<BLOCK>();
+    assert_eq!(places.len(), model.inbox.len());
+    for (place, waiting) in places.iter().zip(&model.inbox) {
+        match waiting {
+            None => assert_eq!(place[0], 0, "an empty place"),
+            Some(message) => assert!(*place == block::encode(message), "a place"),
+        }
+    }
+}

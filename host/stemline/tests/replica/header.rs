@@ -1,0 +1,156 @@
+//! The C header beside the Rust declarations: sizes, offsets, lengths and numbers.
+
+use std::fs;
+use std::mem::offset_of;
+use std::path::Path;
+use std::process::Command;
+
+use stemline::ffi::{
+    AskReply, BeginReply, Counts, ReadReply, Reply, Report, ReportReply, Turn, Txn, WorkReply,
+};
+use stemline::Refusal;
+
+/// Compiles a C program against the header and the static library, and gives what it prints.
+pub fn run_c(source: &str, name: &str) -> String {
+    let host = Path::new(env!("CARGO_MANIFEST_DIR")).join("..");
+    let room = Path::new(env!("CARGO_TARGET_TMPDIR")).join(name);
+    fs::create_dir_all(&room).unwrap();
+    let (file, program) = (room.join("program.c"), room.join("program"));
+    fs::write(&file, source).unwrap();
+    let compiled = Command::new("cc")
+        .args([
+            "-std=c11",
+            "-Wall",
+            "-Wextra",
+            "-Werror",
+            "-pedantic",
+            "-O2",
+        ])
+        .arg("-I")
+        .arg(host.join("include"))
+        .arg(&file)
+        .arg(host.join("../target/staticlib/libreplica.a"))
+        .arg("-o")
+        .arg(&program)
+        .output()
+        .expect("cc, the C compiler, is on the PATH");
+    let said = String::from_utf8_lossy(&compiled.stderr);
+    assert!(compiled.status.success(), "cc: {said}");
+    let ran = Command::new(&program).output().unwrap();
+    assert!(ran.status.success(), "{:?}", ran);
+    String::from_utf8(ran.stdout).unwrap()
+}
+
+/// The lines that a C program must print of a struct: its size and the offset of each field.
+macro_rules! layout {
+    ($expected:ident, $lines:ident, $c:literal, $rust:ty, $($field:ident)*) => {
+        let size = size_of::<$rust>();
+        $expected.push_str(&format!("{} {size}\n", $c));
+        $lines.push_str(&format!("printf(\"{0} %zu\\n\", sizeof({0}));\n", $c));
+        $(
+            let (field, at) = (stringify!($field), offset_of!($rust, $field));
+            $expected.push_str(&format!("{}.{field} {at}\n", $c));
+            $lines.push_str(&format!(
+                "printf(\"{0}.{field} %zu\\n\", offsetof({0}, {field}));\n", $c
+            ));
+        )*
+    };
+}
+
+#[test]
+fn structs_have_one_layout() {
+    let (mut due, mut lines) = (String::new(), String::new());
+    layout!(due, lines, "stemline_txn", Txn, ticket stage snapshot writes);
+    layout!(due, lines, "stemline_turn", Turn, slot sent applying);
+    layout!(due, lines, "stemline_counts", Counts,
+        replicas own commits done tickets committed read_only aborted withdrawn);
+    layout!(due, lines, "stemline_report_values", Report,
+        turn commits tickets active committed read_only aborted withdrawn);
+    layout!(due, lines, "stemline_reply", Reply, number counts);
+    layout!(due, lines, "stemline_begin_reply", BeginReply, number ticket counts);
+    layout!(due, lines, "stemline_read_reply", ReadReply, number value);
+    layout!(due, lines, "stemline_ask_reply", AskReply, number read_only counts);
+    layout!(due, lines, "stemline_report_reply", ReportReply, number report);
+    layout!(due, lines, "stemline_work_reply", WorkReply,
+        number sender moved count ticket aborted counts);
+    let source = format!(
+        "#include <stdio.h>\n#include \"stemline.h\"\nint main(void) {{\n{lines}return 0;\n}}\n"
+    );
+    assert_eq!(run_c(&source, "layout"), due);
+}
+
+/// STEMLINE_NOT_OPEN in C is Refusal::NotOpen in Rust, by the same number.
+#[test]
+fn numbers_have_one_name() {
+    let header = include_str!("../../../include/stemline.h");
+    for number in 1..=22 {
+        let case = format!("{:?}", Refusal::from_number(number).unwrap());
+        let mut name = String::from("STEMLINE");
+        for letter in case.chars() {
+            if letter.is_uppercase() {
+                name.push('_');
+            }
+            name.push(letter.to_ascii_uppercase());
+        }
+        assert!(
+            header.contains(&format!("    {name} = {number}, ")) || number == 22,
+            "{name} = {number}"
+        );
+    }
+    assert!(header.contains("    STEMLINE_NOT_OPEN_AS_SENT = 22 "));
+    assert!(!header.contains(" = 23"));
+}
+
+#[test]
+fn lengths_are_the_same() {
+    let names = "TABLE ITEMS WRITES SNAPSHOTS QUEUE VALUES STAMPS PLACES(3) OUTBOX BLOCK";
+    let lines: String = names
+        .split(' ')
+        .map(|name| format!("printf(\"%zu\\n\", (size_t)STEMLINE_{name});\n"))
+        .collect();
+    let source = format!(
+        "#include <stdio.h>\n#include \"stemline.h\"\nint main(void) {{\n{lines}return 0;\n}}\n"
+    );
+    let memory = stemline::Memory::zero(3);
+    let due = [
+        memory.table.len(),
+        memory.items.len(),
+        memory.writes.len(),
+        memory.snapshots.len(),
+        memory.queue.len(),
+        memory.values.len(),
+        memory.stamps.len(),
+        memory.places.len(),
+        memory.outbox.len(),
+        stemline::BLOCK,
+    ];
+    let due: String = due.iter().map(|length| format!("{length}\n")).collect();
+    assert_eq!(run_c(&source, "lengths"), due);
+}
+
+/// The one call that the story does not make: withdraw, at a right length and at a wrong one.
+#[test]
+fn withdraw_from_c() {
+    let source = r#"
+        #include <stdio.h>
+        #include "stemline.h"
+        int main(void) {
+            stemline_txn table[STEMLINE_TABLE + 1] = {{7, 0, 3, 0}, {9, 1, 3, 1}};
+            stemline_counts counts = {2, 0, 5, 0, 9, 1, 2, 3, 4};
+            for (size_t length = 5; length < 8; length++) {
+                for (uint32_t ticket = 7; ticket < 10; ticket++) {
+                    stemline_reply r = stemline_withdraw(table, length, counts, ticket);
+                    counts = r.counts;
+                    printf("%zu %u: %d, %u %u, %u\n", length, (unsigned)ticket, r.number,
+                           (unsigned)counts.withdrawn, (unsigned)counts.tickets,
+                           (unsigned)table[0].ticket);
+                }
+            }
+            return 0;
+        }
+    "#;
+    let due = "5 7: 1, 4 9, 7\n5 8: 1, 4 9, 7\n5 9: 1, 4 9, 7\n\
+               6 7: 0, 5 9, 0\n6 8: 3, 5 9, 0\n6 9: 4, 5 9, 0\n\
+               7 7: 1, 5 9, 0\n7 8: 1, 5 9, 0\n7 9: 1, 5 9, 0\n";
+    assert_eq!(run_c(source, "withdraw"), due);
+}

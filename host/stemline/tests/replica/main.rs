@@ -1,0 +1,9 @@
+//! The replica of the static library beside the second model, and by itself.
+
+mod altered;
+mod both;
+mod ends;
+mod groups;
+mod header;
+mod lengths;
+mod story;

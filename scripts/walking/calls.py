@@ -1,0 +1,144 @@
+"""The ten calls: parameters, the call by value behind each, and what it says."""
+
+from dataclasses import dataclass
+
+# how a parameter is lent or passed
+TABLE_MUT, TABLE, TURN_MUT, TURN = "table-mut", "table", "turn-mut", "turn"
+COUNTS, U32, I32 = "counts", "u32", "i32"
+
+
+def mut(elem):
+    return ("mut", elem)
+
+
+def shared(elem):
+    return ("shared", elem)
+
+
+@dataclass
+class Call:
+    name: str
+    by_value: str  # the function that does the work, after its crate
+    result: str  # what that function returns
+    reply: str  # what the exported function returns
+    params: list
+    before: str = ""  # the parts of the memory, {t} the table and {h} the turn
+    step: str = ""  # the engine's step, {m} the memory
+    after: str = ""  # the parts after the call, {r} the reply too; empty where nothing changes
+    replied: str = ""  # what the reply is of an outcome
+
+    @property
+    def crate(self):
+        return "calls" if self.by_value.startswith("client_calls.") else "turn_calls"
+
+    @property
+    def function(self):
+        return self.by_value.split(".")[-1]
+
+    def kind(self, i):
+        return self.params[i][1]
+
+    # the table and the turn stand in front; the rest is handed on
+    @property
+    def table(self):
+        return next((k for _, k in self.params if k in (TABLE, TABLE_MUT)), None)
+
+    @property
+    def turn(self):
+        return next((k for _, k in self.params if k in (TURN, TURN_MUT)), None)
+
+    @property
+    def held(self):
+        return (self.table is not None) + (self.turn is not None)
+
+    @property
+    def rest(self):
+        return range(self.held, len(self.params))
+
+    @property
+    def turn_passed(self):
+        """Whether the call by value is passed the turn."""
+        return self.turn is not None and self.name != "make"
+
+    @property
+    def direct(self):
+        """Whether the call by value returns the reply itself."""
+        return self.result == self.reply
+
+    def is_slice(self, i):
+        return isinstance(self.kind(i), tuple) or self.kind(i) in (TABLE, TABLE_MUT)
+
+    def is_mut(self, i):
+        kind = self.kind(i)
+        return kind[0] == "mut" if isinstance(kind, tuple) else kind in (TABLE_MUT, TURN_MUT)
+
+    def is_ref(self, i):
+        return self.is_slice(i) or self.kind(i) in (TURN, TURN_MUT)
+
+    @property
+    def refs(self):
+        return [i for i in range(len(self.params)) if self.is_ref(i)]
+
+
+ALL = "queue items writes snapshots values stamps places outbox"
+LATER = " ".join(part + "′" for part in ALL.split())
+
+CALLS = {
+    call.name: call
+    for call in [
+        Call(
+            "make", "make_on", "Made", "Reply",
+            [("table", TABLE_MUT), ("turn", TURN_MUT), ("size", U32), ("me", U32), ("start", shared("i32")), ("queue", mut("u32")),
+             ("items", mut("u8")), ("writes", mut("i32")), ("snapshots", mut("i32")), ("values", mut("i32")), ("stamps", mut("u32")),
+             ("places", mut("u8")), ("outbox", mut("u8"))],
+            "allParts {h} (countsFor 0 0) {t} " + ALL, "makeStep {m} size me start", "allParts {h} ({r} .counts) {t} " + LATER, "reply",
+        ),
+        Call(
+            "begin", "client_calls.begin_on", "Begun", "BeginReply",
+            [("table", TABLE_MUT), ("counts", COUNTS), ("values", shared("i32")), ("snapshots", mut("i32"))],
+            "beginParts m {t} counts values snapshots", "beginStep {m}", "beginParts m {t} ({r} .counts) values snapshots′", "beginReply",
+        ),
+        Call(
+            "read", "client_calls.read_on", "ReadReply", "ReadReply",
+            [("table", TABLE), ("items", shared("u8")), ("writes", shared("i32")), ("snapshots", shared("i32")), ("ticket", U32), ("item", U32)],
+            "readParts m {t} items writes snapshots", "readStep {m} ticket item", "", "readReply",
+        ),
+        Call(
+            "write", "client_calls.write_on", "Changed", "Reply",
+            [("table", TABLE_MUT), ("turn", TURN), ("counts", COUNTS), ("items", mut("u8")), ("writes", mut("i32")), ("stamps", shared("u32")),
+             ("ticket", U32), ("item", U32), ("value", I32)],
+            "writeParts m {h} counts {t} items writes stamps", "writeStep {m} ticket item value",
+            "writeParts m {h} ({r} .counts) {t} items′ writes′ stamps", "reply",
+        ),
+        Call(
+            "ask", "client_calls.ask_on", "Asked", "AskReply",
+            [("table", TABLE_MUT), ("counts", COUNTS), ("queue", mut("u32")), ("ticket", U32)],
+            "askParts m counts {t} queue", "askStep {m} ticket", "askParts m ({r} .counts) {t} queue′", "askReply",
+        ),
+        Call(
+            "withdraw", "client_calls.withdraw_on", "Changed", "Reply", [("table", TABLE_MUT), ("counts", COUNTS), ("ticket", U32)],
+            "withdrawParts m counts {t}", "withdrawStep {m} ticket", "withdrawParts m ({r} .counts) {t}", "reply",
+        ),
+        Call(
+            "report", "client_calls.report_on", "ReportReply", "ReportReply", [("table", TABLE), ("turn", TURN), ("counts", COUNTS)],
+            "reportParts m {h} counts {t}", "reportStep {m}", "", "reportReply",
+        ),
+        Call(
+            "send", "send_on", "Sent", "u8",
+            [("table", TABLE_MUT), ("turn", TURN_MUT), ("counts", COUNTS), ("queue", mut("u32")), ("items", shared("u8")), ("writes", shared("i32")),
+             ("outbox", mut("u8")), ("block", mut("u8"))],
+            "sendParts m {h} counts {t} queue items writes outbox", "sendStep {m} block", "sendParts m {h} counts {t} queue′ items writes outbox′", "number",
+        ),
+        Call(
+            "deliver", "deliver_on", "u8", "u8",
+            [("turn", TURN), ("counts", COUNTS), ("places", mut("u8")), ("outbox", shared("u8")), ("bytes", shared("u8"))],
+        ),
+        Call(
+            "work", "work_on", "Worked", "WorkReply",
+            [("table", TABLE_MUT), ("turn", TURN_MUT), ("counts", COUNTS), ("queue", mut("u32")), ("items", shared("u8")), ("values", mut("i32")),
+             ("stamps", mut("u32")), ("places", mut("u8"))],
+            "workParts m {h} counts {t} queue items values stamps places", "workStep {m}",
+            "workParts m {h} ({r} .counts) {t} queue′ items values′ stamps′ places′", "workReply",
+        ),
+    ]
+}
