@@ -73,9 +73,9 @@ enum stemline_number {
 /* An open transaction. Ticket 0 is a free row. Stage 0 is active, 1 asked, 2 sent. */
 typedef struct stemline_txn {
     uint32_t ticket;
-    uint8_t stage;
+    uint32_t stage;
     uint32_t snapshot; /* the commit count at its begin */
-    uint8_t writes;    /* how many items it has written */
+    uint32_t writes;    /* how many items it has written */
 } stemline_txn;
 
 typedef struct stemline_turn {

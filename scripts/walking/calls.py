@@ -22,6 +22,7 @@ class Call:
     result: str  # what that function returns
     reply: str  # what the exported function returns
     params: list
+    refusal: str = ""  # the function that answers a wrong table, empty where the call answers 1 itself or has no table
     before: str = ""  # the parts of the memory, {t} the table and {h} the turn
     step: str = ""  # the engine's step, {m} the memory
     after: str = ""  # the parts after the call, {r} the reply too; empty where nothing changes
@@ -54,6 +55,16 @@ class Call:
     @property
     def rest(self):
         return range(self.held, len(self.params))
+
+    @property
+    def by_row(self):
+        """How the call finds its transaction's row: `find`, `scan`, or not at all."""
+        return {"begin": "scan", "read": "find", "write": "find", "ask": "find", "withdraw": "find"}.get(self.name)
+
+    @property
+    def by_rows(self):
+        """Whether it takes all six rows."""
+        return self.name in ("make", "write", "report", "send", "work")
 
     @property
     def turn_passed(self):
@@ -91,43 +102,43 @@ CALLS = {
             [("table", TABLE_MUT), ("turn", TURN_MUT), ("size", U32), ("me", U32), ("start", shared("i32")), ("queue", mut("u32")),
              ("items", mut("u8")), ("writes", mut("i32")), ("snapshots", mut("i32")), ("values", mut("i32")), ("stamps", mut("u32")),
              ("places", mut("u8")), ("outbox", mut("u8"))],
-            "allParts {h} (countsFor 0 0) {t} " + ALL, "makeStep {m} size me start", "allParts {h} ({r} .counts) {t} " + LATER, "reply",
+            "not_made", "allParts {h} (countsFor 0 0) {t} " + ALL, "makeStep {m} size me start", "allParts {h} ({r} .counts) {t} " + LATER, "reply",
         ),
         Call(
             "begin", "client_calls.begin_on", "Begun", "BeginReply",
             [("table", TABLE_MUT), ("counts", COUNTS), ("values", shared("i32")), ("snapshots", mut("i32"))],
-            "beginParts m {t} counts values snapshots", "beginStep {m}", "beginParts m {t} ({r} .counts) values snapshots′", "beginReply",
+            "no_begin", "beginParts m {t} counts values snapshots", "beginStep {m}", "beginParts m {t} ({r} .counts) values snapshots′", "beginReply",
         ),
         Call(
             "read", "client_calls.read_on", "ReadReply", "ReadReply",
             [("table", TABLE), ("items", shared("u8")), ("writes", shared("i32")), ("snapshots", shared("i32")), ("ticket", U32), ("item", U32)],
-            "readParts m {t} items writes snapshots", "readStep {m} ticket item", "", "readReply",
+            "no_read", "readParts m {t} items writes snapshots", "readStep {m} ticket item", "", "readReply",
         ),
         Call(
             "write", "client_calls.write_on", "Changed", "Reply",
             [("table", TABLE_MUT), ("turn", TURN), ("counts", COUNTS), ("items", mut("u8")), ("writes", mut("i32")), ("stamps", shared("u32")),
              ("ticket", U32), ("item", U32), ("value", I32)],
-            "writeParts m {h} counts {t} items writes stamps", "writeStep {m} ticket item value",
+            "replied", "writeParts m {h} counts {t} items writes stamps", "writeStep {m} ticket item value",
             "writeParts m {h} ({r} .counts) {t} items′ writes′ stamps", "reply",
         ),
         Call(
             "ask", "client_calls.ask_on", "Asked", "AskReply",
             [("table", TABLE_MUT), ("counts", COUNTS), ("queue", mut("u32")), ("ticket", U32)],
-            "askParts m counts {t} queue", "askStep {m} ticket", "askParts m ({r} .counts) {t} queue′", "askReply",
+            "no_ask", "askParts m counts {t} queue", "askStep {m} ticket", "askParts m ({r} .counts) {t} queue′", "askReply",
         ),
         Call(
             "withdraw", "client_calls.withdraw_on", "Changed", "Reply", [("table", TABLE_MUT), ("counts", COUNTS), ("ticket", U32)],
-            "withdrawParts m counts {t}", "withdrawStep {m} ticket", "withdrawParts m ({r} .counts) {t}", "reply",
+            "replied", "withdrawParts m counts {t}", "withdrawStep {m} ticket", "withdrawParts m ({r} .counts) {t}", "reply",
         ),
         Call(
             "report", "client_calls.report_on", "ReportReply", "ReportReply", [("table", TABLE), ("turn", TURN), ("counts", COUNTS)],
-            "reportParts m {h} counts {t}", "reportStep {m}", "", "reportReply",
+            "no_report", "reportParts m {h} counts {t}", "reportStep {m}", "", "reportReply",
         ),
         Call(
             "send", "send_on", "Sent", "u8",
             [("table", TABLE_MUT), ("turn", TURN_MUT), ("counts", COUNTS), ("queue", mut("u32")), ("items", shared("u8")), ("writes", shared("i32")),
              ("outbox", mut("u8")), ("block", mut("u8"))],
-            "sendParts m {h} counts {t} queue items writes outbox", "sendStep {m} block", "sendParts m {h} counts {t} queue′ items writes outbox′", "number",
+            "", "sendParts m {h} counts {t} queue items writes outbox", "sendStep {m} block", "sendParts m {h} counts {t} queue′ items writes outbox′", "number",
         ),
         Call(
             "deliver", "deliver_on", "u8", "u8",
@@ -137,7 +148,7 @@ CALLS = {
             "work", "work_on", "Worked", "WorkReply",
             [("table", TABLE_MUT), ("turn", TURN_MUT), ("counts", COUNTS), ("queue", mut("u32")), ("items", shared("u8")), ("values", mut("i32")),
              ("stamps", mut("u32")), ("places", mut("u8"))],
-            "workParts m {h} counts {t} queue items values stamps places", "workStep {m}",
+            "no_work", "workParts m {h} counts {t} queue items values stamps places", "workStep {m}",
             "workParts m {h} ({r} .counts) {t} queue′ items values′ stamps′ places′", "workReply",
         ),
     ]

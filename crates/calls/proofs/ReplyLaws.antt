@@ -1,10 +1,10 @@
--- A call with a table of six rows is its step, of another height it is refused by 1; and what a work's reply says of its tickets and of the turn. Assumes nothing.
+-- The replies of the calls that give nothing, of a report, a send, a work and a make; and what became of the turn. Assumes nothing.
 use Prim.Native.Nat.{ℕ, _-_, _≤_}
 use mathlib.Core.Path.{_≡_, refl, sym, ap, _∙_}
 use mathlib.Core.Bool.{Bool, true, false, cond, true≢false}
 use mathlib.Core.List.{List, _++_}
 use native.Mathlib.Omega.{arith}
-use borrow.Author.Tests.{eq-eqb, ne-eqb}
+use borrow.Author.Tests.{ne-eqb}
 use lib.Dec.{eqb}
 use lib.IntN.{ℤ}
 use lib.ListN.{length, getD, take, drop, replicate, take-append-drop}
@@ -30,21 +30,9 @@ use Rattle.working.specs.Lent.{Trimmed}
 use Rattle.engine.proofs.Tests.{same-by}
 use Rattle.engine.proofs.Steps.{send-by, work-by}
 use Rattle.lent.specs.Turns.{moved}
-use Rattle.calls.specs.Replies.{called, plainNumber, number, reply, sixOf, workReply, turnChange}
+use Rattle.calls.specs.Replies.{plainNumber, number, reply, sixOf, workReply, turnChange}
 use Rattle.calls.specs.declared.Reply.{Reply}
 use Rattle.calls.specs.declared.WorkReply.{WorkReply}
-
-module _ (height : ℕ) (m : Memory) (o : Outcome) where
-  pub called-other : (height ≡ 6 → ⊥) → called height m o ≡ outcome (refused 1) m
-  unfolding called
-  called-other h = rw (ne-eqb height 6 h)
-
-  pub called-six : height ≡ 6 → called height m o ≡ o
-  unfolding called
-  called-six h = rw (eq-eqb height 6 h)
-
-  pub answered : height ≡ 6 → (p : Outcome) → p ≡ o → p ≡ called height m o
-  answered h p e = e ∙ sym (called-six h)
 
 -- n tickets with zeros behind
 pub six-of : (n : ℕ) (tickets : List ℕ) → n ≤ 6 → length tickets ≡ 6 → drop n tickets ≡ replicate (6 - n) 0 → tickets ≡ sixOf (take n tickets)
@@ -101,15 +89,9 @@ report-is m r e = rw e
 
 -- ---- a send
 
--- t is the turn that the send left, e its equation
-pub send-did : (height : ℕ) (m : Memory) (block : List ℕ) → height ≡ 6 → (p : Outcome) → p ≡ sendStep m block → (left : List ℕ) → left ≡ blockLeft (sendStep m block .answer) block
-    → (numberOf (p .answer) ≡ number (called height m (sendStep m block)))
-    × (p .memory ≡ called height m (sendStep m block) .memory)
-    × (left ≡ blockLeft (called height m (sendStep m block) .answer) block)
-    × (p .memory .turn ≡ moved (changeIn 0 (p .answer)) (m .turn))
-send-did height m block h p e left l =
-    let q = answered height m (sendStep m block) h p e in
-    (ap number q, ap memory q, rw (called-six height m (sendStep m block) h) l, rw (← e) at (send-turn m block 0))
+pub send-did : (m : Memory) (block : List ℕ) (p : Outcome) → p ≡ sendStep m block
+    → (numberOf (p .answer) ≡ number (sendStep m block)) × (p .memory ≡ sendStep m block .memory) × (p .memory .turn ≡ moved (changeIn 0 (p .answer)) (m .turn))
+send-did m block p e = (ap number e, ap memory e, rw (← e) at (send-turn m block 0))
 
 -- ---- a work
 
@@ -121,9 +103,8 @@ work-reply n tickets t six sender ticket moves m =
     let l : length (take n tickets) ≡ n = length-take-le n tickets (omega (arith, t .few)) in
     rw (← six-of n tickets (t .few) six (t .zeros), l)
 
-pub work-did : (height : ℕ) (m : Memory) → height ≡ 6 → (p : Outcome) → p ≡ workStep m
-    → (p ≡ called height m (workStep m)) × (p .memory .turn ≡ moved (changeIn (m .counts .own) (p .answer)) (m .turn))
-work-did height m h p e = (answered height m (workStep m) h p e, rw (← e) at (work-turn m))
+pub work-did : (m : Memory) (p : Outcome) → p ≡ workStep m → p .memory .turn ≡ moved (changeIn (m .counts .own) (p .answer)) (m .turn)
+work-did m p e = rw (← e) at (work-turn m)
 
 -- ---- a make
 

@@ -5,9 +5,8 @@ use mathlib.Core.List.{List, [], _++_}
 use lib.Dec.{eqb}
 use lib.IntN.{ℤ, pos}
 use lib.ListN.{length, replicate}
-use Rattle.memory.specs.Memory.{Memory}
 use Rattle.engine.specs.declared.Report.{Report}
-use Rattle.engine.specs.Calls.{Step, Answer, numberOf, Outcome, outcome}
+use Rattle.engine.specs.Calls.{Step, Answer, numberOf, Outcome}
 use Rattle.engine.specs.Calls.Answer.{refused, made, began, got, wrote, queued, readOnly, withdrew, reported, sent, kept, worked}
 use Rattle.client.specs.declared.Answered.{Answered}
 use Rattle.client.specs.declared.Answered.the-variants as done
@@ -17,10 +16,6 @@ use Rattle.calls.specs.declared.ReadReply.{ReadReply}
 use Rattle.calls.specs.declared.AskReply.{AskReply}
 use Rattle.calls.specs.declared.ReportReply.{ReportReply}
 use Rattle.calls.specs.declared.WorkReply.{WorkReply}
-
--- a call with a table of so many rows: 1 where they are not six, else the call's own step
-unfoldable pub called : ℕ → Memory → Outcome → Outcome
-called height m o = cond (eqb height 6) o (outcome (refused 1) m)
 
 -- ---- what an answer gives; nothing, as 0 or empty, where it is another call's or refused
 

@@ -1,149 +1,80 @@
-// What a client may do.
+// What a client may do, at the row of its transaction: `at` is the row of the ticket, 6 where there is none, and `t` its record. Each contract holds of every table that has
+// the row.
 ghost use mathlib.Core.Path.{_≡_};
+ghost use mathlib.Core.List.{List};
+ghost use lib.ListN.{set};
+ghost use Rattle.memory.specs.declared.Txn.{Txn};
 ghost use Rattle.memory.specs.Memory.{Memory};
+ghost use Rattle.memory.specs.Rows.{freeRow, rowOf, rowAt};
 ghost use Rattle.engine.specs.Client.{beginStep, readStep, writeStep, askStep, withdrawStep, reportStep};
 ghost use Rattle.client.specs.Lent.{beginParts, readParts, writeParts, askParts, withdrawParts, reportParts};
-ghost use Rattle.calls.specs.Replies.{called, plainNumber, reply, beginReply, readReply, askReply, reportReply};
+ghost use Rattle.calls.specs.Replies.{plainNumber, reply, beginReply, readReply, askReply, reportReply};
 use super::AskReply;
 use super::Asked;
 use super::BeginReply;
 use super::Begun;
 use super::Changed;
 use super::ReadReply;
-use super::Reply;
 use super::ReportReply;
+use super::replies::no_ask;
+use super::replies::no_begin;
+use super::replies::no_read;
+use super::replies::replied;
 use client::Answered;
 use client::AskAnswer;
 use client::BeginAnswer;
 use client::ReadAnswer;
-use client::calls::ask;
-use client::calls::begin;
-use client::calls::read;
 use client::calls::report;
-use client::calls::withdraw;
-use client::calls::write;
-use engine::Report;
+use client::rows::ask_row;
+use client::rows::begin_row;
+use client::rows::read_row;
+use client::rows::withdraw_row;
+use client::rows::write_row;
 use memory::Counts;
 use memory::Turn;
 use memory::Txn;
 
-pub fn begin_on(
-    height: usize,
-    rows: [Txn; 6],
-    counts: Counts,
-    values: &[i32],
-    snapshots: &mut [i32],
-) -> Begun
-    ensures { λ r. ⌜ ((m : Memory) → (r .reply ≡ beginReply (called height (beginParts m rows counts (now (values .entry)) (now (snapshots .entry))) (beginStep (beginParts m rows counts (now (values .entry)) (now (snapshots .entry)))))) × (beginParts m (r .rows) (r .reply .counts) (now (values .entry)) (now (snapshots .exit)) ≡ called height (beginParts m rows counts (now (values .entry)) (now (snapshots .entry))) (beginStep (beginParts m rows counts (now (values .entry)) (now (snapshots .entry)))) .memory)) ⌝ }
+pub fn begin_on(at: usize, t: Txn, counts: Counts, values: &[i32], snapshots: &mut [i32]) -> Begun
+    ensures { λ r. ⌜ ((m : Memory) (table : List Txn) → t ≡ rowAt table at → at ≡ freeRow table → (r .reply ≡ beginReply (beginStep (beginParts m table counts (now (values .entry)) (now (snapshots .entry))))) × (beginParts m (set table at (r .row)) (r .reply .counts) (now (values .entry)) (now (snapshots .exit)) ≡ beginStep (beginParts m table counts (now (values .entry)) (now (snapshots .entry))) .memory)) ⌝ }
 {
-    if height != 6 {
-        return Begun {
-            reply: BeginReply {
-                number: 1,
-                ticket: 0,
-                counts: counts,
-            },
-            rows: rows,
-        };
-    }
-    let done = begin(rows, counts, values, &mut *snapshots);
-    let after = done.table;
-    let numbers = done.counts;
+    let done = begin_row(at, t, counts, values, &mut *snapshots);
+    let row = done.row;
+    let after = done.counts;
     let answer = done.answer;
     match answer {
         BeginAnswer::Ticket(ticket) => Begun {
             reply: BeginReply {
                 number: 0,
                 ticket: ticket,
-                counts: numbers,
+                counts: after,
             },
-            rows: after,
+            row: row,
         },
         BeginAnswer::Refused(number) => Begun {
-            reply: BeginReply {
-                number: number,
-                ticket: 0,
-                counts: numbers,
-            },
-            rows: after,
+            reply: no_begin(number, after),
+            row: row,
         },
     }
 }
 
 pub fn read_on(
-    height: usize,
-    rows: [Txn; 6],
+    at: usize,
+    t: Txn,
     items: &[u8],
     writes: &[i32],
     snapshots: &[i32],
     ticket: u32,
     item: u32,
 ) -> ReadReply
-    ensures { λ r. ⌜ ((m : Memory) → (r ≡ readReply (called height (readParts m rows (now (items .entry)) (now (writes .entry)) (now (snapshots .entry))) (readStep (readParts m rows (now (items .entry)) (now (writes .entry)) (now (snapshots .entry))) ticket item))) × (readParts m rows (now (items .entry)) (now (writes .entry)) (now (snapshots .entry)) ≡ called height (readParts m rows (now (items .entry)) (now (writes .entry)) (now (snapshots .entry))) (readStep (readParts m rows (now (items .entry)) (now (writes .entry)) (now (snapshots .entry))) ticket item) .memory)) ⌝ }
+    ensures { λ r. ⌜ ((m : Memory) (table : List Txn) → t ≡ rowAt table at → at ≡ rowOf ticket table → (r ≡ readReply (readStep (readParts m table (now (items .entry)) (now (writes .entry)) (now (snapshots .entry))) ticket item)) × (readParts m table (now (items .entry)) (now (writes .entry)) (now (snapshots .entry)) ≡ readStep (readParts m table (now (items .entry)) (now (writes .entry)) (now (snapshots .entry))) ticket item .memory)) ⌝ }
 {
-    if height != 6 {
-        return ReadReply {
-            number: 1,
-            value: 0,
-        };
-    }
-    let answer = read(rows, items, writes, snapshots, ticket, item);
+    let answer = read_row(at, t, items, writes, snapshots, item);
     match answer {
         ReadAnswer::Value(value) => ReadReply {
             number: 0,
             value: value,
         },
-        ReadAnswer::Refused(number) => ReadReply {
-            number: number,
-            value: 0,
-        },
-    }
-}
-
-pub fn write_on(
-    height: usize,
-    rows: [Txn; 6],
-    turn: Turn,
-    counts: Counts,
-    items: &mut [u8],
-    writes: &mut [i32],
-    stamps: &[u32],
-    ticket: u32,
-    item: u32,
-    value: i32,
-) -> Changed
-    ensures { λ r. ⌜ ((m : Memory) → (r .reply ≡ reply (called height (writeParts m turn counts rows (now (items .entry)) (now (writes .entry)) (now (stamps .entry))) (writeStep (writeParts m turn counts rows (now (items .entry)) (now (writes .entry)) (now (stamps .entry))) ticket item value))) × (writeParts m turn (r .reply .counts) (r .rows) (now (items .exit)) (now (writes .exit)) (now (stamps .entry)) ≡ called height (writeParts m turn counts rows (now (items .entry)) (now (writes .entry)) (now (stamps .entry))) (writeStep (writeParts m turn counts rows (now (items .entry)) (now (writes .entry)) (now (stamps .entry))) ticket item value) .memory)) ⌝ }
-{
-    if height != 6 {
-        return Changed {
-            reply: Reply {
-                number: 1,
-                counts: counts,
-            },
-            rows: rows,
-        };
-    }
-    let done = write(
-        turn,
-        rows,
-        counts,
-        &mut *items,
-        &mut *writes,
-        stamps,
-        ticket,
-        item,
-        value,
-    );
-    let after = done.table;
-    let numbers = done.counts;
-    let answer = done.answer;
-    let number = number_of(answer);
-    Changed {
-        reply: Reply {
-            number: number,
-            counts: numbers,
-        },
-        rows: after,
+        ReadAnswer::Refused(number) => no_read(number),
     }
 }
 
@@ -156,101 +87,92 @@ fn number_of(answer: Answered) -> u8
     }
 }
 
-pub fn ask_on(
-    height: usize,
+// The table's rows are for the locks of others.
+pub fn write_on(
+    at: usize,
+    t: Txn,
     rows: [Txn; 6],
+    turn: Turn,
     counts: Counts,
-    queue: &mut [u32],
+    items: &mut [u8],
+    writes: &mut [i32],
+    stamps: &[u32],
     ticket: u32,
-) -> Asked
-    ensures { λ r. ⌜ ((m : Memory) → (r .reply ≡ askReply (called height (askParts m counts rows (now (queue .entry))) (askStep (askParts m counts rows (now (queue .entry))) ticket))) × (askParts m (r .reply .counts) (r .rows) (now (queue .exit)) ≡ called height (askParts m counts rows (now (queue .entry))) (askStep (askParts m counts rows (now (queue .entry))) ticket) .memory)) ⌝ }
+    item: u32,
+    value: i32,
+) -> Changed
+    ensures { λ r. ⌜ ((m : Memory) → t ≡ rowAt rows at → at ≡ rowOf ticket rows → (r .reply ≡ reply (writeStep (writeParts m turn counts rows (now (items .entry)) (now (writes .entry)) (now (stamps .entry))) ticket item value)) × (writeParts m turn (r .reply .counts) (set rows at (r .row)) (now (items .exit)) (now (writes .exit)) (now (stamps .entry)) ≡ writeStep (writeParts m turn counts rows (now (items .entry)) (now (writes .entry)) (now (stamps .entry))) ticket item value .memory)) ⌝ }
 {
-    if height != 6 {
-        return Asked {
-            reply: AskReply {
-                number: 1,
-                read_only: false,
-                counts: counts,
-            },
-            rows: rows,
-        };
+    let done = write_row(
+        rows,
+        at,
+        t,
+        turn,
+        counts,
+        &mut *items,
+        &mut *writes,
+        stamps,
+        item,
+        value,
+    );
+    let row = done.row;
+    let after = done.counts;
+    let answer = done.answer;
+    let number = number_of(answer);
+    Changed {
+        reply: replied(number, after),
+        row: row,
     }
-    let done = ask(rows, counts, &mut *queue, ticket);
-    let after = done.table;
-    let numbers = done.counts;
+}
+
+pub fn ask_on(at: usize, t: Txn, counts: Counts, queue: &mut [u32], ticket: u32) -> Asked
+    ensures { λ r. ⌜ ((m : Memory) (table : List Txn) → t ≡ rowAt table at → at ≡ rowOf ticket table → (r .reply ≡ askReply (askStep (askParts m counts table (now (queue .entry))) ticket)) × (askParts m (r .reply .counts) (set table at (r .row)) (now (queue .exit)) ≡ askStep (askParts m counts table (now (queue .entry))) ticket .memory)) ⌝ }
+{
+    let done = ask_row(at, t, counts, &mut *queue);
+    let row = done.row;
+    let after = done.counts;
     let answer = done.answer;
     match answer {
         AskAnswer::Queued => Asked {
             reply: AskReply {
                 number: 0,
                 read_only: false,
-                counts: numbers,
+                counts: after,
             },
-            rows: after,
+            row: row,
         },
         AskAnswer::ReadOnly => Asked {
             reply: AskReply {
                 number: 0,
                 read_only: true,
-                counts: numbers,
+                counts: after,
             },
-            rows: after,
+            row: row,
         },
         AskAnswer::Refused(number) => Asked {
-            reply: AskReply {
-                number: number,
-                read_only: false,
-                counts: numbers,
-            },
-            rows: after,
+            reply: no_ask(number, after),
+            row: row,
         },
     }
 }
 
-pub fn withdraw_on(height: usize, rows: [Txn; 6], counts: Counts, ticket: u32) -> Changed
-    ensures { λ r. ⌜ ((m : Memory) → (r .reply ≡ reply (called height (withdrawParts m counts rows) (withdrawStep (withdrawParts m counts rows) ticket))) × (withdrawParts m (r .reply .counts) (r .rows) ≡ called height (withdrawParts m counts rows) (withdrawStep (withdrawParts m counts rows) ticket) .memory)) ⌝ }
+pub fn withdraw_on(at: usize, t: Txn, counts: Counts, ticket: u32) -> Changed
+    ensures { λ r. ⌜ ((m : Memory) (table : List Txn) → t ≡ rowAt table at → at ≡ rowOf ticket table → (r .reply ≡ reply (withdrawStep (withdrawParts m counts table) ticket)) × (withdrawParts m (r .reply .counts) (set table at (r .row)) ≡ withdrawStep (withdrawParts m counts table) ticket .memory)) ⌝ }
 {
-    if height != 6 {
-        return Changed {
-            reply: Reply {
-                number: 1,
-                counts: counts,
-            },
-            rows: rows,
-        };
-    }
-    let done = withdraw(rows, counts, ticket);
-    let after = done.table;
-    let numbers = done.counts;
+    let done = withdraw_row(at, t, counts);
+    let row = done.row;
+    let after = done.counts;
     let answer = done.answer;
     let number = number_of(answer);
     Changed {
-        reply: Reply {
-            number: number,
-            counts: numbers,
-        },
-        rows: after,
+        reply: replied(number, after),
+        row: row,
     }
 }
 
-pub fn report_on(height: usize, rows: [Txn; 6], turn: Turn, counts: Counts) -> ReportReply
-    ensures { λ r. ⌜ ((m : Memory) → (r ≡ reportReply (called height (reportParts m turn counts rows) (reportStep (reportParts m turn counts rows)))) × (reportParts m turn counts rows ≡ called height (reportParts m turn counts rows) (reportStep (reportParts m turn counts rows)) .memory)) ⌝ }
+pub fn report_on(rows: [Txn; 6], turn: Turn, counts: Counts) -> ReportReply
+    ensures { λ r. ⌜ ((m : Memory) → (r ≡ reportReply (reportStep (reportParts m turn counts rows))) × (reportParts m turn counts rows ≡ reportStep (reportParts m turn counts rows) .memory)) ⌝ }
 {
-    if height != 6 {
-        return ReportReply {
-            number: 1,
-            report: Report {
-                turn: 0,
-                commits: 0,
-                tickets: 0,
-                active: 0,
-                committed: 0,
-                read_only: 0,
-                aborted: 0,
-                withdrawn: 0,
-            },
-        };
-    }
     let now = report(turn, rows, counts);
     ReportReply {
         number: 0,

@@ -1,10 +1,10 @@
-// What a host is answered, and the calls of a client by value: what stands between a host's lent parts and the engine. `height` is how many rows the host's table has;
-// where it is not six the answer is 1, and nothing changes.
+// What a host is answered, and the calls of a client by value: what stands between a host's lent parts and the engine.
 use engine::Report;
 use memory::Counts;
 use memory::Txn;
 
 pub mod client_calls;
+pub mod replies;
 
 // Document 01's number, 0 where the call is accepted, and the replica's numbers after it; so in the replies below.
 #[repr(C)]
@@ -55,18 +55,18 @@ pub struct WorkReply {
     pub counts: Counts,
 }
 
-// A reply beside the table's rows after the call.
+// A reply beside the record of the transaction's row after the call.
 pub struct Changed {
     pub reply: Reply,
-    pub rows: [Txn; 6],
+    pub row: Txn,
 }
 
 pub struct Begun {
     pub reply: BeginReply,
-    pub rows: [Txn; 6],
+    pub row: Txn,
 }
 
 pub struct Asked {
     pub reply: AskReply,
-    pub rows: [Txn; 6],
+    pub row: Txn,
 }

@@ -3,3 +3,4 @@ pub mod BeginLaws
 pub mod ReadLaws
 pub mod WriteLaws
 pub mod AskLaws
+pub mod RowLaws

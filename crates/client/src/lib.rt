@@ -3,6 +3,7 @@ use memory::Counts;
 use memory::Txn;
 
 pub mod calls;
+pub mod rows;
 
 // What a call that gives nothing answers.
 pub enum Answered {
@@ -42,5 +43,24 @@ pub struct Asked {
 pub struct Changed {
     pub answer: Answered,
     pub table: [Txn; 6],
+    pub counts: Counts,
+}
+
+// The same at one row: the answer, with the row's record and the counts after it.
+pub struct RowBegun {
+    pub answer: BeginAnswer,
+    pub row: Txn,
+    pub counts: Counts,
+}
+
+pub struct RowAsked {
+    pub answer: AskAnswer,
+    pub row: Txn,
+    pub counts: Counts,
+}
+
+pub struct RowChanged {
+    pub answer: Answered,
+    pub row: Txn,
     pub counts: Counts,
 }

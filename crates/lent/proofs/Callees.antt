@@ -33,7 +33,7 @@ use denote.Triple.Spec.{tripleOf}
 use denote.Triple.Clauses.{lasts}
 use Rattle.memory.specs.declared.Txn.{Txn}
 use Rattle.memory.specs.declared.Turn.{Turn}
-use Rattle.memory.specs.Rows.{closed, rowOf}
+use Rattle.memory.specs.Rows.{closed, rowAt, rowFrom, rowOf}
 use Rattle.lent.specs.Table.{loaded, stored}
 use Rattle.lent.specs.Turns.{moved}
 use Rattle.lent.proofs.Lend.{MutAt, ShrAt, MutOf, ShrOf}
@@ -43,7 +43,10 @@ use Rattle.lent.proofs.Rows.{R, makes}
 use Rattle.lent.proofs.Cursor as U
 use Rattle.lent.proofs.load as load
 use Rattle.lent.proofs.store as store
+use Rattle.lent.proofs.scan as scan
 use Rattle.lent.proofs.find as find
+use Rattle.lent.proofs.row as row
+use Rattle.lent.proofs.put as put
 use Rattle.lent.proofs.end as end
 use Rattle.lent.proofs.copy_turn as copy-turn
 use Rattle.lent.proofs.move_turn as move-turn
@@ -55,8 +58,17 @@ module _ {M : Type 1} (𝓤 : URA M) (H : Heap 𝓤) (A : Atoms 𝓤) (mem : Mem
   abbrev pub Store : Contract 𝓤
   Store = tripleOf 𝓤 H A store.signature (store.spec 𝓤 H A mem run)
 
+  abbrev pub Scan : Contract 𝓤
+  Scan = tripleOf 𝓤 H A scan.signature (scan.spec 𝓤 H A mem run)
+
   abbrev pub Find : Contract 𝓤
   Find = tripleOf 𝓤 H A find.signature (find.spec 𝓤 H A mem run)
+
+  abbrev pub Row : Contract 𝓤
+  Row = tripleOf 𝓤 H A row.signature (row.spec 𝓤 H A mem run)
+
+  abbrev pub Put : Contract 𝓤
+  Put = tripleOf 𝓤 H A put.signature (put.spec 𝓤 H A mem run)
 
   abbrev pub End : Contract 𝓤
   End = tripleOf 𝓤 H A end.signature (end.spec 𝓤 H A mem run)
@@ -86,6 +98,19 @@ module _ {M : Type 1} (𝓤 : URA M) (H : Heap 𝓤) (A : Atoms 𝓤) (W : Given
     pub gives-load : (ν : ℕ) (δ : GName) (u : Val) → ent 𝓤 (Load 𝓤 H A mem run .post (to-load ν δ) u) (H .⇛ (guard 𝓤 (Is (Array R 6) (loaded ys) (u ∷ [])) (sep 𝓤 (A .lft (ν ∷ []) fullShare) (emp 𝓤))))
     gives-load ν δ u = answers 𝓤 H A W load.ended (load.clauses 𝓤 H A mem run) (to-load ν δ) (loaded ys) (λ r e. id⊢ 𝓤 _) u
 
+  -- ---- scan, for the ticket k
+  module _ (b o : ℕ) (ys : List Txn) (k : ℕ) (gk : k < 2 ^ 32) where
+    abbrev pub to-scan : ℕ → GName → Scan 𝓤 H A mem run .Ghost
+    to-scan ν δ = (((ν ∷ [], tt), (fullShare, tt), tt, (at-ref b o δ ys, (k, tt)), (of-slice b o ys, (vint w32 k ∷ [], tt))), tt)
+
+    pub asks-scan : (ν : ℕ) (δ : GName) → ent 𝓤 (sep 𝓤 (A .lft (ν ∷ []) fullShare) (sem 𝓤 H A (ShrAt R b o (ν ∷ []) δ ys))) (Scan 𝓤 H A mem run .pre (to-scan ν δ))
+    asks-scan ν δ =
+        qed W (‵ (flft (ν ∷ []) fullShare) ∷ ‵ (ShrAt R b o (ν ∷ []) δ ys) ∷ []) ∵ nothing ! $ move ! (1 ∷ 0 ∷ []) $ join ! $
+        nothing ! $ owned ! u32 (Is u32) (uint-makes 𝓤 H A W w32) k _ (refl, gk) $ fjoin ! $ move ! (2 ∷ 0 ∷ []) $ fjoin ! $ move ! (1 ∷ 0 ∷ []) $ join ! $ frame ! $ done !
+
+    pub gives-scan : (ν : ℕ) (δ : GName) (u : Val) → ent 𝓤 (Scan 𝓤 H A mem run .post (to-scan ν δ) u) (H .⇛ (guard 𝓤 (Is usize (rowFrom k 0 ys) (u ∷ [])) (sep 𝓤 (A .lft (ν ∷ []) fullShare) (emp 𝓤))))
+    gives-scan ν δ u = answers 𝓤 H A W scan.ended (scan.clauses 𝓤 H A mem run) (to-scan ν δ) (rowFrom k 0 ys) (λ r e. id⊢ 𝓤 _) u
+
   -- ---- find, for the ticket k
   module _ (b o : ℕ) (ys : List Txn) (k : ℕ) (gk : k < 2 ^ 32) where
     abbrev pub to-find : ℕ → GName → Find 𝓤 H A mem run .Ghost
@@ -98,6 +123,19 @@ module _ {M : Type 1} (𝓤 : URA M) (H : Heap 𝓤) (A : Atoms 𝓤) (W : Given
 
     pub gives-find : (ν : ℕ) (δ : GName) (u : Val) → ent 𝓤 (Find 𝓤 H A mem run .post (to-find ν δ) u) (H .⇛ (guard 𝓤 (Is usize (rowOf k ys) (u ∷ [])) (sep 𝓤 (A .lft (ν ∷ []) fullShare) (emp 𝓤))))
     gives-find ν δ u = answers 𝓤 H A W find.ended (find.clauses 𝓤 H A mem run) (to-find ν δ) (rowOf k ys) (λ r e. id⊢ 𝓤 _) u
+
+  -- ---- row, of the index n
+  module _ (b o : ℕ) (ys : List Txn) (n : ℕ) (gn : n < 2 ^ 64) where
+    abbrev pub to-row : ℕ → GName → Row 𝓤 H A mem run .Ghost
+    to-row ν δ = (((ν ∷ [], tt), (fullShare, tt), tt, (at-ref b o δ ys, (n, tt)), (of-slice b o ys, (vint w64 n ∷ [], tt))), tt)
+
+    pub asks-row : (ν : ℕ) (δ : GName) → ent 𝓤 (sep 𝓤 (A .lft (ν ∷ []) fullShare) (sem 𝓤 H A (ShrAt R b o (ν ∷ []) δ ys))) (Row 𝓤 H A mem run .pre (to-row ν δ))
+    asks-row ν δ =
+        qed W (‵ (flft (ν ∷ []) fullShare) ∷ ‵ (ShrAt R b o (ν ∷ []) δ ys) ∷ []) ∵ nothing ! $ move ! (1 ∷ 0 ∷ []) $ join ! $
+        nothing ! $ owned ! usize (Is usize) (uint-makes 𝓤 H A W w64) n _ (refl, gn) $ fjoin ! $ move ! (2 ∷ 0 ∷ []) $ fjoin ! $ move ! (1 ∷ 0 ∷ []) $ join ! $ frame ! $ done !
+
+    pub gives-row : (ν : ℕ) (δ : GName) (u : Val) → ent 𝓤 (Row 𝓤 H A mem run .post (to-row ν δ) u) (H .⇛ (guard 𝓤 (Is R (rowAt ys n) (u ∷ [])) (sep 𝓤 (A .lft (ν ∷ []) fullShare) (emp 𝓤))))
+    gives-row ν δ u = answers 𝓤 H A W row.ended (row.clauses 𝓤 H A mem run) (to-row ν δ) (rowAt ys n) (λ r e. id⊢ 𝓤 _) u
 
   -- ---- store, of the rows zs whose machine value is v
   module _ (b o : ℕ) (ys zs : List Txn) (v : Val) where
@@ -121,6 +159,24 @@ module _ {M : Type 1} (𝓤 : URA M) (H : Heap 𝓤) (A : Atoms 𝓤) (W : Given
   pub stored-length : (zs ys : List Txn) → length zs ≡ 6 → length (stored zs ys) ≡ length ys
   unfolding stored
   stored-length zs ys e = either (eqb (length ys) 6) (λ t. ap (λ (c : Bool). length (cond c zs ys)) t ∙ e ∙ sym (eqb-true (length ys) 6 t)) (λ f. ap (λ (c : Bool). length (cond c zs ys)) f)
+
+  -- ---- put, in row n, of the record t whose machine value is v
+  module _ (b o : ℕ) (ys : List Txn) (n : ℕ) (gn : n < 2 ^ 64) (t : Txn) (v : Val) where
+    abbrev pub to-put : ℕ → GName → Put 𝓤 H A mem run .Ghost
+    to-put ν δ = (((ν ∷ [], tt), (fullShare, tt), tt, (at-ref b o δ ys, (n, (t, tt))), (of-slice b o ys, (vint w64 n ∷ [], (v ∷ [], tt)))), tt)
+
+    pub asks-put : Is R t (v ∷ []) → (ν : ℕ) (δ : GName) → ent 𝓤 (sep 𝓤 (A .lft (ν ∷ []) fullShare) (sem 𝓤 H A (MutAt R b o (ν ∷ []) δ (length ys) ys))) (Put 𝓤 H A mem run .pre (to-put ν δ))
+    asks-put is ν δ =
+        qed W (‵ (flft (ν ∷ []) fullShare) ∷ ‵ (MutAt R b o (ν ∷ []) δ (length ys) ys) ∷ []) ∵ nothing ! $ move ! (1 ∷ 0 ∷ []) $ join ! $
+        nothing ! $ owned ! R (Is R) (makes 𝓤 H A) t (v ∷ []) is $ fjoin ! $ owned ! usize (Is usize) (uint-makes 𝓤 H A W w64) n _ (refl, gn) $ fjoin ! $ move ! (2 ∷ 0 ∷ []) $ fjoin ! $ move ! (1 ∷ 0 ∷ []) $ join ! $ frame ! $ done !
+
+    pub gives-put : (ν : ℕ) (δ : GName) (u : Val) → ent 𝓤 (Put 𝓤 H A mem run .post (to-put ν δ) u) (H .⇛ (guard 𝓤 (u ≡ vunit) (sep 𝓤 (A .lft (ν ∷ []) fullShare) (sem 𝓤 H A (finally R δ (set ys n t))))))
+    gives-put ν δ u =
+        qed W (raw (Put 𝓤 H A mem run .post (to-put ν δ) u) ∷ []) ∵ updating ! $
+        use1 W (later (some (λ (r : Unit {0}). ((‵ (flft (ν ∷ []) fullShare) ⊛ ‵ ftrue) ⊛ ‵ (Nothing .own r (u ∷ [])))
+        ⊛ some (λ (ws : List Txn × (Unit {0} × (Unit {0} × Unit {0}))). ‵ (lasts put.ended (ν ∷ [], tt) (to-put ν δ .0 .3) ws) ⊛ raw (fact 𝓤 (ws .0 ≡ set ys n t)))))) (id⊢ 𝓤 _) $ await ! tt $ pick ! (λ r.
+        split ! $ move ! (1 ∷ []) $ pick ! (λ ws. split ! $ move ! (1 ∷ []) $ heard ! (ws .0 ≡ set ys n t) (λ e. fsplit ! $ fsplit ! $ rewrite ! 0 (λ (l : List Txn). ‵ (finally R δ l)) e refl $
+        move ! (3 ∷ []) $ split ! $ split ! $ move ! (2 ∷ []) $ peeks ! Nothing (Is Nothing) (shows 𝓤 H A Nothing) r (u ∷ []) (λ is. drop ! $ at-once ! $ check ! (ap only (nothing-tells r _ is)) $ keep ! (0 ∷ 2 ∷ []) $ done !))))
 
   -- ---- end, of row n
   module _ (b o : ℕ) (ys : List Txn) (n : ℕ) (gn : n < 2 ^ 64) where

@@ -3,20 +3,17 @@
 ghost use mathlib.Core.Path.{_≡_};
 ghost use mathlib.Core.Bool.{false};
 ghost use lib.ListN.{set};
-ghost use Rattle.memory.specs.Rows.{closed, rowOf};
+ghost use Rattle.memory.specs.Rows.{closed, rowAt, rowFrom, rowOf};
 ghost use Rattle.memory.specs.Turns.{markSent, markApplying, advance};
 ghost use Rattle.lent.specs.Table.{loaded, stored};
 ghost use Rattle.lent.specs.Turns.{moved};
 use memory::Turn;
 use memory::Txn;
 
-// The row of the ticket, scanned from the first; one past the last, or 6 for ticket 0, where there is none.
-pub fn find(table: &[Txn], ticket: u32) -> usize
-    ensures { λ r. ⌜ r ≡ rowOf ticket (now (table .entry)) ⌝ }
+// The first row with the ticket, one past the last where there is none; ticket 0 is a free row's.
+pub fn scan(table: &[Txn], ticket: u32) -> usize
+    ensures { λ r. ⌜ r ≡ rowFrom ticket 0 (now (table .entry)) ⌝ }
 {
-    if ticket == 0 {
-        return 6;
-    }
     let mut i: usize = 0;
     while i < table.len() {
         let t = table[i];
@@ -26,6 +23,31 @@ pub fn find(table: &[Txn], ticket: u32) -> usize
         i += 1;
     }
     i
+}
+
+// The row of the ticket, scanned from the first; one past the last, or 6 for ticket 0, where there is none.
+pub fn find(table: &[Txn], ticket: u32) -> usize
+    ensures { λ r. ⌜ r ≡ rowOf ticket (now (table .entry)) ⌝ }
+{
+    if ticket == 0 {
+        return 6;
+    }
+    scan(table, ticket)
+}
+
+// One record; past the last, a free one.
+pub fn row(table: &[Txn], at: usize) -> Txn
+    ensures { λ r. ⌜ r ≡ rowAt (now (table .entry)) at ⌝ }
+{
+    if table.len() <= at {
+        return Txn {
+            ticket: 0,
+            stage: 0,
+            snapshot: 0,
+            writes: 0,
+        };
+    }
+    table[at]
 }
 
 // One record put in its row; a row past the last is none.

@@ -62,7 +62,7 @@ pub fn open_count(table: [Txn; 6]) -> u32
 }
 
 // How many writes a row has: a row that claims more than 8 has 8.
-pub fn write_count(writes: u8) -> usize
+pub fn write_count(writes: u32) -> usize
     ensures { λ r. ⌜ r ≡ min writes 8 ⌝ }
 {
     if writes < 8 { writes as usize } else { 8 }

@@ -7,8 +7,8 @@ use lib.IntN.{ℤ}
 use lib.ListN.{length}
 use Rattle.engine.specs.Make.{madeMemory}
 use Rattle.engine.specs.Step.{Call, step, after}
-use Rattle.calls.specs.Replies.{called}
+use Rattle.replica.specs.Called.{called}
 
 pub record Hosted : Type 0 where
   pub steps : (n own : ℕ) (values : List ℤ) → 2 ≤ n → n ≤ 6 → own < n → length values ≡ 128 → (cs : List Call) (c : Call)
-      → let m = after (madeMemory n own values) cs in called (length (m .txns .table)) m (step m c) ≡ step m c
+      → let m = after (madeMemory n own values) cs in called m (step m c) ≡ step m c

@@ -1,2 +1,3 @@
--- What ties a host's calls to the engine's.
+-- What the contracts of a host's calls say beside the engine's steps, and what ties them to the engine.
+pub mod Called
 pub mod Hosted

@@ -1,7 +1,6 @@
 // The interface that a host program uses: the ten calls of document 01, with the table lent as a slice of records and the turn behind a reference. Each takes the lent
-// parts apart, calls the engine, and puts back what changed; its contract is the equation with the engine's step.
+// parts apart, makes the engine's call, and puts back what changed; its contract is the equation with the engine's step.
 ghost use mathlib.Core.Path.{_≡_};
-ghost use lib.ListN.{length};
 ghost use Rattle.memory.specs.Memory.{Memory};
 ghost use Rattle.engine.specs.Make.{countsFor, makeStep};
 ghost use Rattle.engine.specs.Client.{beginStep, readStep, writeStep, askStep, withdrawStep, reportStep};
@@ -10,7 +9,8 @@ ghost use Rattle.client.specs.Lent.{allParts, beginParts, readParts, writeParts
 ghost use Rattle.sending.specs.Lent.{sendParts, blockLeft};
 ghost use Rattle.delivering.specs.Lent.{deliverParts};
 ghost use Rattle.working.specs.Lent.{workParts};
-ghost use Rattle.calls.specs.Replies.{called, number, reply, beginReply, readReply, askReply, reportReply, workReply};
+ghost use Rattle.calls.specs.Replies.{number, reply, beginReply, readReply, askReply, reportReply, workReply};
+ghost use Rattle.replica.specs.Called.{called};
 use calls::AskReply;
 use calls::BeginReply;
 use calls::ReadReply;
@@ -23,17 +23,27 @@ use calls::client_calls::read_on;
 use calls::client_calls::report_on;
 use calls::client_calls::withdraw_on;
 use calls::client_calls::write_on;
+use calls::replies::no_ask;
+use calls::replies::no_begin;
+use calls::replies::no_read;
+use calls::replies::no_report;
+use calls::replies::no_work;
+use calls::replies::replied;
 use lent::copy_turn;
 use lent::end;
 use lent::find;
 use lent::load;
 use lent::move_turn;
+use lent::put;
+use lent::row;
+use lent::scan;
 use lent::store;
 use memory::Counts;
 use memory::Turn;
 use memory::Txn;
 use turn_calls::deliver_on;
 use turn_calls::make_on;
+use turn_calls::not_made;
 use turn_calls::send_on;
 use turn_calls::work_on;
 
@@ -53,11 +63,13 @@ pub extern "C" fn stemline_make(
     places: &mut [u8],
     outbox: &mut [u8],
 ) -> Reply
-    ensures { λ r. ⌜ (r ≡ reply (called (length (now (table .entry))) (allParts (now (turn .entry)) (countsFor 0 0) (now (table .entry)) (now (queue .entry)) (now (items .entry)) (now (writes .entry)) (now (snapshots .entry)) (now (values .entry)) (now (stamps .entry)) (now (places .entry)) (now (outbox .entry))) (makeStep (allParts (now (turn .entry)) (countsFor 0 0) (now (table .entry)) (now (queue .entry)) (now (items .entry)) (now (writes .entry)) (now (snapshots .entry)) (now (values .entry)) (now (stamps .entry)) (now (places .entry)) (now (outbox .entry))) n own (now (start .entry))))) × (allParts (now (turn .exit)) (r .counts) (now (table .exit)) (now (queue .exit)) (now (items .exit)) (now (writes .exit)) (now (snapshots .exit)) (now (values .exit)) (now (stamps .exit)) (now (places .exit)) (now (outbox .exit)) ≡ called (length (now (table .entry))) (allParts (now (turn .entry)) (countsFor 0 0) (now (table .entry)) (now (queue .entry)) (now (items .entry)) (now (writes .entry)) (now (snapshots .entry)) (now (values .entry)) (now (stamps .entry)) (now (places .entry)) (now (outbox .entry))) (makeStep (allParts (now (turn .entry)) (countsFor 0 0) (now (table .entry)) (now (queue .entry)) (now (items .entry)) (now (writes .entry)) (now (snapshots .entry)) (now (values .entry)) (now (stamps .entry)) (now (places .entry)) (now (outbox .entry))) n own (now (start .entry))) .memory) ⌝ }
+    ensures { λ r. ⌜ (r ≡ reply (called (allParts (now (turn .entry)) (countsFor 0 0) (now (table .entry)) (now (queue .entry)) (now (items .entry)) (now (writes .entry)) (now (snapshots .entry)) (now (values .entry)) (now (stamps .entry)) (now (places .entry)) (now (outbox .entry))) (makeStep (allParts (now (turn .entry)) (countsFor 0 0) (now (table .entry)) (now (queue .entry)) (now (items .entry)) (now (writes .entry)) (now (snapshots .entry)) (now (values .entry)) (now (stamps .entry)) (now (places .entry)) (now (outbox .entry))) n own (now (start .entry))))) × (allParts (now (turn .exit)) (r .counts) (now (table .exit)) (now (queue .exit)) (now (items .exit)) (now (writes .exit)) (now (snapshots .exit)) (now (values .exit)) (now (stamps .exit)) (now (places .exit)) (now (outbox .exit)) ≡ called (allParts (now (turn .entry)) (countsFor 0 0) (now (table .entry)) (now (queue .entry)) (now (items .entry)) (now (writes .entry)) (now (snapshots .entry)) (now (values .entry)) (now (stamps .entry)) (now (places .entry)) (now (outbox .entry))) (makeStep (allParts (now (turn .entry)) (countsFor 0 0) (now (table .entry)) (now (queue .entry)) (now (items .entry)) (now (writes .entry)) (now (snapshots .entry)) (now (values .entry)) (now (stamps .entry)) (now (places .entry)) (now (outbox .entry))) n own (now (start .entry))) .memory) ⌝ }
 {
+    if table.len() != 6 {
+        return not_made(1);
+    }
     let rows = load(table);
     let done = make_on(
-        table.len(),
         rows,
         n,
         own,
@@ -83,11 +95,15 @@ pub extern "C" fn stemline_begin(
     values: &[i32],
     snapshots: &mut [i32],
 ) -> BeginReply
-    ensures { λ r. ⌜ ((m : Memory) → (r ≡ beginReply (called (length (now (table .entry))) (beginParts m (now (table .entry)) counts (now (values .entry)) (now (snapshots .entry))) (beginStep (beginParts m (now (table .entry)) counts (now (values .entry)) (now (snapshots .entry)))))) × (beginParts m (now (table .exit)) (r .counts) (now (values .entry)) (now (snapshots .exit)) ≡ called (length (now (table .entry))) (beginParts m (now (table .entry)) counts (now (values .entry)) (now (snapshots .entry))) (beginStep (beginParts m (now (table .entry)) counts (now (values .entry)) (now (snapshots .entry)))) .memory)) ⌝ }
+    ensures { λ r. ⌜ ((m : Memory) → (r ≡ beginReply (called (beginParts m (now (table .entry)) counts (now (values .entry)) (now (snapshots .entry))) (beginStep (beginParts m (now (table .entry)) counts (now (values .entry)) (now (snapshots .entry)))))) × (beginParts m (now (table .exit)) (r .counts) (now (values .entry)) (now (snapshots .exit)) ≡ called (beginParts m (now (table .entry)) counts (now (values .entry)) (now (snapshots .entry))) (beginStep (beginParts m (now (table .entry)) counts (now (values .entry)) (now (snapshots .entry)))) .memory)) ⌝ }
 {
-    let rows = load(table);
-    let done = begin_on(table.len(), rows, counts, values, snapshots);
-    store(table, done.rows);
+    if table.len() != 6 {
+        return no_begin(1, counts);
+    }
+    let at = scan(table, 0);
+    let t = row(table, at);
+    let done = begin_on(at, t, counts, values, snapshots);
+    put(table, at, done.row);
     done.reply
 }
 
@@ -100,10 +116,14 @@ pub extern "C" fn stemline_read(
     ticket: u32,
     item: u32,
 ) -> ReadReply
-    ensures { λ r. ⌜ ((m : Memory) → (r ≡ readReply (called (length (now (table .entry))) (readParts m (now (table .entry)) (now (items .entry)) (now (writes .entry)) (now (snapshots .entry))) (readStep (readParts m (now (table .entry)) (now (items .entry)) (now (writes .entry)) (now (snapshots .entry))) ticket item))) × (readParts m (now (table .entry)) (now (items .entry)) (now (writes .entry)) (now (snapshots .entry)) ≡ called (length (now (table .entry))) (readParts m (now (table .entry)) (now (items .entry)) (now (writes .entry)) (now (snapshots .entry))) (readStep (readParts m (now (table .entry)) (now (items .entry)) (now (writes .entry)) (now (snapshots .entry))) ticket item) .memory)) ⌝ }
+    ensures { λ r. ⌜ ((m : Memory) → (r ≡ readReply (called (readParts m (now (table .entry)) (now (items .entry)) (now (writes .entry)) (now (snapshots .entry))) (readStep (readParts m (now (table .entry)) (now (items .entry)) (now (writes .entry)) (now (snapshots .entry))) ticket item))) × (readParts m (now (table .entry)) (now (items .entry)) (now (writes .entry)) (now (snapshots .entry)) ≡ called (readParts m (now (table .entry)) (now (items .entry)) (now (writes .entry)) (now (snapshots .entry))) (readStep (readParts m (now (table .entry)) (now (items .entry)) (now (writes .entry)) (now (snapshots .entry))) ticket item) .memory)) ⌝ }
 {
-    let rows = load(table);
-    read_on(table.len(), rows, items, writes, snapshots, ticket, item)
+    if table.len() != 6 {
+        return no_read(1);
+    }
+    let at = find(table, ticket);
+    let t = row(table, at);
+    read_on(at, t, items, writes, snapshots, ticket, item)
 }
 
 #[no_mangle]
@@ -118,12 +138,18 @@ pub extern "C" fn stemline_write(
     item: u32,
     value: i32,
 ) -> Reply
-    ensures { λ r. ⌜ ((m : Memory) → (r ≡ reply (called (length (now (table .entry))) (writeParts m (now (turn .entry)) counts (now (table .entry)) (now (items .entry)) (now (writes .entry)) (now (stamps .entry))) (writeStep (writeParts m (now (turn .entry)) counts (now (table .entry)) (now (items .entry)) (now (writes .entry)) (now (stamps .entry))) ticket item value))) × (writeParts m (now (turn .entry)) (r .counts) (now (table .exit)) (now (items .exit)) (now (writes .exit)) (now (stamps .entry)) ≡ called (length (now (table .entry))) (writeParts m (now (turn .entry)) counts (now (table .entry)) (now (items .entry)) (now (writes .entry)) (now (stamps .entry))) (writeStep (writeParts m (now (turn .entry)) counts (now (table .entry)) (now (items .entry)) (now (writes .entry)) (now (stamps .entry))) ticket item value) .memory)) ⌝ }
+    ensures { λ r. ⌜ ((m : Memory) → (r ≡ reply (called (writeParts m (now (turn .entry)) counts (now (table .entry)) (now (items .entry)) (now (writes .entry)) (now (stamps .entry))) (writeStep (writeParts m (now (turn .entry)) counts (now (table .entry)) (now (items .entry)) (now (writes .entry)) (now (stamps .entry))) ticket item value))) × (writeParts m (now (turn .entry)) (r .counts) (now (table .exit)) (now (items .exit)) (now (writes .exit)) (now (stamps .entry)) ≡ called (writeParts m (now (turn .entry)) counts (now (table .entry)) (now (items .entry)) (now (writes .entry)) (now (stamps .entry))) (writeStep (writeParts m (now (turn .entry)) counts (now (table .entry)) (now (items .entry)) (now (writes .entry)) (now (stamps .entry))) ticket item value) .memory)) ⌝ }
 {
+    if table.len() != 6 {
+        return replied(1, counts);
+    }
+    let at = find(table, ticket);
+    let t = row(table, at);
     let rows = load(table);
     let now = copy_turn(turn);
     let done = write_on(
-        table.len(),
+        at,
+        t,
         rows,
         now,
         counts,
@@ -134,7 +160,7 @@ pub extern "C" fn stemline_write(
         item,
         value,
     );
-    store(table, done.rows);
+    put(table, at, done.row);
     done.reply
 }
 
@@ -145,35 +171,45 @@ pub extern "C" fn stemline_ask(
     queue: &mut [u32],
     ticket: u32,
 ) -> AskReply
-    ensures { λ r. ⌜ ((m : Memory) → (r ≡ askReply (called (length (now (table .entry))) (askParts m counts (now (table .entry)) (now (queue .entry))) (askStep (askParts m counts (now (table .entry)) (now (queue .entry))) ticket))) × (askParts m (r .counts) (now (table .exit)) (now (queue .exit)) ≡ called (length (now (table .entry))) (askParts m counts (now (table .entry)) (now (queue .entry))) (askStep (askParts m counts (now (table .entry)) (now (queue .entry))) ticket) .memory)) ⌝ }
+    ensures { λ r. ⌜ ((m : Memory) → (r ≡ askReply (called (askParts m counts (now (table .entry)) (now (queue .entry))) (askStep (askParts m counts (now (table .entry)) (now (queue .entry))) ticket))) × (askParts m (r .counts) (now (table .exit)) (now (queue .exit)) ≡ called (askParts m counts (now (table .entry)) (now (queue .entry))) (askStep (askParts m counts (now (table .entry)) (now (queue .entry))) ticket) .memory)) ⌝ }
 {
-    let rows = load(table);
-    let done = ask_on(table.len(), rows, counts, queue, ticket);
-    store(table, done.rows);
+    if table.len() != 6 {
+        return no_ask(1, counts);
+    }
+    let at = find(table, ticket);
+    let t = row(table, at);
+    let done = ask_on(at, t, counts, queue, ticket);
+    put(table, at, done.row);
     done.reply
 }
 
 #[no_mangle]
 pub extern "C" fn stemline_withdraw(table: &mut [Txn], counts: Counts, ticket: u32) -> Reply
-    ensures { λ r. ⌜ ((m : Memory) → (r ≡ reply (called (length (now (table .entry))) (withdrawParts m counts (now (table .entry))) (withdrawStep (withdrawParts m counts (now (table .entry))) ticket))) × (withdrawParts m (r .counts) (now (table .exit)) ≡ called (length (now (table .entry))) (withdrawParts m counts (now (table .entry))) (withdrawStep (withdrawParts m counts (now (table .entry))) ticket) .memory)) ⌝ }
+    ensures { λ r. ⌜ ((m : Memory) → (r ≡ reply (called (withdrawParts m counts (now (table .entry))) (withdrawStep (withdrawParts m counts (now (table .entry))) ticket))) × (withdrawParts m (r .counts) (now (table .exit)) ≡ called (withdrawParts m counts (now (table .entry))) (withdrawStep (withdrawParts m counts (now (table .entry))) ticket) .memory)) ⌝ }
 {
-    let rows = load(table);
-    let done = withdraw_on(table.len(), rows, counts, ticket);
+    if table.len() != 6 {
+        return replied(1, counts);
+    }
+    let at = find(table, ticket);
+    let t = row(table, at);
+    let done = withdraw_on(at, t, counts, ticket);
     if done.reply.number != 0 {
         return done.reply;
     }
-    let at = find(table, ticket);
     end(table, at);
     done.reply
 }
 
 #[no_mangle]
 pub extern "C" fn stemline_report(table: &[Txn], turn: &Turn, counts: Counts) -> ReportReply
-    ensures { λ r. ⌜ ((m : Memory) → (r ≡ reportReply (called (length (now (table .entry))) (reportParts m (now (turn .entry)) counts (now (table .entry))) (reportStep (reportParts m (now (turn .entry)) counts (now (table .entry)))))) × (reportParts m (now (turn .entry)) counts (now (table .entry)) ≡ called (length (now (table .entry))) (reportParts m (now (turn .entry)) counts (now (table .entry))) (reportStep (reportParts m (now (turn .entry)) counts (now (table .entry)))) .memory)) ⌝ }
+    ensures { λ r. ⌜ ((m : Memory) → (r ≡ reportReply (called (reportParts m (now (turn .entry)) counts (now (table .entry))) (reportStep (reportParts m (now (turn .entry)) counts (now (table .entry)))))) × (reportParts m (now (turn .entry)) counts (now (table .entry)) ≡ called (reportParts m (now (turn .entry)) counts (now (table .entry))) (reportStep (reportParts m (now (turn .entry)) counts (now (table .entry)))) .memory)) ⌝ }
 {
+    if table.len() != 6 {
+        return no_report(1);
+    }
     let rows = load(table);
     let now = copy_turn(turn);
-    report_on(table.len(), rows, now, counts)
+    report_on(rows, now, counts)
 }
 
 #[no_mangle]
@@ -187,21 +223,14 @@ pub extern "C" fn stemline_send(
     outbox: &mut [u8],
     block: &mut [u8],
 ) -> u8
-    ensures { λ r. ⌜ ((m : Memory) → (r ≡ number (called (length (now (table .entry))) (sendParts m (now (turn .entry)) counts (now (table .entry)) (now (queue .entry)) (now (items .entry)) (now (writes .entry)) (now (outbox .entry))) (sendStep (sendParts m (now (turn .entry)) counts (now (table .entry)) (now (queue .entry)) (now (items .entry)) (now (writes .entry)) (now (outbox .entry))) (now (block .entry))))) × (sendParts m (now (turn .exit)) counts (now (table .exit)) (now (queue .exit)) (now (items .entry)) (now (writes .entry)) (now (outbox .exit)) ≡ called (length (now (table .entry))) (sendParts m (now (turn .entry)) counts (now (table .entry)) (now (queue .entry)) (now (items .entry)) (now (writes .entry)) (now (outbox .entry))) (sendStep (sendParts m (now (turn .entry)) counts (now (table .entry)) (now (queue .entry)) (now (items .entry)) (now (writes .entry)) (now (outbox .entry))) (now (block .entry))) .memory) × (now (block .exit) ≡ blockLeft (called (length (now (table .entry))) (sendParts m (now (turn .entry)) counts (now (table .entry)) (now (queue .entry)) (now (items .entry)) (now (writes .entry)) (now (outbox .entry))) (sendStep (sendParts m (now (turn .entry)) counts (now (table .entry)) (now (queue .entry)) (now (items .entry)) (now (writes .entry)) (now (outbox .entry))) (now (block .entry))) .answer) (now (block .entry)))) ⌝ }
+    ensures { λ r. ⌜ ((m : Memory) → (r ≡ number (called (sendParts m (now (turn .entry)) counts (now (table .entry)) (now (queue .entry)) (now (items .entry)) (now (writes .entry)) (now (outbox .entry))) (sendStep (sendParts m (now (turn .entry)) counts (now (table .entry)) (now (queue .entry)) (now (items .entry)) (now (writes .entry)) (now (outbox .entry))) (now (block .entry))))) × (sendParts m (now (turn .exit)) counts (now (table .exit)) (now (queue .exit)) (now (items .entry)) (now (writes .entry)) (now (outbox .exit)) ≡ called (sendParts m (now (turn .entry)) counts (now (table .entry)) (now (queue .entry)) (now (items .entry)) (now (writes .entry)) (now (outbox .entry))) (sendStep (sendParts m (now (turn .entry)) counts (now (table .entry)) (now (queue .entry)) (now (items .entry)) (now (writes .entry)) (now (outbox .entry))) (now (block .entry))) .memory) × (now (block .exit) ≡ blockLeft (called (sendParts m (now (turn .entry)) counts (now (table .entry)) (now (queue .entry)) (now (items .entry)) (now (writes .entry)) (now (outbox .entry))) (sendStep (sendParts m (now (turn .entry)) counts (now (table .entry)) (now (queue .entry)) (now (items .entry)) (now (writes .entry)) (now (outbox .entry))) (now (block .entry))) .answer) (now (block .entry)))) ⌝ }
 {
+    if table.len() != 6 {
+        return 1;
+    }
     let rows = load(table);
     let now = copy_turn(turn);
-    let done = send_on(
-        table.len(),
-        rows,
-        now,
-        counts,
-        queue,
-        items,
-        writes,
-        outbox,
-        block,
-    );
+    let done = send_on(rows, now, counts, queue, items, writes, outbox, block);
     store(table, done.rows);
     move_turn(turn, done.change);
     done.number
@@ -232,21 +261,14 @@ pub extern "C" fn stemline_work(
     stamps: &mut [u32],
     places: &mut [u8],
 ) -> WorkReply
-    ensures { λ r. ⌜ ((m : Memory) → (r ≡ workReply (called (length (now (table .entry))) (workParts m (now (turn .entry)) counts (now (table .entry)) (now (queue .entry)) (now (items .entry)) (now (values .entry)) (now (stamps .entry)) (now (places .entry))) (workStep (workParts m (now (turn .entry)) counts (now (table .entry)) (now (queue .entry)) (now (items .entry)) (now (values .entry)) (now (stamps .entry)) (now (places .entry)))))) × (workParts m (now (turn .exit)) (r .counts) (now (table .exit)) (now (queue .exit)) (now (items .entry)) (now (values .exit)) (now (stamps .exit)) (now (places .exit)) ≡ called (length (now (table .entry))) (workParts m (now (turn .entry)) counts (now (table .entry)) (now (queue .entry)) (now (items .entry)) (now (values .entry)) (now (stamps .entry)) (now (places .entry))) (workStep (workParts m (now (turn .entry)) counts (now (table .entry)) (now (queue .entry)) (now (items .entry)) (now (values .entry)) (now (stamps .entry)) (now (places .entry)))) .memory)) ⌝ }
+    ensures { λ r. ⌜ ((m : Memory) → (r ≡ workReply (called (workParts m (now (turn .entry)) counts (now (table .entry)) (now (queue .entry)) (now (items .entry)) (now (values .entry)) (now (stamps .entry)) (now (places .entry))) (workStep (workParts m (now (turn .entry)) counts (now (table .entry)) (now (queue .entry)) (now (items .entry)) (now (values .entry)) (now (stamps .entry)) (now (places .entry)))))) × (workParts m (now (turn .exit)) (r .counts) (now (table .exit)) (now (queue .exit)) (now (items .entry)) (now (values .exit)) (now (stamps .exit)) (now (places .exit)) ≡ called (workParts m (now (turn .entry)) counts (now (table .entry)) (now (queue .entry)) (now (items .entry)) (now (values .entry)) (now (stamps .entry)) (now (places .entry))) (workStep (workParts m (now (turn .entry)) counts (now (table .entry)) (now (queue .entry)) (now (items .entry)) (now (values .entry)) (now (stamps .entry)) (now (places .entry)))) .memory)) ⌝ }
 {
+    if table.len() != 6 {
+        return no_work(1, counts);
+    }
     let rows = load(table);
     let now = copy_turn(turn);
-    let done = work_on(
-        table.len(),
-        rows,
-        now,
-        counts,
-        queue,
-        items,
-        values,
-        stamps,
-        places,
-    );
+    let done = work_on(rows, now, counts, queue, items, values, stamps, places);
     store(table, done.rows);
     move_turn(turn, done.change);
     done.reply

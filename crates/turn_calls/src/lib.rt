@@ -1,7 +1,5 @@
 // Make, and what moves the turn, by value; as the calls of a client in `calls`.
 ghost use mathlib.Core.Path.{_≡_};
-ghost use mathlib.Core.Bool.{false};
-ghost use lib.ListN.{replicate};
 ghost use Rattle.memory.specs.declared.Turn.{Turn};
 ghost use Rattle.memory.specs.Memory.{Memory};
 ghost use Rattle.engine.specs.Make.{countsFor, makeStep};
@@ -11,9 +9,10 @@ ghost use Rattle.lent.specs.Turns.{moved};
 ghost use Rattle.sending.specs.Lent.{sendParts, blockLeft};
 ghost use Rattle.delivering.specs.Lent.{deliverParts};
 ghost use Rattle.working.specs.Lent.{workParts};
-ghost use Rattle.calls.specs.Replies.{called, reply, number, workReply, turnChange};
+ghost use Rattle.calls.specs.Replies.{reply, number, workReply, turnChange};
 use calls::Reply;
 use calls::WorkReply;
+use calls::replies::no_work;
 use client::Answered;
 use delivering::DeliverAnswer;
 use delivering::deliver;
@@ -46,25 +45,27 @@ pub struct Worked {
     pub change: u8,
 }
 
-// The numbers of no replica.
-fn no_counts() -> Counts
-    ensures { λ r. ⌜ r ≡ countsFor 0 0 ⌝ }
+// A refused make's reply: the numbers of no replica.
+pub fn not_made(number: u8) -> Reply
+    ensures { λ r. ⌜ r ≡ record { number = number; counts = countsFor 0 0 } ⌝ }
 {
-    Counts {
-        replicas: 0,
-        own: 0,
-        commits: 0,
-        done: 0,
-        tickets: 0,
-        committed: 0,
-        read_only: 0,
-        aborted: 0,
-        withdrawn: 0,
+    Reply {
+        number: number,
+        counts: Counts {
+            replicas: 0,
+            own: 0,
+            commits: 0,
+            done: 0,
+            tickets: 0,
+            committed: 0,
+            read_only: 0,
+            aborted: 0,
+            withdrawn: 0,
+        },
     }
 }
 
 pub fn make_on(
-    height: usize,
     rows: [Txn; 6],
     n: u32,
     own: u32,
@@ -78,18 +79,8 @@ pub fn make_on(
     places: &mut [u8],
     outbox: &mut [u8],
 ) -> Made
-    ensures { λ r. ⌜ ((turn : Turn) → (r .reply ≡ reply (called height (allParts turn (countsFor 0 0) rows (now (queue .entry)) (now (items .entry)) (now (writes .entry)) (now (snapshots .entry)) (now (values .entry)) (now (stamps .entry)) (now (places .entry)) (now (outbox .entry))) (makeStep (allParts turn (countsFor 0 0) rows (now (queue .entry)) (now (items .entry)) (now (writes .entry)) (now (snapshots .entry)) (now (values .entry)) (now (stamps .entry)) (now (places .entry)) (now (outbox .entry))) n own (now (start .entry))))) × (allParts (moved (r .change) turn) (r .reply .counts) (r .rows) (now (queue .exit)) (now (items .exit)) (now (writes .exit)) (now (snapshots .exit)) (now (values .exit)) (now (stamps .exit)) (now (places .exit)) (now (outbox .exit)) ≡ called height (allParts turn (countsFor 0 0) rows (now (queue .entry)) (now (items .entry)) (now (writes .entry)) (now (snapshots .entry)) (now (values .entry)) (now (stamps .entry)) (now (places .entry)) (now (outbox .entry))) (makeStep (allParts turn (countsFor 0 0) rows (now (queue .entry)) (now (items .entry)) (now (writes .entry)) (now (snapshots .entry)) (now (values .entry)) (now (stamps .entry)) (now (places .entry)) (now (outbox .entry))) n own (now (start .entry))) .memory)) ⌝ }
+    ensures { λ r. ⌜ ((turn : Turn) → (r .reply ≡ reply (makeStep (allParts turn (countsFor 0 0) rows (now (queue .entry)) (now (items .entry)) (now (writes .entry)) (now (snapshots .entry)) (now (values .entry)) (now (stamps .entry)) (now (places .entry)) (now (outbox .entry))) n own (now (start .entry)))) × (allParts (moved (r .change) turn) (r .reply .counts) (r .rows) (now (queue .exit)) (now (items .exit)) (now (writes .exit)) (now (snapshots .exit)) (now (values .exit)) (now (stamps .exit)) (now (places .exit)) (now (outbox .exit)) ≡ makeStep (allParts turn (countsFor 0 0) rows (now (queue .entry)) (now (items .entry)) (now (writes .entry)) (now (snapshots .entry)) (now (values .entry)) (now (stamps .entry)) (now (places .entry)) (now (outbox .entry))) n own (now (start .entry)) .memory)) ⌝ }
 {
-    if height != 6 {
-        return Made {
-            reply: Reply {
-                number: 1,
-                counts: no_counts(),
-            },
-            rows: rows,
-            change: 0,
-        };
-    }
     let done = make(
         n,
         own,
@@ -127,7 +118,6 @@ pub fn make_on(
 }
 
 pub fn send_on(
-    height: usize,
     rows: [Txn; 6],
     turn: Turn,
     counts: Counts,
@@ -137,15 +127,8 @@ pub fn send_on(
     outbox: &mut [u8],
     block: &mut [u8],
 ) -> Sent
-    ensures { λ r. ⌜ ((m : Memory) → (r .number ≡ number (called height (sendParts m turn counts rows (now (queue .entry)) (now (items .entry)) (now (writes .entry)) (now (outbox .entry))) (sendStep (sendParts m turn counts rows (now (queue .entry)) (now (items .entry)) (now (writes .entry)) (now (outbox .entry))) (now (block .entry))))) × (sendParts m (moved (r .change) turn) counts (r .rows) (now (queue .exit)) (now (items .entry)) (now (writes .entry)) (now (outbox .exit)) ≡ called height (sendParts m turn counts rows (now (queue .entry)) (now (items .entry)) (now (writes .entry)) (now (outbox .entry))) (sendStep (sendParts m turn counts rows (now (queue .entry)) (now (items .entry)) (now (writes .entry)) (now (outbox .entry))) (now (block .entry))) .memory) × (now (block .exit) ≡ blockLeft (called height (sendParts m turn counts rows (now (queue .entry)) (now (items .entry)) (now (writes .entry)) (now (outbox .entry))) (sendStep (sendParts m turn counts rows (now (queue .entry)) (now (items .entry)) (now (writes .entry)) (now (outbox .entry))) (now (block .entry))) .answer) (now (block .entry)))) ⌝ }
+    ensures { λ r. ⌜ ((m : Memory) → (r .number ≡ number (sendStep (sendParts m turn counts rows (now (queue .entry)) (now (items .entry)) (now (writes .entry)) (now (outbox .entry))) (now (block .entry)))) × (sendParts m (moved (r .change) turn) counts (r .rows) (now (queue .exit)) (now (items .entry)) (now (writes .entry)) (now (outbox .exit)) ≡ sendStep (sendParts m turn counts rows (now (queue .entry)) (now (items .entry)) (now (writes .entry)) (now (outbox .entry))) (now (block .entry)) .memory) × (now (block .exit) ≡ blockLeft (sendStep (sendParts m turn counts rows (now (queue .entry)) (now (items .entry)) (now (writes .entry)) (now (outbox .entry))) (now (block .entry)) .answer) (now (block .entry)))) ⌝ }
 {
-    if height != 6 {
-        return Sent {
-            number: 1,
-            rows: rows,
-            change: 0,
-        };
-    }
     let done = send(
         turn,
         counts,
@@ -182,21 +165,6 @@ pub fn deliver_on(turn: Turn, counts: Counts, places: &mut [u8], outbox: &[u8], 
     }
 }
 
-// A refused work's reply.
-fn not_worked(number: u8, counts: Counts) -> WorkReply
-    ensures { λ r. ⌜ r ≡ record { number = number; sender = 0; moved = false; count = 0; ticket = 0; aborted = replicate 6 0; counts = counts } ⌝ }
-{
-    WorkReply {
-        number: number,
-        sender: 0,
-        moved: false,
-        count: 0,
-        ticket: 0,
-        aborted: [0; 6],
-        counts: counts,
-    }
-}
-
 // What a step did to the turn.
 fn turn_change(s: Step, own: u8) -> u8
     ensures { λ r. ⌜ r ≡ turnChange (s .moved) (s .sender) own ⌝ }
@@ -211,7 +179,6 @@ fn turn_change(s: Step, own: u8) -> u8
 }
 
 pub fn work_on(
-    height: usize,
     rows: [Txn; 6],
     turn: Turn,
     counts: Counts,
@@ -221,15 +188,8 @@ pub fn work_on(
     stamps: &mut [u32],
     places: &mut [u8],
 ) -> Worked
-    ensures { λ r. ⌜ ((m : Memory) → (r .reply ≡ workReply (called height (workParts m turn counts rows (now (queue .entry)) (now (items .entry)) (now (values .entry)) (now (stamps .entry)) (now (places .entry))) (workStep (workParts m turn counts rows (now (queue .entry)) (now (items .entry)) (now (values .entry)) (now (stamps .entry)) (now (places .entry)))))) × (workParts m (moved (r .change) turn) (r .reply .counts) (r .rows) (now (queue .exit)) (now (items .entry)) (now (values .exit)) (now (stamps .exit)) (now (places .exit)) ≡ called height (workParts m turn counts rows (now (queue .entry)) (now (items .entry)) (now (values .entry)) (now (stamps .entry)) (now (places .entry))) (workStep (workParts m turn counts rows (now (queue .entry)) (now (items .entry)) (now (values .entry)) (now (stamps .entry)) (now (places .entry)))) .memory)) ⌝ }
+    ensures { λ r. ⌜ ((m : Memory) → (r .reply ≡ workReply (workStep (workParts m turn counts rows (now (queue .entry)) (now (items .entry)) (now (values .entry)) (now (stamps .entry)) (now (places .entry))))) × (workParts m (moved (r .change) turn) (r .reply .counts) (r .rows) (now (queue .exit)) (now (items .entry)) (now (values .exit)) (now (stamps .exit)) (now (places .exit)) ≡ workStep (workParts m turn counts rows (now (queue .entry)) (now (items .entry)) (now (values .entry)) (now (stamps .entry)) (now (places .entry))) .memory)) ⌝ }
 {
-    if height != 6 {
-        return Worked {
-            reply: not_worked(1, counts),
-            rows: rows,
-            change: 0,
-        };
-    }
     let done = work(
         turn,
         counts,
@@ -259,7 +219,7 @@ pub fn work_on(
             change: turn_change(s, counts.own),
         },
         WorkAnswer::Refused(number) => Worked {
-            reply: not_worked(number, numbers),
+            reply: no_work(number, numbers),
             rows: after,
             change: 0,
         },

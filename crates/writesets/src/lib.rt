@@ -23,7 +23,7 @@ pub struct Aborts {
 fn entry_count(block: &[u8], j: usize) -> usize
     ensures { λ r. ⌜ r ≡ min (recordAt (now (block .entry)) j .writes) 8 ⌝ }
 {
-    write_count(record_at(block, j).writes)
+    write_count(record_at(block, j).writes as u32)
 }
 
 // Record j's values, each at its item; an item past the end changes nothing.

@@ -6,11 +6,11 @@
 #[derive(Clone, Copy, Debug, Default, PartialEq, Eq)]
 pub struct Txn {
     pub ticket: u32,
-    pub stage: u8,
+    pub stage: u32,
     /// The commit count when it began.
     pub snapshot: u32,
     /// How many items it has written.
-    pub writes: u8,
+    pub writes: u32,
 }
 
 /// The slot that is processed next, whether the own block for it was sent, and whether a block of

@@ -1,20 +1,14 @@
--- `make_on` meets its contract: the engine's make, or 1.
-use mathlib.Core.Path.{refl, ap, _∙_}
+-- `make_on` meets its contract: the engine's make.
+use mathlib.Core.Path.{ap, _∙_}
 use Rattle.memory.specs.Memory.Memory.{counts}
 use Rattle.engine.specs.Make.{countsFor}
 use Rattle.engine.specs.Calls.Outcome.{memory}
 use Rattle.client.specs.Lent.{allParts, slices}
 use Rattle.calls.specs.Replies.{reply}
-use Rattle.calls.proofs.ReplyLaws.{called-other, answered, turn-stays, made-step, same-refusal, make-taken, make-not, left-slices}
+use Rattle.calls.proofs.ReplyLaws.{made-step, same-refusal, make-taken, make-not, left-slices}
 use borrow.Author.Needs.{needs}
 use Rattle.turn_calls.proofs.make_on.Statement.{statement}
 use Rattle.turn_calls.proofs.make_on.Tie as tie
-
-no-counts-requires : tie.Need-no-counts-requires
-no-counts-requires c κs = search needs
-
-returns : tie.Need-returns
-returns c = λ turn. rw (called-other _ _ _ (c .before .if1 .taken), turn-stays turn, c .no-counts .ensures) (refl, refl)
 
 make-requires : tie.Need-make-requires
 make-requires c κs = search needs
@@ -49,14 +43,12 @@ same-length-7 c = search needs
 same-length-8 : tie.Need-same-length-8
 same-length-8 c = search needs
 
-returns-2 : tie.Need-returns-2
-returns-2 c = λ turn.
-    let a = c .before .before .before .before .before .before .before .before .before .before .before .before .before .before .before .before .before .before .before .before .before .before .before .before .before .before .before .before .before .before .before .before .args in
-    let d = c .before .before .before .before .before .before .before .before .before .before .before .before .before .before .before .before .before .make in
+returns : tie.Need-returns
+returns c = λ turn.
+    let a = c .before .before .before .before .before .before .before .before .before .before .before .before .before .before .before .before .before .before .before .before .before .before .before .before .before .before .before .before .before .before .before .args in
     let m = allParts turn (countsFor 0 0) (a .rows) (a .queue .now) (a .items .now) (a .writes .now) (a .snapshots .now) (a .values .now) (a .stamps .now) (a .places .now) (a .outbox .now) in
-    let k = make-taken (a .n) (a .own) (a .start .now) m _ (same-refusal turn (countsFor 0 0) (a .rows) (slices (a .queue .now) (a .items .now) (a .writes .now) (a .snapshots .now) (a .values .now) (a .stamps .now) (a .places .now) (a .outbox .now)) (a .n) (a .own) (a .start .now)) (slices (a .queue .now) (a .items .now) (a .writes .now) (a .snapshots .now) (a .values .now) (a .stamps .now) (a .places .now) (a .outbox .now)) _ (made-step _ _ _ _ (rw (c .enum-told .given .1) at (d .ensures))) in
-    let q = answered _ m _ (c .before .before .before .before .before .before .before .before .before .before .before .before .before .before .before .before .before .before .before .before .before .before .before .before .before .before .if1 .left) _ (k .0) in
-    (ap reply q, rw (← k .1) (ap memory q))
+    let k = make-taken (a .n) (a .own) (a .start .now) m _ (same-refusal turn (countsFor 0 0) (a .rows) (slices (a .queue .now) (a .items .now) (a .writes .now) (a .snapshots .now) (a .values .now) (a .stamps .now) (a .places .now) (a .outbox .now)) (a .n) (a .own) (a .start .now)) (slices (a .queue .now) (a .items .now) (a .writes .now) (a .snapshots .now) (a .values .now) (a .stamps .now) (a .places .now) (a .outbox .now)) _ (made-step _ _ _ _ (rw (c .enum-told .given .1) at (c .before .before .before .before .before .before .before .before .before .before .before .before .before .before .before .before .before .make .ensures))) in
+    (ap reply (k .0), rw (← k .1) (ap memory (k .0)))
 
 same-length-9 : tie.Need-same-length-9
 same-length-9 c = search needs
@@ -82,21 +74,17 @@ same-length-15 c = search needs
 same-length-16 : tie.Need-same-length-16
 same-length-16 c = search needs
 
-returns-3 : tie.Need-returns-3
-returns-3 c = λ turn.
-    let a = c .before .before .before .before .before .before .before .before .before .before .before .before .before .before .before .before .before .before .before .before .before .before .before .before .before .before .before .before .before .before .before .before .before .args in
-    let d = c .before .before .before .before .before .before .before .before .before .before .before .before .before .before .before .before .before .before .make in
+returns-2 : tie.Need-returns-2
+returns-2 c = λ turn.
+    let a = c .before .before .before .before .before .before .before .before .before .before .before .before .before .before .before .before .before .before .before .before .before .before .before .before .before .before .before .before .before .before .before .before .args in
     let m = allParts turn (countsFor 0 0) (a .rows) (a .queue .now) (a .items .now) (a .writes .now) (a .snapshots .now) (a .values .now) (a .stamps .now) (a .places .now) (a .outbox .now) in
-    let k = make-not (a .n) (a .own) (a .start .now) m _ (same-refusal turn (countsFor 0 0) (a .rows) (slices (a .queue .now) (a .items .now) (a .writes .now) (a .snapshots .now) (a .values .now) (a .stamps .now) (a .places .now) (a .outbox .now)) (a .n) (a .own) (a .start .now)) (slices (a .queue .now) (a .items .now) (a .writes .now) (a .snapshots .now) (a .values .now) (a .stamps .now) (a .places .now) (a .outbox .now)) _ _ (made-step _ _ _ _ (rw (c .before .answer .given .1) at (d .ensures))) in
-    let q = answered _ m _ (c .before .before .before .before .before .before .before .before .before .before .before .before .before .before .before .before .before .before .before .before .before .before .before .before .before .before .before .if1 .left) _ (k .0) in
-    (rw (ap counts (k .1)) (ap reply q), left-slices turn (a .rows) (k .1) ∙ ap memory q)
+    let k = make-not (a .n) (a .own) (a .start .now) m _ (same-refusal turn (countsFor 0 0) (a .rows) (slices (a .queue .now) (a .items .now) (a .writes .now) (a .snapshots .now) (a .values .now) (a .stamps .now) (a .places .now) (a .outbox .now)) (a .n) (a .own) (a .start .now)) (slices (a .queue .now) (a .items .now) (a .writes .now) (a .snapshots .now) (a .values .now) (a .stamps .now) (a .places .now) (a .outbox .now)) _ _ (made-step _ _ _ _ (rw (c .before .answer .given .1) at (c .before .before .before .before .before .before .before .before .before .before .before .before .before .before .before .before .before .before .make .ensures))) in
+    (rw (ap counts (k .1)) (ap reply (k .0)), left-slices turn (a .rows) (k .1) ∙ ap memory (k .0))
 
 pub make-on-spec : {M : Type 1} → statement M
 make-on-spec =
     tie.close
     (tie.spec
-    no-counts-requires
-    returns
     make-requires
     enum-told
     enum-known-answer
@@ -108,7 +96,7 @@ make-on-spec =
     same-length-6
     same-length-7
     same-length-8
-    returns-2
+    returns
     same-length-9
     same-length-10
     same-length-11
@@ -117,4 +105,4 @@ make-on-spec =
     same-length-14
     same-length-15
     same-length-16
-    returns-3)
+    returns-2)

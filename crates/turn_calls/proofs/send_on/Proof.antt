@@ -1,12 +1,8 @@
--- `send_on` meets its contract: the engine's send, or 1.
-use mathlib.Core.Path.{refl}
-use Rattle.calls.proofs.ReplyLaws.{called-other, turn-stays, send-did}
+-- `send_on` meets its contract: the engine's send.
+use Rattle.calls.proofs.ReplyLaws.{send-did}
 use borrow.Author.Needs.{needs}
 use Rattle.turn_calls.proofs.send_on.Statement.{statement}
 use Rattle.turn_calls.proofs.send_on.Tie as tie
-
-returns : tie.Need-returns
-returns c = λ m. rw (called-other _ _ _ (c .if1 .taken), turn-stays (c .before .before .before .before .before .args .turn)) (refl, refl, refl)
 
 send-requires : tie.Need-send-requires
 send-requires c κs = search needs
@@ -26,11 +22,11 @@ same-length-2 c = search needs
 same-length-3 : tie.Need-same-length-3
 same-length-3 c = search needs
 
-returns-2 : tie.Need-returns-2
-returns-2 c = λ m.
+returns : tie.Need-returns
+returns c = λ m.
     let e = c .before .before .before .before .before .before .before .before .before .send .ensures m in
-    let d = send-did _ _ _ (c .before .before .before .before .before .before .before .before .before .before .before .before .before .if1 .left) _ (rw (c .enum-told .given .1) at (e .0)) _ (e .1) in
-    (d .0, rw (← d .3) (d .1), d .2)
+    let d = send-did _ _ _ (rw (c .enum-told .given .1) at (e .0)) in
+    (d .0, rw (← d .2) (d .1), e .1)
 
 same-length-4 : tie.Need-same-length-4
 same-length-4 c = search needs
@@ -41,25 +37,24 @@ same-length-5 c = search needs
 same-length-6 : tie.Need-same-length-6
 same-length-6 c = search needs
 
-returns-3 : tie.Need-returns-3
-returns-3 c = λ m.
+returns-2 : tie.Need-returns-2
+returns-2 c = λ m.
     let e = c .before .before .before .before .before .before .before .before .before .before .send .ensures m in
-    let d = send-did _ _ _ (c .before .before .before .before .before .before .before .before .before .before .before .before .before .before .if1 .left) _ (rw (c .before .answer .given .1) at (e .0)) _ (e .1) in
-    (d .0, rw (← d .3) (d .1), d .2)
+    let d = send-did _ _ _ (rw (c .before .answer .given .1) at (e .0)) in
+    (d .0, rw (← d .2) (d .1), e .1)
 
 pub send-on-spec : {M : Type 1} → statement M
 send-on-spec =
     tie.close
     (tie.spec
-    returns
     send-requires
     enum-told
     enum-known-answer
     same-length
     same-length-2
     same-length-3
-    returns-2
+    returns
     same-length-4
     same-length-5
     same-length-6
-    returns-3)
+    returns-2)

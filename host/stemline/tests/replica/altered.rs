@@ -27,6 +27,13 @@ fn byte(random: &mut Random) -> u8 {
     random.pick(&[0, small, small, small, 7, 8, 9, 127, 128, 200, 255, any])
 }
 
+/// A stage or a count of writes: most often small.
+fn small(random: &mut Random) -> u32 {
+    let any = number(random);
+    let byte = u32::from(byte(random));
+    random.pick(&[byte, byte, byte, any])
+}
+
 fn fill_numbers(random: &mut Random, numbers: &mut [u32]) {
     numbers.fill_with(|| number(random));
 }
@@ -34,9 +41,9 @@ fn fill_numbers(random: &mut Random, numbers: &mut [u32]) {
 fn row(random: &mut Random) -> Txn {
     Txn {
         ticket: number(random),
-        stage: byte(random),
+        stage: small(random),
         snapshot: number(random),
-        writes: byte(random),
+        writes: small(random),
     }
 }
 
@@ -81,8 +88,8 @@ fn alter(random: &mut Random, memory: &mut Memory) {
     match random.below(16) {
         0 => memory.table[random.below(6)] = row(random),
         1 => memory.table.fill_with(|| row(random)),
-        2 => memory.table[random.below(6)].stage = byte(random),
-        3 => memory.table[random.below(6)].writes = byte(random),
+        2 => memory.table[random.below(6)].stage = small(random),
+        3 => memory.table[random.below(6)].writes = small(random),
         4 => memory.turn.slot = number(random),
         5 => memory.turn.sent ^= true,
         6 => memory.turn.applying ^= true,

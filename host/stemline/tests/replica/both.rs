@@ -168,7 +168,7 @@ fn same_rows(model: &second::Replica, memory: &Memory) {
         };
         let due = (open.ticket, stage, open.snapshot);
         assert_eq!((row.ticket, row.stage, row.snapshot), due);
-        let count = usize::from(row.writes);
+        let count = row.writes as usize;
         let items = memory.items[8 * r..][..count].iter();
         let values = memory.writes[8 * r..][..count].iter();
         assert!(items.zip(values).eq(&open.writes), "writes of {row:?}");

@@ -101,7 +101,7 @@ pub fn own_writesets_not_open_as_sent() -> Seen {
                     both.model.open.remove(at.unwrap());
                 }
                 Some(stage) => {
-                    row.stage = stage as u8;
+                    row.stage = stage as u32;
                     both.model.open[at.unwrap()].stage = stage;
                 }
             }

@@ -1,28 +1,31 @@
--- `withdraw_on` meets its contract: the engine's withdraw, or 1.
+-- `withdraw_on` meets its contract: the engine's withdrawal.
 use mathlib.Core.Path.{refl, ap, _∙_}
+use lib.ListN.{set}
 use Rattle.engine.specs.Calls.Outcome.{memory}
 use Rattle.engine.specs.Calls.Answer.{withdrew}
 use Rattle.client.specs.Lent.{withdrawParts}
 use Rattle.calls.specs.Replies.{reply}
-use Rattle.calls.proofs.ReplyLaws.{called-other, answered, plain-reply}
+use Rattle.calls.proofs.ReplyLaws.{plain-reply}
 use borrow.Author.Needs.{needs}
 use Rattle.calls.proofs.client_calls.withdraw_on.Statement.{statement}
 use Rattle.calls.proofs.client_calls.withdraw_on.Tie as tie
 
-returns : tie.Need-returns
-returns c = λ m. rw (called-other _ _ _ (c .if1 .taken)) (refl, refl)
-
-withdraw-requires : tie.Need-withdraw-requires
-withdraw-requires c κs = search needs
+withdraw-row-requires : tie.Need-withdraw-row-requires
+withdraw-row-requires c κs = search needs
 
 number-of-requires : tie.Need-number-of-requires
 number-of-requires c κs = search needs
 
-returns-2 : tie.Need-returns-2
-returns-2 c = λ m.
-    let d = c .before .before .before .withdraw in
-    let q = answered _ _ _ (c .before .before .before .before .if1 .left) _ (d .ensures m) in
-    (plain-reply withdrew refl (d .result .answer) (c .number-of .result) (c .number-of .ensures) (withdrawParts m (d .result .counts) (d .result .table)) ∙ ap reply q, ap memory q)
+replied-requires : tie.Need-replied-requires
+replied-requires c κs = search needs
+
+returns : tie.Need-returns
+returns c = λ m table here row.
+    let d = c .before .before .before .before .withdraw-row in
+    let a = c .before .before .before .before .before .args in
+    let q = d .ensures m table _ here row in
+    (rw (c .replied .ensures) (plain-reply withdrew refl (d .result .answer) (c .before .number-of .result) (c .before .number-of .ensures) (withdrawParts m (d .result .counts) (set table (a .at) (d .result .row))) ∙ ap reply q), rw (c .replied .ensures) (ap memory q))
 
 pub withdraw-on-spec : {M : Type 1} → statement M
-withdraw-on-spec = tie.close (tie.spec returns withdraw-requires number-of-requires returns-2)
+withdraw-on-spec =
+    tie.close (tie.spec withdraw-row-requires number-of-requires replied-requires returns)

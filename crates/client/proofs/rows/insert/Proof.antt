@@ -4,14 +4,8 @@ use native.Mathlib.Omega.{arith}
 use mir.Facts.{toZ-ofZ}
 use Rattle.client.proofs.WriteLaws.{below-lent, insert-made}
 use borrow.Author.Needs.{needs}
-use Rattle.client.proofs.calls.insert.Statement.{statement}
-use Rattle.client.proofs.calls.insert.Tie as tie
-
-mul-t : tie.Need-mul-t
-mul-t c = search needs
-
-array-copy-out-t : tie.Need-array-copy-out-t
-array-copy-out-t c = search needs
+use Rattle.client.proofs.rows.insert.Statement.{statement}
+use Rattle.client.proofs.rows.insert.Tie as tie
 
 write-count-requires : tie.Need-write-count-requires
 write-count-requires c κs = search needs
@@ -34,18 +28,20 @@ part-count-below-end c = search needs
 count-below-requires : tie.Need-count-below-requires
 count-below-requires c κs = search needs
 
--- the place is among the row's items
-bound : (c : tie.After-count-below) → (c .count-below .result ≤ c .before .before .before .write-count .result) × (c .before .before .before .write-count .result < 8)
+-- the new item's place is at most the row's count, which is below 8
+bound : (c : tie.After-count-below) →
+    let w = c .before .before .before in
+    (c .count-below .result ≤ w .write-count .result) × (w .write-count .result < 8)
 bound c =
     let w = c .before .before .before in
-    let s = w .before .before .before in
+    let s = w .before .before in
     let a = s .args in (
-      omega (arith, c .count-below .ensures, below-lent (a .item) (8 * a .row) (w .write-count .result) (a .items .now)),
+      omega (arith, c .count-below .ensures, below-lent (a .item) (8 * a .at) (w .write-count .result) (a .items .now)),
       omega (arith, w .write-count .ensures, s .pre),
     )
 
-add-at : tie.Need-add-at
-add-at c = omega (arith, bound c)
+add-place : tie.Need-add-place
+add-place c = omega (arith, bound c)
 
 add-insert-item : tie.Need-add-insert-item
 add-insert-item c = search needs
@@ -80,17 +76,11 @@ part-insert-value-end c = search needs
 insert-value-requires : tie.Need-insert-value-requires
 insert-value-requires c κs = search needs
 
-cast-t31 : tie.Need-cast-t31
-cast-t31 c = search needs
+cast-t24 : tie.Need-cast-t24
+cast-t24 c = search needs
 
-add-t32 : tie.Need-add-t32
-add-t32 c = search needs
-
-mul-rows : tie.Need-mul-rows
-mul-rows c = search needs
-
-array-set-from-rows : tie.Need-array-set-from-rows
-array-set-from-rows c = search needs
+add-t25 : tie.Need-add-t25
+add-t25 c = search needs
 
 same-length : tie.Need-same-length
 same-length c = search needs
@@ -99,23 +89,22 @@ same-length-2 : tie.Need-same-length-2
 same-length-2 c = search needs
 
 returns : tie.Need-returns
-returns c =
+returns c = λ table here.
     let v = c .before in
-    let i = v .before .before .before .before in
-    let b = i .before .before in
-    let w = b .before .before .before in
-    let s = w .before .before .before in
+    let i = c .before .before .before .before .before in
+    let b = c .before .before .before .before .before .before .before in
+    let w = c .before .before .before .before .before .before .before .before .before .before in
+    let s = c .before .before .before .before .before .before .before .before .before .before .before .before in
     let a = s .args in
-    insert-made (a .t1) (a .items .now) (a .writes .now) (a .row) (a .item) (a .value) (w .write-count .result) (b .count-below .result) (i .insert-item .last .0) (v .insert-value .last .0)
-    (w .write-count .ensures) (b .count-below .ensures) (omega (arith, bound b)) (omega (arith, bound b)) (i .insert-item .ensures)
-    (rw (toZ-ofZ (s .fits .value)) at (v .insert-value .ensures))
+    rw here
+    (insert-made table (a .items .now) (a .writes .now) (a .at) (a .item) (a .value) (w .write-count .result) (b .count-below .result) (i .insert-item .last .0) (v .insert-value .last .0)
+    (rw here at (w .write-count .ensures)) (b .count-below .ensures) (omega (arith, bound b)) (omega (arith, bound b)) (i .insert-item .ensures)
+    (rw (toZ-ofZ (s .fits .value)) at (v .insert-value .ensures)))
 
 pub insert-spec : {M : Type 1} → statement M
 insert-spec =
     tie.close
     (tie.spec
-    mul-t
-    array-copy-out-t
     write-count-requires
     mul-from
     add-end
@@ -123,7 +112,7 @@ insert-spec =
     part-count-below-start
     part-count-below-end
     count-below-requires
-    add-at
+    add-place
     add-insert-item
     sub-insert-item
     part-insert-item-start
@@ -135,10 +124,8 @@ insert-spec =
     part-insert-value-start
     part-insert-value-end
     insert-value-requires
-    cast-t31
-    add-t32
-    mul-rows
-    array-set-from-rows
+    cast-t24
+    add-t25
     same-length
     same-length-2
     returns)

@@ -1,7 +1,7 @@
 -- `writing_fits` meets its contract.
 use borrow.Author.Tests.{eq-eqb, ne-eqb}
-use Rattle.client.proofs.calls.writing_fits.Statement.{statement}
-use Rattle.client.proofs.calls.writing_fits.Tie as tie
+use Rattle.client.proofs.rows.writing_fits.Statement.{statement}
+use Rattle.client.proofs.rows.writing_fits.Tie as tie
 
 returns : tie.Need-returns
 returns c = rw (ne-eqb _ 48 (c .if1 .taken))
