@@ -100,14 +100,14 @@ typedef struct stemline_report_values {
 } stemline_report_values;
 
 typedef struct stemline_reply {
-    uint8_t number;
     stemline_counts counts;
+    uint8_t number;
 } stemline_reply;
 
 typedef struct stemline_begin_reply {
-    uint8_t number;
-    uint32_t ticket; /* 0 where refused */
     stemline_counts counts;
+    uint32_t ticket; /* 0 where refused */
+    uint8_t number;
 } stemline_begin_reply;
 
 typedef struct stemline_read_reply {
@@ -116,9 +116,9 @@ typedef struct stemline_read_reply {
 } stemline_read_reply;
 
 typedef struct stemline_ask_reply {
+    stemline_counts counts;
     uint8_t number;
     bool read_only; /* it had no writes: it has committed and ended */
-    stemline_counts counts;
 } stemline_ask_reply;
 
 typedef struct stemline_report_reply {

@@ -1,6 +1,6 @@
 """What a proof may use of the toolchain's logic and of the crates below."""
 
-USES = """use mathlib.Core.Path.{_≡_, refl, ap}
+USES = """use mathlib.Core.Path.{_≡_, refl, ap, subst}
 use mathlib.Core.Bool.{false}
 use Prim.Native.Nat.{ℕ, _<_, _^_}
 use native.Mathlib.Omega.{arith}

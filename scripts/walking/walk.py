@@ -15,6 +15,7 @@ class Walk(Names):
         self.lines, self.open = [], 0
         self.full = set(range(1, self.count + 1))  # the locals that hold something
         self.front = []  # what stands before the locals, in order
+        self.reply_is = "(fields .0)"  # that the value in hand is the reply's
 
     # ---- what a proof says of the row
     @property
@@ -124,8 +125,12 @@ class Walk(Names):
             elif self.call.reply == "u8":
                 typed = "(tt, record { fits = fields .0 .1 })"
             else:
-                typed = "(LL.lawful Y.the-type Y′.the-laws 𝓤 H A W .typed (r .reply) _ (fields .0) .0)"
+                typed = f"(LL.lawful Y.the-type Y′.the-laws 𝓤 H A W .typed (r .reply) _ {self.reply_is} .0)"
         self.say(f"assigns ! {what} (from ! (stop !)) {self.put(local, typed)} $")
+        if local != 0 and typed.startswith("(LL.lawful Y"):  # the reply, in a local of its own: its fields are read
+            self.say(f"rewrite ! {self.at(local, len(self.front))} (λ (w : Val). ‵ (fat fullShare Y′.mir l{local} 0 w)) (ap only (LL.tells Y.the-type Y′.the-laws (r .reply) _ (fields .0))) refl $")
+            self.say("let is₆ = subst (λ (vs : List Val). Is Y.the-row (r .reply) vs) (LL.tells Y.the-type Y′.the-laws (r .reply) _ (fields .0)) (fields .0) in")
+            self.reply_is = "is₆"
 
     def by_value(self, operands, local):
         """The call that does the work: what is left of the parameters is handed on to it."""
@@ -226,7 +231,7 @@ class Walk(Names):
     def end(self, table, did, long):
         call = self.call
         args = [f"({reply_of(call)})"] + [table] * (call.table == TABLE_MUT) + ["(moved (r .change) h)"] * (call.turn == TURN_MUT)
-        args += [self.last(i) for i in self.muts] + ["is" if call.direct else "(fields .0)"] + [long] * (call.table == TABLE_MUT) + [did]
+        args += [self.last(i) for i in self.muts] + ["is" if call.direct else self.reply_is] + [long] * (call.table == TABLE_MUT) + [did]
         return f"ends _ {' '.join(args)}"
 
     def final(self):

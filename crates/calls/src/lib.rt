@@ -6,19 +6,20 @@ use memory::Txn;
 pub mod client_calls;
 pub mod replies;
 
-// Document 01's number, 0 where the call is accepted, and the replica's numbers after it; so in the replies below.
+// The replica's numbers after the call, and document 01's number, 0 where it is accepted; so in the replies below. The counts stand first: behind a byte and padding
+// their copy would wait for bytes just written.
 #[repr(C)]
 pub struct Reply {
-    pub number: u8,
     pub counts: Counts,
+    pub number: u8,
 }
 
 // The ticket is 0 where the begin is refused.
 #[repr(C)]
 pub struct BeginReply {
-    pub number: u8,
-    pub ticket: u32,
     pub counts: Counts,
+    pub ticket: u32,
+    pub number: u8,
 }
 
 // The value is 0 where the read is refused.
@@ -31,9 +32,9 @@ pub struct ReadReply {
 // Whether the transaction was read-only, and so ended on the spot.
 #[repr(C)]
 pub struct AskReply {
+    pub counts: Counts,
     pub number: u8,
     pub read_only: bool,
-    pub counts: Counts,
 }
 
 // All zero where the report is refused.

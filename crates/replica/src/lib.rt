@@ -193,11 +193,12 @@ pub extern "C" fn stemline_withdraw(table: &mut [Txn], counts: Counts, ticket: u
     let at = find(table, ticket);
     let t = row(table, at);
     let done = withdraw_on(at, t, counts, ticket);
-    if done.reply.number != 0 {
-        return done.reply;
+    let reply = done.reply;
+    if reply.number != 0 {
+        return reply;
     }
     end(table, at);
-    done.reply
+    reply
 }
 
 #[no_mangle]

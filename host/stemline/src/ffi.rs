@@ -62,16 +62,16 @@ pub struct Report {
 #[repr(C)]
 #[derive(Clone, Copy, Debug, Default, PartialEq, Eq)]
 pub struct Reply {
-    pub number: u8,
     pub counts: Counts,
+    pub number: u8,
 }
 
 #[repr(C)]
 #[derive(Clone, Copy, Debug, Default, PartialEq, Eq)]
 pub struct BeginReply {
-    pub number: u8,
-    pub ticket: u32,
     pub counts: Counts,
+    pub ticket: u32,
+    pub number: u8,
 }
 
 #[repr(C)]
@@ -84,10 +84,10 @@ pub struct ReadReply {
 #[repr(C)]
 #[derive(Clone, Copy, Debug, Default, PartialEq, Eq)]
 pub struct AskReply {
+    pub counts: Counts,
     pub number: u8,
     /// Whether the transaction had no writes and so ended.
     pub read_only: bool,
-    pub counts: Counts,
 }
 
 #[repr(C)]

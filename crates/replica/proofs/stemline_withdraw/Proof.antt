@@ -1,6 +1,6 @@
 -- `stemline_withdraw` meets its contract: a walk of its code, written by `scripts/walks`. The lent parts are taken apart, the call by value is made with what is left of
 -- them, and what changed is put back. Assumes nothing.
-use mathlib.Core.Path.{_≡_, refl, ap}
+use mathlib.Core.Path.{_≡_, refl, ap, subst}
 use Prim.Native.Nat.{ℕ, _<_, _^_}
 use native.Mathlib.Omega.{arith}
 use mathlib.Core.List.{List, [], _∷_}
@@ -149,60 +149,63 @@ module _ {M : Type 1} (𝓤 : URA M) (H : Heap 𝓤) (A : Atoms 𝓤) (W : Given
     walk : ent 𝓤 (onEntry 𝓤 H A own.signature (κ₀, tt) (q₀, tt) a at) (WpFn 𝓤 H C Λ code.function (sliceVal (b₀, o₀) (length ys) ∷ LL.val N.the-type N′.the-laws counts ∷ vint w32 ticket ∷ []) Post)
     walk =
         qed W ((‵ (flft κ₀ q₀) ⊛ ‵ ftrue) ∷ ‵ (owns (MutSlice (named 0) κ₀ R ∷ N.the-row ∷ u32 ∷ []) a at) ∷ []) ∵ enter ! C Λ code.function (sliceVal (b₀, o₀) (length ys) ∷ LL.val N.the-type N′.the-laws counts ∷ vint w32 ticket ∷ []) _ $
-        alloc1 ! (λ l0. alloc1 ! (λ l1. alloc1 ! (λ l2. alloc1 ! (λ l3. alloc1 ! (λ l4. alloc1 ! (λ l5. alloc1 ! (λ l6. alloc1 ! (λ l7. alloc1 ! (λ l8. alloc1 ! (λ l9. alloc1 ! (λ l10. alloc1 ! (λ l11. alloc1 ! (λ l12. alloc1 ! (λ l13. alloc1 ! (λ l14. alloc1 ! (λ l15. alloc0 ! $ params1 ! $
-        pass1 ! (init ! 28 refl (tt, (tt, (record { fits = room₀ .0 }, tt)))) $ pass1 ! (init ! 26 refl (LL.lawful N.the-type N′.the-laws 𝓤 H A W .typed counts _ is-counts .0)) $ pass1 ! (init ! 24 refl (tt, record { fits = g₂ })) $ pass0 ! $
-        move ! (33 ∷ []) $ fsplit ! $
-        move ! (34 ∷ []) $ split ! $
+        alloc1 ! (λ l0. alloc1 ! (λ l1. alloc1 ! (λ l2. alloc1 ! (λ l3. alloc1 ! (λ l4. alloc1 ! (λ l5. alloc1 ! (λ l6. alloc1 ! (λ l7. alloc1 ! (λ l8. alloc1 ! (λ l9. alloc1 ! (λ l10. alloc1 ! (λ l11. alloc1 ! (λ l12. alloc1 ! (λ l13. alloc1 ! (λ l14. alloc1 ! (λ l15. alloc1 ! (λ l16. alloc0 ! $ params1 ! $
+        pass1 ! (init ! 30 refl (tt, (tt, (record { fits = room₀ .0 }, tt)))) $ pass1 ! (init ! 28 refl (LL.lawful N.the-type N′.the-laws 𝓤 H A W .typed counts _ is-counts .0)) $ pass1 ! (init ! 26 refl (tt, record { fits = g₂ })) $ pass0 ! $
+        move ! (35 ∷ []) $ fsplit ! $
+        move ! (36 ∷ []) $ split ! $
         move ! (2 ∷ 0 ∷ 3 ∷ 1 ∷ []) $
-        assigns ! (of-opd ! (load ! (from ! (fld ! refl (stop !))) (look-in ! 32 (sub ! 1 refl (whole !))))) (from ! (stop !)) (init ! 20 refl (tt, record { fits = room₀ .0 })) $
+        assigns ! (of-opd ! (load ! (from ! (fld ! refl (stop !))) (look-in ! 34 (sub ! 1 refl (whole !))))) (from ! (stop !)) (init ! 20 refl (tt, record { fits = room₀ .0 })) $
         assigns ! (bin ! (load ! (from ! (stop !)) (look ! 20 refl)) (lit ! tt) tt) (from ! (stop !)) (init ! 18 refl (tt, tt)) $
         when ! (load ! (from ! (stop !)) (look ! 18 refl)) (λ other.
         -- another table than six rows
         use0 W (raw (Refuse 𝓤 H A mem run .pre to-refuse)) asks-refuse $
-        calls-at ! fm (Refuse 𝓤 H A mem run) known-refuse to-refuse (and-then ! (lit ! tt) (and-then ! (load ! (from ! (stop !)) (look ! 31 refl)) (no-more !))) (λ u.
+        calls-at ! fm (Refuse 𝓤 H A mem run) known-refuse to-refuse (and-then ! (lit ! tt) (and-then ! (load ! (from ! (stop !)) (look ! 33 refl)) (no-more !))) (λ u.
         use1 W (later (given (Is Y.the-row (record { number = 1; counts = counts }) (u ∷ [])) (‵ ftrue))) (answers 𝓤 H A W refuse.ended (refuse.clauses 𝓤 H A mem run) to-refuse (record { number = 1; counts = counts }) (λ r e. id⊢ 𝓤 _) u) $ await ! tt $ learn ! (λ is. drop ! $
-        land ! (from ! (stop !)) (init ! 34 refl (LL.lawful Y.the-type Y′.the-laws 𝓤 H A W .typed (record { number = 1; counts = counts }) _ is .0)) $
-        returns-within ! Post refl (look ! 34 refl) $
-        frees-cell ! 34 refl refl $ frees-cell ! 32 refl refl $ frees-cell ! 30 refl refl $ frees-cell ! 28 refl refl $ frees-room ! 26 refl refl $ frees-room ! 24 refl refl $ frees-room ! 22 refl refl $ frees-cell ! 20 refl refl $ frees-cell ! 18 refl refl $ frees-room ! 16 refl refl $ frees-room ! 14 refl refl $ frees-room ! 12 refl refl $ frees-room ! 10 refl refl $ frees-room ! 8 refl refl $ frees-room ! 6 refl refl $ frees-room ! 4 refl refl $ free0 ! $
+        land ! (from ! (stop !)) (init ! 36 refl (LL.lawful Y.the-type Y′.the-laws 𝓤 H A W .typed (record { number = 1; counts = counts }) _ is .0)) $
+        returns-within ! Post refl (look ! 36 refl) $
+        frees-cell ! 36 refl refl $ frees-cell ! 34 refl refl $ frees-cell ! 32 refl refl $ frees-cell ! 30 refl refl $ frees-room ! 28 refl refl $ frees-room ! 26 refl refl $ frees-room ! 24 refl refl $ frees-room ! 22 refl refl $ frees-cell ! 20 refl refl $ frees-cell ! 18 refl refl $ frees-room ! 16 refl refl $ frees-room ! 14 refl refl $ frees-room ! 12 refl refl $ frees-room ! 10 refl refl $ frees-room ! 8 refl refl $ frees-room ! 6 refl refl $ frees-room ! 4 refl refl $ free0 ! $
         by ! (ends-not _ is (unequal (length ys) 6 other)))))
         (λ six₀. let six = equal (length ys) 6 six₀ in
-        assigns ! (addr ! (from ! (fld ! refl (hop ! (look-in ! 32 (sub ! 0 refl (whole !))) (stop !))))) (from ! (stop !)) (init ! 16 refl (tt, tt)) $
-        assigns ! (agg ! (and-then ! (load ! (from ! (stop !)) (look ! 16 refl)) (and-then ! (load ! (from ! (fld ! refl (stop !))) (look-in ! 32 (sub ! 1 refl (whole !)))) (no-more !)))) (from ! (stop !)) (init ! 14 refl (tt, (tt, (record { fits = room₀ .0 }, tt)))) $
+        assigns ! (addr ! (from ! (fld ! refl (hop ! (look-in ! 34 (sub ! 0 refl (whole !))) (stop !))))) (from ! (stop !)) (init ! 16 refl (tt, tt)) $
+        assigns ! (agg ! (and-then ! (load ! (from ! (stop !)) (look ! 16 refl)) (and-then ! (load ! (from ! (fld ! refl (stop !))) (look-in ! 34 (sub ! 1 refl (whole !)))) (no-more !)))) (from ! (stop !)) (init ! 14 refl (tt, (tt, (record { fits = room₀ .0 }, tt)))) $
         calls-lending ! fm (slice-read R b₀ o₀ κ₀ q₀ γ₀ ys W room₀) (Find 𝓤 H A mem run) known-find (to-find 𝓤 H A W mem run b₀ o₀ ys ticket g₂) (asks-find 𝓤 H A W mem run b₀ o₀ ys ticket g₂) (λ u. Is usize (rowOf ticket ys) (u ∷ [])) (gives-find 𝓤 H A W mem run b₀ o₀ ys ticket g₂)
-        (λ ν δ i j. (and-then ! (load ! (from ! (stop !)) (look ! 14 refl)) (and-then ! (load ! (from ! (stop !)) (look ! 28 refl)) (no-more !)))) (λ v₁ is₁. land ! (from ! (stop !)) (init ! 26 refl (uint-lawful 𝓤 H A W w64 .typed (rowOf ticket ys) _ is₁ .0)) $
-        rewrite ! 26 (λ (w : Val). ‵ (fat fullShare (tyInt w64) l4 0 w)) (ap only (uint-tells w64 (rowOf ticket ys) _ is₁)) refl $
-        assigns ! (addr ! (from ! (fld ! refl (hop ! (look-in ! 32 (sub ! 0 refl (whole !))) (stop !))))) (from ! (stop !)) (init ! 12 refl (tt, tt)) $
-        assigns ! (agg ! (and-then ! (load ! (from ! (stop !)) (look ! 12 refl)) (and-then ! (load ! (from ! (fld ! refl (stop !))) (look-in ! 32 (sub ! 1 refl (whole !)))) (no-more !)))) (from ! (stop !)) (init ! 10 refl (tt, (tt, (record { fits = room₀ .0 }, tt)))) $
+        (λ ν δ i j. (and-then ! (load ! (from ! (stop !)) (look ! 14 refl)) (and-then ! (load ! (from ! (stop !)) (look ! 30 refl)) (no-more !)))) (λ v₁ is₁. land ! (from ! (stop !)) (init ! 28 refl (uint-lawful 𝓤 H A W w64 .typed (rowOf ticket ys) _ is₁ .0)) $
+        rewrite ! 28 (λ (w : Val). ‵ (fat fullShare (tyInt w64) l4 0 w)) (ap only (uint-tells w64 (rowOf ticket ys) _ is₁)) refl $
+        assigns ! (addr ! (from ! (fld ! refl (hop ! (look-in ! 34 (sub ! 0 refl (whole !))) (stop !))))) (from ! (stop !)) (init ! 12 refl (tt, tt)) $
+        assigns ! (agg ! (and-then ! (load ! (from ! (stop !)) (look ! 12 refl)) (and-then ! (load ! (from ! (fld ! refl (stop !))) (look-in ! 34 (sub ! 1 refl (whole !)))) (no-more !)))) (from ! (stop !)) (init ! 10 refl (tt, (tt, (record { fits = room₀ .0 }, tt)))) $
         calls-lending ! fm (slice-read R b₀ o₀ κ₀ q₀ γ₀ ys W room₀) (Row 𝓤 H A mem run) known-row (to-row 𝓤 H A W mem run b₀ o₀ ys (rowOf ticket ys) (is₁ .1)) (asks-row 𝓤 H A W mem run b₀ o₀ ys (rowOf ticket ys) (is₁ .1)) (λ u. Is R (rowAt ys (rowOf ticket ys)) (u ∷ [])) (gives-row 𝓤 H A W mem run b₀ o₀ ys (rowOf ticket ys) (is₁ .1))
-        (λ ν δ i j. (and-then ! (load ! (from ! (stop !)) (look ! 10 refl)) (and-then ! (load ! (from ! (stop !)) (look ! 26 refl)) (no-more !)))) (λ v₂ is₂. land ! (from ! (stop !)) (init ! 24 refl (lawful 𝓤 H A W .typed (rowAt ys (rowOf ticket ys)) _ is₂ .0)) $
+        (λ ν δ i j. (and-then ! (load ! (from ! (stop !)) (look ! 10 refl)) (and-then ! (load ! (from ! (stop !)) (look ! 28 refl)) (no-more !)))) (λ v₂ is₂. land ! (from ! (stop !)) (init ! 26 refl (lawful 𝓤 H A W .typed (rowAt ys (rowOf ticket ys)) _ is₂ .0)) $
         move ! (2 ∷ 3 ∷ []) $
         -- the call by value
         use2 W (raw (ByValue 𝓤 H A mem run .pre (to-call v₂))) (asks-call (is₁ .1) v₂ is₂) $
-        calls-at ! fm (ByValue 𝓤 H A mem run) known-call (to-call v₂) (and-then ! (load ! (from ! (stop !)) (look ! 25 refl)) (and-then ! (load ! (from ! (stop !)) (look ! 23 refl)) (and-then ! (load ! (from ! (stop !)) (look ! 29 refl)) (and-then ! (load ! (from ! (stop !)) (look ! 27 refl)) (no-more !))))) (λ u.
+        calls-at ! fm (ByValue 𝓤 H A mem run) known-call (to-call v₂) (and-then ! (load ! (from ! (stop !)) (look ! 27 refl)) (and-then ! (load ! (from ! (stop !)) (look ! 25 refl)) (and-then ! (load ! (from ! (stop !)) (look ! 31 refl)) (and-then ! (load ! (from ! (stop !)) (look ! 29 refl)) (no-more !))))) (λ u.
         use1 W (later (some (λ (r : Changed). (Toks ⊛ ‵ (D.the-row .own r (u ∷ []))) ⊛ some (λ (ws : Lasts call.ended κs₁ a₁). ‵ (lasts call.ended κs₁ a₁ ws) ⊛ raw (fact 𝓤 (WithdrawOn (rowOf ticket ys) (rowAt ys (rowOf ticket ys)) counts ticket r)))))) (id⊢ 𝓤 _) $ await ! tt $ pick ! (λ r. split ! $ move ! (1 ∷ []) $ pick ! (λ ws.
         split ! $ move ! (1 ∷ []) $ heard ! (WithdrawOn (rowOf ticket ys) (rowAt ys (rowOf ticket ys)) counts ticket r) (λ said. fsplit ! $ drop ! $ fsplit ! $ drop ! $ move ! (1 ∷ []) $ split ! $ move ! (1 ∷ []) $
         peeks ! D.the-row (Is D.the-row) (shows 𝓤 H A D.the-row) r (u ∷ []) (λ is. drop ! $
-        land ! (from ! (stop !)) (init ! 22 refl (LL.lawful D.the-type D′.the-laws 𝓤 H A W .typed r _ is .0)) $
-        rewrite ! 22 (λ (w : Val). ‵ (fat fullShare D′.mir l6 0 w)) (ap only (LL.tells D.the-type D′.the-laws r _ is)) refl $
+        land ! (from ! (stop !)) (init ! 24 refl (LL.lawful D.the-type D′.the-laws 𝓤 H A W .typed r _ is .0)) $
+        rewrite ! 24 (λ (w : Val). ‵ (fat fullShare D′.mir l6 0 w)) (ap only (LL.tells D.the-type D′.the-laws r _ is)) refl $
         let fields = LL.owed D.the-type D′.the-laws r _ is in
-        assigns ! (bin ! (load ! (from ! (fld ! refl (fld ! refl (stop !)))) (look-in ! 22 (sub ! 0 refl (sub ! 0 refl (whole !))))) (lit ! tt) tt) (from ! (stop !)) (store ! 18 refl (tt, tt)) $
+        assigns ! (of-opd ! (load ! (from ! (fld ! refl (stop !))) (look-in ! 24 (sub ! 0 refl (whole !))))) (from ! (stop !)) (init ! 22 refl (LL.lawful Y.the-type Y′.the-laws 𝓤 H A W .typed (r .reply) _ (fields .0) .0)) $
+        rewrite ! 22 (λ (w : Val). ‵ (fat fullShare Y′.mir l7 0 w)) (ap only (LL.tells Y.the-type Y′.the-laws (r .reply) _ (fields .0))) refl $
+        let is₆ = subst (λ (vs : List Val). Is Y.the-row (r .reply) vs) (LL.tells Y.the-type Y′.the-laws (r .reply) _ (fields .0)) (fields .0) in
+        assigns ! (bin ! (load ! (from ! (fld ! refl (stop !))) (look-in ! 22 (sub ! 1 refl (whole !)))) (lit ! tt) tt) (from ! (stop !)) (store ! 18 refl (tt, tt)) $
         when ! (load ! (from ! (stop !)) (look ! 18 refl)) (λ refused.
-        assigns ! (of-opd ! (load ! (from ! (fld ! refl (stop !))) (look-in ! 22 (sub ! 0 refl (whole !))))) (from ! (stop !)) (init ! 34 refl (LL.lawful Y.the-type Y′.the-laws 𝓤 H A W .typed (r .reply) _ (fields .0) .0)) $
-        returns-within ! Post refl (look ! 34 refl) $
-        frees-cell ! 34 refl refl $ frees-cell ! 32 refl refl $ frees-cell ! 30 refl refl $ frees-cell ! 28 refl refl $ frees-cell ! 26 refl refl $ frees-cell ! 24 refl refl $ frees-cell ! 22 refl refl $ frees-cell ! 20 refl refl $ frees-cell ! 18 refl refl $ frees-cell ! 16 refl refl $ frees-cell ! 14 refl refl $ frees-cell ! 12 refl refl $ frees-cell ! 10 refl refl $ frees-room ! 8 refl refl $ frees-room ! 6 refl refl $ frees-room ! 4 refl refl $ free0 ! $
+        assigns ! (of-opd ! (load ! (from ! (stop !)) (look ! 22 refl))) (from ! (stop !)) (init ! 36 refl (LL.lawful Y.the-type Y′.the-laws 𝓤 H A W .typed (r .reply) _ is₆ .0)) $
+        returns-within ! Post refl (look ! 36 refl) $
+        frees-cell ! 36 refl refl $ frees-cell ! 34 refl refl $ frees-cell ! 32 refl refl $ frees-cell ! 30 refl refl $ frees-cell ! 28 refl refl $ frees-cell ! 26 refl refl $ frees-cell ! 24 refl refl $ frees-cell ! 22 refl refl $ frees-cell ! 20 refl refl $ frees-cell ! 18 refl refl $ frees-cell ! 16 refl refl $ frees-cell ! 14 refl refl $ frees-cell ! 12 refl refl $ frees-cell ! 10 refl refl $ frees-room ! 8 refl refl $ frees-room ! 6 refl refl $ frees-room ! 4 refl refl $ free0 ! $
         move ! (2 ∷ 3 ∷ 1 ∷ 0 ∷ []) $
-        by ! (ends _ (r .reply) ys (fields .0) refl (withdraw-kept ys counts ticket r six said (unequal (r .reply .number) 0 refused))))
+        by ! (ends _ (r .reply) ys is₆ refl (withdraw-kept ys counts ticket r six said (unequal (r .reply .number) 0 refused))))
         (λ taken.
-        assigns ! (addr ! (from ! (fld ! refl (hop ! (look-in ! 32 (sub ! 0 refl (whole !))) (stop !))))) (from ! (stop !)) (init ! 6 refl (tt, tt)) $
-        assigns ! (agg ! (and-then ! (load ! (from ! (stop !)) (look ! 6 refl)) (and-then ! (load ! (from ! (fld ! refl (stop !))) (look-in ! 32 (sub ! 1 refl (whole !)))) (no-more !)))) (from ! (stop !)) (init ! 4 refl (tt, (tt, (record { fits = room₀ .0 }, tt)))) $
+        assigns ! (addr ! (from ! (fld ! refl (hop ! (look-in ! 34 (sub ! 0 refl (whole !))) (stop !))))) (from ! (stop !)) (init ! 6 refl (tt, tt)) $
+        assigns ! (agg ! (and-then ! (load ! (from ! (stop !)) (look ! 6 refl)) (and-then ! (load ! (from ! (fld ! refl (stop !))) (look-in ! 34 (sub ! 1 refl (whole !)))) (no-more !)))) (from ! (stop !)) (init ! 4 refl (tt, (tt, (record { fits = room₀ .0 }, tt)))) $
         move ! (2 ∷ 3 ∷ []) $
         calls-lending ! fm (slice-lent R b₀ o₀ κ₀ q₀ γ₀ ys W room₀ (set ys (rowOf ticket ys) closed) (length-set ys (rowOf ticket ys) closed)) (End 𝓤 H A mem run) known-end (to-end 𝓤 H A W mem run b₀ o₀ ys (rowOf ticket ys) (is₁ .1)) (asks-end 𝓤 H A W mem run b₀ o₀ ys (rowOf ticket ys) (is₁ .1)) (λ u. u ≡ vunit) (gives-end 𝓤 H A W mem run b₀ o₀ ys (rowOf ticket ys) (is₁ .1))
-        (λ ν δ i j. (and-then ! (load ! (from ! (stop !)) (look ! 4 refl)) (and-then ! (load ! (from ! (stop !)) (look ! 26 refl)) (no-more !)))) (λ w₁ e₁. land ! (from ! (stop !)) (init ! 8 refl (unit-typed w₁ e₁)) $
-        assigns ! (of-opd ! (load ! (from ! (fld ! refl (stop !))) (look-in ! 22 (sub ! 0 refl (whole !))))) (from ! (stop !)) (init ! 34 refl (LL.lawful Y.the-type Y′.the-laws 𝓤 H A W .typed (r .reply) _ (fields .0) .0)) $
-        returns ! (look ! 34 refl) $
-        frees-cell ! 34 refl refl $ frees-cell ! 32 refl refl $ frees-cell ! 30 refl refl $ frees-cell ! 28 refl refl $ frees-cell ! 26 refl refl $ frees-cell ! 24 refl refl $ frees-cell ! 22 refl refl $ frees-cell ! 20 refl refl $ frees-cell ! 18 refl refl $ frees-cell ! 16 refl refl $ frees-cell ! 14 refl refl $ frees-cell ! 12 refl refl $ frees-cell ! 10 refl refl $ frees-cell ! 8 refl refl $ frees-cell ! 6 refl refl $ frees-cell ! 4 refl refl $ free0 ! $
+        (λ ν δ i j. (and-then ! (load ! (from ! (stop !)) (look ! 4 refl)) (and-then ! (load ! (from ! (stop !)) (look ! 28 refl)) (no-more !)))) (λ w₁ e₁. land ! (from ! (stop !)) (init ! 8 refl (unit-typed w₁ e₁)) $
+        assigns ! (of-opd ! (load ! (from ! (stop !)) (look ! 22 refl))) (from ! (stop !)) (init ! 36 refl (LL.lawful Y.the-type Y′.the-laws 𝓤 H A W .typed (r .reply) _ is₆ .0)) $
+        returns ! (look ! 36 refl) $
+        frees-cell ! 36 refl refl $ frees-cell ! 34 refl refl $ frees-cell ! 32 refl refl $ frees-cell ! 30 refl refl $ frees-cell ! 28 refl refl $ frees-cell ! 26 refl refl $ frees-cell ! 24 refl refl $ frees-cell ! 22 refl refl $ frees-cell ! 20 refl refl $ frees-cell ! 18 refl refl $ frees-cell ! 16 refl refl $ frees-cell ! 14 refl refl $ frees-cell ! 12 refl refl $ frees-cell ! 10 refl refl $ frees-cell ! 8 refl refl $ frees-cell ! 6 refl refl $ frees-cell ! 4 refl refl $ free0 ! $
         move ! (0 ∷ 1 ∷ 3 ∷ 2 ∷ []) $
-        by ! (ends _ (r .reply) (set ys (rowOf ticket ys) closed) (fields .0) (length-set ys (rowOf ticket ys) closed) (withdraw-ended ys counts ticket r six said (equal (r .reply .number) 0 taken)))))))))))))))))))))))))))))
+        by ! (ends _ (r .reply) (set ys (rowOf ticket ys) closed) is₆ (length-set ys (rowOf ticket ys) closed) (withdraw-ended ys counts ticket r six said (equal (r .reply .number) 0 taken))))))))))))))))))))))))))))))
 
 module _ {M : Type 1} (𝓤 : URA M) (H : Heap 𝓤) (A : Atoms 𝓤) (W : Given 𝓤 H A) (mem : Memory → SProp 𝓤) (run : Routine → Fun 𝓤) (𝓣 : Tables 𝓤 H)
     (g-refuse : Triple 𝓤 (𝓣 .C #refuse) (Refuse 𝓤 H A mem run)) (g-find : Triple 𝓤 (𝓣 .C #find) (Find 𝓤 H A mem run)) (g-row : Triple 𝓤 (𝓣 .C #row) (Row 𝓤 H A mem run)) (g-end : Triple 𝓤 (𝓣 .C #end) (End 𝓤 H A mem run)) (g-call : Triple 𝓤 (𝓣 .C #call) (ByValue 𝓤 H A mem run)) where

@@ -66,10 +66,10 @@ fn structs_have_one_layout() {
         replicas own commits done tickets committed read_only aborted withdrawn);
     layout!(due, lines, "stemline_report_values", Report,
         turn commits tickets active committed read_only aborted withdrawn);
-    layout!(due, lines, "stemline_reply", Reply, number counts);
-    layout!(due, lines, "stemline_begin_reply", BeginReply, number ticket counts);
+    layout!(due, lines, "stemline_reply", Reply, counts number);
+    layout!(due, lines, "stemline_begin_reply", BeginReply, counts ticket number);
     layout!(due, lines, "stemline_read_reply", ReadReply, number value);
-    layout!(due, lines, "stemline_ask_reply", AskReply, number read_only counts);
+    layout!(due, lines, "stemline_ask_reply", AskReply, counts number read_only);
     layout!(due, lines, "stemline_report_reply", ReportReply, number report);
     layout!(due, lines, "stemline_work_reply", WorkReply,
         number sender moved count ticket aborted counts);
