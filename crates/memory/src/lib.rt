@@ -2,8 +2,8 @@
 pub mod cursor;
 pub mod rows;
 
-// Document 01's record of an open transaction; ticket 0 is a free row. Stage 0 is active, 1 asked, 2 sent. Four numbers of one width: a record has no padding, which
-// makes a copy of the table three times as fast.
+// Document 01's record of an open transaction; ticket 0 is a free row. Stage 0 is active, 1 asked, 2 sent. Four numbers of one width: a record has no padding,
+// which the compiler would copy byte by byte.
 #[repr(C)]
 pub struct Txn {
     pub ticket: u32,
