@@ -6,11 +6,7 @@ ghost use lib.Seq.{slice};
 ghost use mir.Syntax.{w32};
 ghost use mir.Val.{ofZ, toZ};
 ghost use Rattle.block.specs.Numbers.{numberOf};
-
-pub mod check;
-pub mod form;
-pub mod reader;
-pub mod writer;
+ghost use Rattle.block.specs.Answers.{answerOf};
 
 // An entry of a record: an item and its new value.
 #[repr(C)]
@@ -63,8 +59,32 @@ pub enum Read {
     Refused(u8),
 }
 
+impl Read {
+    // The number and the header, zeros where it is refused.
+    pub fn answer(self) -> Answer
+        ensures { λ r. ⌜ r ≡ answerOf self ⌝ }
+    {
+        match self {
+            Read::Message(header) => Answer {
+                number: 0,
+                header: header,
+            },
+            Read::Refused(number) => Answer {
+                number: number,
+                header: Header {
+                    kind: 0,
+                    sender: 0,
+                    replicas: 0,
+                    count: 0,
+                    slot: 0,
+                },
+            },
+        }
+    }
+}
+
 // The number in the two bytes from `at` on, the lowest first.
-fn number16(s: &[u8], at: usize) -> u16
+pub fn number16(s: &[u8], at: usize) -> u16
     requires { ⌜ at + 2 ≤ length (now s) ⌝ }
     ensures { λ r. ⌜ r ≡ numberOf (slice at (at + 2) (now (s .entry))) ⌝ }
 {
@@ -74,7 +94,7 @@ fn number16(s: &[u8], at: usize) -> u16
 }
 
 // The number in the four bytes from `at` on, the lowest first.
-fn number(s: &[u8], at: usize) -> u32
+pub fn number(s: &[u8], at: usize) -> u32
     requires { ⌜ at + 4 ≤ length (now s) ⌝ }
     ensures { λ r. ⌜ r ≡ numberOf (slice at (at + 4) (now (s .entry))) ⌝ }
 {
@@ -86,7 +106,7 @@ fn number(s: &[u8], at: usize) -> u32
 }
 
 // The number in the eight bytes from `at` on, the lowest first.
-fn number64(s: &[u8], at: usize) -> u64
+pub fn number64(s: &[u8], at: usize) -> u64
     requires { ⌜ at + 8 ≤ length (now s) ⌝ }
     ensures { λ r. ⌜ r ≡ numberOf (slice at (at + 8) (now (s .entry))) ⌝ }
 {
@@ -102,7 +122,7 @@ fn number64(s: &[u8], at: usize) -> u64
 }
 
 // The signed value of 32 bits, and back.
-fn to_value(bits: u32) -> i32
+pub fn to_value(bits: u32) -> i32
     ensures { λ r. ⌜ r ≡ toZ w32 bits ⌝ }
 {
     if bits < 2147483648 {

@@ -9,16 +9,16 @@ use block::Checked;
 use block::Entry;
 use block::Header;
 use block::RecordHead;
-use block::check::check_matches;
-use block::check::check_of;
-use block::form::well_formed;
-use block::reader::entry_at;
-use block::reader::read_block;
-use block::reader::record_at;
-use block::writer::write_block;
-use block::writer::write_check;
-use block::writer::write_header;
-use block::writer::write_record;
+use block_check::check_matches;
+use block_check::check_of;
+use block_form::well_formed;
+use block_reader::entry_at;
+use block_reader::read_block;
+use block_reader::record_at;
+use block_whole::write_block;
+use block_writer::write_check;
+use block_writer::write_header;
+use block_writer::write_record;
 
 #[no_mangle]
 pub extern "C" fn stemline_block_check(bytes: &[u8]) -> Checked

@@ -37,12 +37,12 @@ fn print_entry(entry: Entry) {
 }
 
 fn print_record(block: &[u8], j: usize) {
-    let record = block::reader::record_at(block, j);
+    let record = block_reader::record_at(block, j);
     print_field(b"  ticket ", record.ticket as u64);
     let n = record.writes;
     let mut e: u8 = 0;
     while e < n {
-        print_entry(block::reader::entry_at(block, j, e as usize));
+        print_entry(block_reader::entry_at(block, j, e as usize));
         e += 1;
     }
     newline();
@@ -65,7 +65,7 @@ fn print_refusal(answer: Read) {
 
 // What the reader says of a block: its header and records, or the number of the refusal.
 fn print_reading(block: &[u8]) {
-    let answer = block::reader::read_block(block);
+    let answer = block_reader::read_block(block);
     let Read::Message(h) = answer else {
         print_refusal(answer);
         return;
@@ -88,7 +88,7 @@ fn show(header: Header, ticket: u32, item: u8, value: i32) {
     let mut values = [0i32; 48];
     items[0] = item;
     values[0] = value;
-    block::writer::write_block(&mut bytes, header, &tickets, &writes, &items, &values);
+    block_whole::write_block(&mut bytes, header, &tickets, &writes, &items, &values);
     print_bytes(&bytes);
     print_reading(&bytes);
     print_reading(&bytes[0..511]);

@@ -12,7 +12,7 @@ ghost use Rattle.engine.specs.Moves.{sameBytes, deliverRefusal, deliverStep};
 ghost use Rattle.delivering.specs.Lent.{lengthsFit, deliverAnswer, deliverParts};
 use block::Header;
 use block::Read;
-use block::reader::read_block;
+use block_reader::read_block;
 use memory::Counts;
 use memory::Turn;
 

@@ -12,7 +12,7 @@ ghost use Rattle.memory.specs.Turns.{advance, placeStart};
 ghost use Rattle.engine.specs.Calls.{outcome};
 ghost use Rattle.engine.specs.Moves.{writesetAt, commitWriteset, workStep};
 ghost use Rattle.working.specs.Lent.{workAnswer, Trimmed, Beside, workParts, ending, endingOf};
-use block::reader::record_at;
+use block_reader::record_at;
 use memory::Counts;
 use memory::Turn;
 use memory::Txn;

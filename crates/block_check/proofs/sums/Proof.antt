@@ -1,0 +1,248 @@
+-- `sums` meets its contract: at word i the sums are those over the first i words, and small enough for four more.
+use Prim.Native.Nat.{_+_, _*_, _-_, _%_, _≤_}
+use mathlib.Core.Path.{_≡_, refl}
+use native.Mathlib.Omega.{arith}
+use borrow.Author.Needs.{needs}
+use Rattle.block.specs.Check.{sumTo, weightedTo}
+use Rattle.block.proofs.CheckLaws.{sum-next, weighted-turn, weighted-last, sums-end}
+use Rattle.block_check.proofs.sums.Statement.{statement}
+use Rattle.block_check.proofs.sums.Tie as tie
+
+abbrev Inv-loop : tie.InvT-loop
+Inv-loop bytes a₀ b₀ c₀ d₀ e₀ f₀ g₀ h₀ i₀ a b c d e f g h i =
+    (i ≤ 252) × (i % 4 ≡ 0)
+    × (a ≤ 16384 * i) × (b ≤ 16384 * i) × (c ≤ 16384 * i) × (d ≤ 16384 * i)
+    × (e ≤ 1032192 * i) × (f ≤ 1032192 * i) × (g ≤ 1032192 * i) × (h ≤ 1032192 * i)
+    × (a + b + c + d ≡ sumTo bytes i)
+    × (4 * (e + f + g + h) + (254 - i) * (a + b + c + d) ≡ weightedTo bytes i + (b + 2 * c + 3 * d))
+
+abbrev μ-loop : tie.MeasureT-loop
+μ-loop bytes a₀ b₀ c₀ d₀ e₀ f₀ g₀ h₀ i₀ a b c d e f g h i = 252 - i
+
+loop-holds : tie.Need-loop-holds Inv-loop μ-loop
+unfolding sumTo weightedTo
+loop-holds c = (omega arith, omega arith, omega arith, omega arith, omega arith, omega arith, omega arith, omega arith, omega arith, omega arith, refl, refl)
+
+mul-at : tie.Need-mul-at Inv-loop μ-loop
+mul-at c = search needs
+
+number16-requires : tie.Need-number16-requires Inv-loop μ-loop
+number16-requires c κs = search needs
+
+cast-a : tie.Need-cast-a Inv-loop μ-loop
+cast-a c = search needs
+
+add-a : tie.Need-add-a Inv-loop μ-loop
+add-a c = search needs
+
+add-number16 : tie.Need-add-number16 Inv-loop μ-loop
+add-number16 c = search needs
+
+number16-requires-2 : tie.Need-number16-requires-2 Inv-loop μ-loop
+number16-requires-2 c κs = search needs
+
+cast-b : tie.Need-cast-b Inv-loop μ-loop
+cast-b c = search needs
+
+add-b : tie.Need-add-b Inv-loop μ-loop
+add-b c = search needs
+
+add-number16-2 : tie.Need-add-number16-2 Inv-loop μ-loop
+add-number16-2 c = search needs
+
+number16-requires-3 : tie.Need-number16-requires-3 Inv-loop μ-loop
+number16-requires-3 c κs = search needs
+
+cast-c : tie.Need-cast-c Inv-loop μ-loop
+cast-c c = search needs
+
+add-c : tie.Need-add-c Inv-loop μ-loop
+add-c c = search needs
+
+add-number16-3 : tie.Need-add-number16-3 Inv-loop μ-loop
+add-number16-3 c = search needs
+
+number16-requires-4 : tie.Need-number16-requires-4 Inv-loop μ-loop
+number16-requires-4 c κs = search needs
+
+cast-d : tie.Need-cast-d Inv-loop μ-loop
+cast-d c = search needs
+
+add-d : tie.Need-add-d Inv-loop μ-loop
+add-d c = search needs
+
+add-e : tie.Need-add-e Inv-loop μ-loop
+add-e c = search needs
+
+add-f : tie.Need-add-f Inv-loop μ-loop
+add-f c = search needs
+
+add-g : tie.Need-add-g Inv-loop μ-loop
+add-g c = search needs
+
+add-h : tie.Need-add-h Inv-loop μ-loop
+add-h c = search needs
+
+add-i : tie.Need-add-i Inv-loop μ-loop
+add-i c = search needs
+
+loop-less : tie.Need-loop-less Inv-loop μ-loop
+loop-less c = search needs
+
+loop-again : tie.Need-loop-again Inv-loop μ-loop
+loop-again c =
+    let w = c .before .before .before in
+    let l = w .before .before in
+    let b = l .before .before .args .bytes .now in
+    let i = l .loop .i in
+    let more = sum-next b i (omega arith) (omega arith) _ _ _ _ (w .number16 .ensures) (c .before .before .number162 .ensures) (c .before .number163 .ensures) (c .number164 .ensures) in
+    let turn =
+    weighted-turn b i (omega arith) (omega arith) _ _ _ _ (w .number16 .ensures) (c .before .before .number162 .ensures) (c .before .number163 .ensures) (c .number164 .ensures)
+    (l .loop .a) (l .loop .b) (l .loop .c) (l .loop .d) (l .loop .e) (l .loop .f) (l .loop .g) (l .loop .h) (l .loop .inv .11) in (
+      omega arith,
+      omega arith,
+      omega arith,
+      omega arith,
+      omega arith,
+      omega arith,
+      omega arith,
+      omega arith,
+      omega arith,
+      omega arith,
+      omega arith,
+      turn,
+    )
+
+number16-requires-5 : tie.Need-number16-requires-5 Inv-loop μ-loop
+number16-requires-5 c κs = search needs
+
+cast-y : tie.Need-cast-y Inv-loop μ-loop
+cast-y c = search needs
+
+number16-requires-6 : tie.Need-number16-requires-6 Inv-loop μ-loop
+number16-requires-6 c κs = search needs
+
+cast-z : tie.Need-cast-z Inv-loop μ-loop
+cast-z c = search needs
+
+-- the second sum without its last two words
+last : (l : tie.At-loop Inv-loop μ-loop) → l .loop .i ≡ 252
+    → 4 * (l .loop .e + l .loop .f + l .loop .g + l .loop .h) + 2 * l .loop .a + l .loop .b ≡ weightedTo (l .before .before .args .bytes .now) 252 + l .loop .d
+last l e = weighted-last (l .before .before .args .bytes .now) _ _ _ _ _ _ _ _ (rw e at (l .loop .inv .11))
+
+add-first : tie.Need-add-first Inv-loop μ-loop
+add-first c = search needs
+
+add-first-2 : tie.Need-add-first-2 Inv-loop μ-loop
+add-first-2 c = search needs
+
+add-first-3 : tie.Need-add-first-3 Inv-loop μ-loop
+add-first-3 c = search needs
+
+add-first-4 : tie.Need-add-first-4 Inv-loop μ-loop
+add-first-4 c = search needs
+
+add-first-5 : tie.Need-add-first-5 Inv-loop μ-loop
+add-first-5 c = search needs
+
+add-second : tie.Need-add-second Inv-loop μ-loop
+add-second c = search needs
+
+add-second-2 : tie.Need-add-second-2 Inv-loop μ-loop
+add-second-2 c = search needs
+
+add-second-3 : tie.Need-add-second-3 Inv-loop μ-loop
+add-second-3 c = search needs
+
+mul-second : tie.Need-mul-second Inv-loop μ-loop
+mul-second c = search needs
+
+mul-second-2 : tie.Need-mul-second-2 Inv-loop μ-loop
+mul-second-2 c = search needs
+
+add-second-4 : tie.Need-add-second-4 Inv-loop μ-loop
+add-second-4 c = search needs
+
+add-second-5 : tie.Need-add-second-5 Inv-loop μ-loop
+add-second-5 c = search needs
+
+sub-second : tie.Need-sub-second Inv-loop μ-loop
+sub-second c = omega (arith, last (c .before .before .before) (omega arith))
+
+mul-second-3 : tie.Need-mul-second-3 Inv-loop μ-loop
+mul-second-3 c = search needs
+
+add-second-6 : tie.Need-add-second-6 Inv-loop μ-loop
+add-second-6 c = search needs
+
+add-second-7 : tie.Need-add-second-7 Inv-loop μ-loop
+add-second-7 c = search needs
+
+reduced-requires : tie.Need-reduced-requires Inv-loop μ-loop
+reduced-requires c κs = search needs
+
+reduced-requires-2 : tie.Need-reduced-requires-2 Inv-loop μ-loop
+reduced-requires-2 c κs = search needs
+
+returns : tie.Need-returns Inv-loop μ-loop
+returns c =
+    let n = c .before .before in
+    let l = n .before .before .before in
+    let e : l .loop .i ≡ 252 = omega arith in
+    rw (c .before .reduced .ensures, c .reduced2 .ensures)
+    (sums-end (l .before .before .args .bytes .now) (omega arith) _ _ (rw e at (l .loop .inv .10)) (omega (arith, last l e))
+    (n .before .number165 .result) (n .number166 .result) (n .before .number165 .ensures) (n .number166 .ensures))
+
+pub sums-spec : {M : Type 1} → statement M
+sums-spec =
+    tie.close
+    (tie.spec
+    Inv-loop
+    μ-loop
+    loop-holds
+    mul-at
+    number16-requires
+    cast-a
+    add-a
+    add-number16
+    number16-requires-2
+    cast-b
+    add-b
+    add-number16-2
+    number16-requires-3
+    cast-c
+    add-c
+    add-number16-3
+    number16-requires-4
+    cast-d
+    add-d
+    add-e
+    add-f
+    add-g
+    add-h
+    add-i
+    loop-less
+    loop-again
+    number16-requires-5
+    cast-y
+    number16-requires-6
+    cast-z
+    add-first
+    add-first-2
+    add-first-3
+    add-first-4
+    add-first-5
+    add-second
+    add-second-2
+    add-second-3
+    mul-second
+    mul-second-2
+    add-second-4
+    add-second-5
+    sub-second
+    mul-second-3
+    add-second-6
+    add-second-7
+    reduced-requires
+    reduced-requires-2
+    returns)

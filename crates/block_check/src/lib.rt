@@ -1,0 +1,90 @@
+// The check: two sums over the 16-bit words of a block's first 508 bytes.
+ghost use mathlib.Core.Path.{_≡_};
+ghost use Prim.Native.Nat.{_%_, _≤_};
+ghost use lib.ListN.{length};
+ghost use Rattle.block.specs.Check.{sumsOf, checkStep, checkMatches};
+use block::Checked;
+use block::Sums;
+use block::number16;
+
+// The remainder. The branch is for the compiler alone: without it the writers add up one word at a time.
+fn reduced(x: u32) -> u16
+    ensures { λ r. ⌜ r ≡ x % 65535 ⌝ }
+{
+    if x < 65535 {
+        x as u16
+    } else {
+        (x % 65535) as u16
+    }
+}
+
+// The sums run over all words and are reduced once: both stay below 2^32. Four words a turn, and no product: a to d sum every
+// fourth word, e to h sum those sums. Four times the latter give each word its weight, but for 2 and 1 too little in a and b
+// and 1 too much in d. The compiler makes one addition of each four.
+fn sums(bytes: &[u8]) -> Sums
+    requires { ⌜ 508 ≤ length (now bytes) ⌝ }
+    ensures { λ r. ⌜ r ≡ sumsOf (now (bytes .entry)) ⌝ }
+{
+    let mut a: u32 = 0;
+    let mut b: u32 = 0;
+    let mut c: u32 = 0;
+    let mut d: u32 = 0;
+    let mut e: u32 = 0;
+    let mut f: u32 = 0;
+    let mut g: u32 = 0;
+    let mut h: u32 = 0;
+    let mut i: usize = 0;
+    while i < 252 {
+        let at = 2 * i;
+        a += number16(bytes, at) as u32;
+        b += number16(bytes, at + 2) as u32;
+        c += number16(bytes, at + 4) as u32;
+        d += number16(bytes, at + 6) as u32;
+        e += a;
+        f += b;
+        g += c;
+        h += d;
+        i += 4;
+    }
+    let y = number16(bytes, 504) as u32;
+    let z = number16(bytes, 506) as u32;
+    let first = a + b + c + d + y + z;
+    let second = 4 * (e + f + g + h) + 2 * a + b - d + 2 * y + z;
+    Sums {
+        first: reduced(first),
+        second: reduced(second),
+    }
+}
+
+// The check of 508 bytes; 1 for another length.
+pub fn check_of(bytes: &[u8]) -> Checked
+    ensures { λ r. ⌜ r ≡ checkStep (now (bytes .entry)) ⌝ }
+{
+    if bytes.len() != 508 {
+        return Checked {
+            number: 1,
+            sums: Sums {
+                first: 0,
+                second: 0,
+            },
+        };
+    }
+    Checked {
+        number: 0,
+        sums: sums(bytes),
+    }
+}
+
+// Whether a block's last four bytes are the check of those before.
+pub fn check_matches(block: &[u8]) -> bool
+    ensures { λ r. ⌜ r ≡ checkMatches (now (block .entry)) ⌝ }
+{
+    if block.len() != 512 {
+        return false;
+    }
+    let s = sums(block);
+    if s.first != number16(block, 508) {
+        return false;
+    }
+    s.second == number16(block, 510)
+}

@@ -1,0 +1,187 @@
+// The form check: all that makes a block well formed, but for its check.
+ghost use mathlib.Core.Path.{_≡_};
+ghost use mathlib.Core.Bool.{_&&_};
+ghost use Prim.Native.Nat.{_+_, _-_, _*_, _≤_};
+ghost use lib.ListN.{length, drop};
+ghost use Rattle.block.specs.Message.{entriesFit, recordFits, recordsFit, ticketAbsent, ticketsDiffer};
+ghost use Rattle.block.specs.Form.{entriesOf, recordOf, recordsOf, allZero, entriesPadded, recordPadded, recordsPadded, headerFits, wellFormed};
+use block::number;
+use block::number64;
+
+// Whether every byte of the part is zero, byte by byte: for fewer than eight.
+fn zero_short(part: &[u8]) -> bool
+    ensures { λ r. ⌜ r ≡ allZero (now (part .entry)) ⌝ }
+{
+    let mut i: usize = 0;
+    while i < part.len() {
+        if part[i] != 0 {
+            return false;
+        }
+        i += 1;
+    }
+    true
+}
+
+// Whether every byte of the part is zero, by eight: each eight equal the last eight, which are zero.
+// Were each compared with zero, the compiler would load and compare them byte by byte.
+fn zero(part: &[u8]) -> bool
+    ensures { λ r. ⌜ r ≡ allZero (now (part .entry)) ⌝ }
+{
+    if part.len() < 8 {
+        return zero_short(part);
+    }
+    let end = part.len() - 8;
+    let last = number64(part, end);
+    let mut i: usize = 0;
+    while i < end {
+        if number64(part, i) != last {
+            return false;
+        }
+        i += 8;
+    }
+    last == 0
+}
+
+// The first n of eight entries, and the zeros after them.
+// An item is read with its three unused bytes: where they are not zero, the number is 256 or more.
+fn entries_fit(part: &[u8], n: usize) -> bool
+    requires { ⌜ (length (now part) ≡ 64) × (n ≤ 8) ⌝ }
+    ensures { λ r. ⌜ r ≡ (entriesFit 0 (entriesOf n (now (part .entry))) && entriesPadded n (now (part .entry))) ⌝ }
+{
+    let mut low: u32 = 0;
+    let mut e: usize = 0;
+    while e < n {
+        let item = number(part, 8 * e);
+        if item < low {
+            return false;
+        }
+        if 127 < item {
+            return false;
+        }
+        low = item + 1;
+        e += 1;
+    }
+    zero(&part[8 * n..])
+}
+
+// One record, of 72 bytes. The number of writes is read with its three unused bytes, as an item is.
+fn record_fits(part: &[u8]) -> bool
+    requires { ⌜ length (now part) ≡ 72 ⌝ }
+    ensures { λ r. ⌜ r ≡ (recordFits (recordOf (now (part .entry))) && recordPadded (now (part .entry))) ⌝ }
+{
+    let ticket = number(part, 0);
+    if ticket < 1 {
+        return false;
+    }
+    if 100000000 < ticket {
+        return false;
+    }
+    let writes = number(part, 4);
+    if writes < 1 {
+        return false;
+    }
+    if 8 < writes {
+        return false;
+    }
+    entries_fit(&part[8..], writes as usize)
+}
+
+// The first `count` of six records, and the zeros after them up to the check.
+fn records_fit(body: &[u8], count: usize) -> bool
+    requires { ⌜ (length (now body) ≡ 492) × (count ≤ 6) ⌝ }
+    ensures { λ r. ⌜ r ≡ (recordsFit (recordsOf count (now (body .entry))) && recordsPadded count (now (body .entry))) ⌝ }
+{
+    let mut j: usize = 0;
+    while j < count {
+        let at = 72 * j;
+        if !record_fits(&body[at..at + 72]) {
+            return false;
+        }
+        j += 1;
+    }
+    zero(&body[72 * count..])
+}
+
+// Whether none of the records from `from` on has the ticket.
+fn ticket_absent(body: &[u8], ticket: u32, from: usize, count: usize) -> bool
+    requires { ⌜ (length (now body) ≡ 492) × (count ≤ 6) × (from ≤ count) ⌝ }
+    ensures { λ r. ⌜ r ≡ ticketAbsent ticket (recordsOf (count - from) (drop (72 * from) (now (body .entry)))) ⌝ }
+{
+    let mut i = from;
+    while i < count {
+        if number(body, 72 * i) == ticket {
+            return false;
+        }
+        i += 1;
+    }
+    true
+}
+
+fn tickets_differ(body: &[u8], count: usize) -> bool
+    requires { ⌜ (length (now body) ≡ 492) × (count ≤ 6) ⌝ }
+    ensures { λ r. ⌜ r ≡ ticketsDiffer (recordsOf count (now (body .entry))) ⌝ }
+{
+    let mut j: usize = 0;
+    while j < count {
+        let ticket = number(body, 72 * j);
+        if !ticket_absent(body, ticket, j + 1, count) {
+            return false;
+        }
+        j += 1;
+    }
+    true
+}
+
+// Number of replicas, slot, sender, and the zeros of the header.
+fn header_fits(block: &[u8]) -> bool
+    requires { ⌜ length (now block) ≡ 512 ⌝ }
+    ensures { λ r. ⌜ r ≡ headerFits (now (block .entry)) ⌝ }
+{
+    let replicas = block[2];
+    if replicas < 2 {
+        return false;
+    }
+    if 6 < replicas {
+        return false;
+    }
+    let slot = number(block, 4);
+    if 99999999 < slot {
+        return false;
+    }
+    let sender = block[1] as u32;
+    if sender != slot % (replicas as u32) {
+        return false;
+    }
+    number64(block, 8) == 0
+}
+
+// Whether a block is well formed; false for another length.
+pub fn well_formed(block: &[u8]) -> bool
+    ensures { λ r. ⌜ r ≡ wellFormed (now (block .entry)) ⌝ }
+{
+    if block.len() != 512 {
+        return false;
+    }
+    if !header_fits(block) {
+        return false;
+    }
+    let kind = block[0];
+    let count = block[3];
+    match count {
+        0 => match kind {
+            1 => zero(&block[16..508]),
+            _ => false,
+        },
+        1..=6 => match kind {
+            2 => {
+                let n = count as usize;
+                if !records_fit(&block[16..508], n) {
+                    return false;
+                }
+                tickets_differ(&block[16..508], n)
+            }
+            _ => false,
+        },
+        _ => false,
+    }
+}
