@@ -1,21 +1,21 @@
 -- Numbers and signed values in bytes read back, and bytes are written again from what they read as. Assumes nothing.
 use Prim.Native.Nat.{ℕ, zero, suc, _+_, _*_, _/_, _%_, _^_, _≤_, _<_}
 use mathlib.Core.Bool.{true}
-use mathlib.Core.List.{List, [], _∷_}
+use mathlib.Core.List.{List, [], _∷_, _++_}
 use mathlib.Core.Path.{_≡_, refl, ap, _∙_}
-use native.Mathlib.Nat.{not-suc-le-zero, le-of-suc-le-suc, pow-succ', one-le-pow, add-zero}
-use native.Mathlib.Numerals.{add-one, add-two, add-three, add-four}
+use native.Mathlib.Nat.{not-suc-le-zero, le-of-suc-le-suc, pow-succ', one-le-pow, mul-add, mul-assoc}
+use native.Mathlib.Numerals.{add-one}
 use native.Mathlib.Omega.{arith}
 use borrow.Author.Tests.{ltb-true, lt-ltb}
 use lib.IntN.{ℤ, pos, negsuc}
 use lib.ListN.{length, getD}
-use lib.Seq.{slice, slice-cons, slice-empty}
+use lib.Seq.{slice, slice-cons, slice-empty, length-slice}
 use mir.Facts.{toZ-ofZ, ofZ-toZ, fits-ofZ, sfits-toZ}
 use mir.Syntax.{w32}
 use mir.Val.{Fits, SFits, toZ, ofZ}
 use Rattle.block.specs.Message.{signed32}
 use Rattle.block.specs.Numbers.{bytesOf, numberOf, valueBytes, valueOf}
-use Rattle.block.proofs.ListLaws.{AllBytes, bytes-nil, bytes-cons, bytes-tail}
+use Rattle.block.proofs.ListLaws.{AllBytes, bytes-nil, bytes-cons, bytes-tail, slice-split}
 
 -- ---- numbers
 
@@ -50,6 +50,11 @@ numberOf-below n [] f e = one-le-pow n 256 (omega arith)
 numberOf-below zero (x ∷ xs) f e = absurd (not-suc-le-zero e)
 numberOf-below (suc n) (x ∷ xs) f e =
     omega (arith, f .each 0, pow-succ' 256 n, numberOf-below n xs (bytes-tail f) (le-of-suc-le-suc e))
+
+pub numberOf-append : (l k : List ℕ) → numberOf (l ++ k) ≡ numberOf l + 256 ^ length l * numberOf k
+unfolding numberOf
+numberOf-append [] k = omega arith
+numberOf-append (x ∷ xs) k = rw (numberOf-append xs k, pow-succ' 256 (length xs)) (simp (mul-add, mul-assoc) (omega arith))
 
 -- ---- signed values in four bytes
 
@@ -99,19 +104,10 @@ module _ (l : List ℕ) (from to : ℕ) where
   unfolding numberOf
   number-none e = rw (e, slice-empty to l)
 
-pub number-at : (l : List ℕ) (at : ℕ) → at + 4 ≤ length l
-    → numberOf (slice at (at + 4) l) ≡ getD l at 0 + 256 * (getD l (at + 1) 0 + 256 * (getD l (at + 2) 0 + 256 * getD l (at + 3) 0))
-unfolding numberOf
-number-at l at h =
-    rw (
-      add-one at,
-      add-two at,
-      add-three at,
-      slice-cons at (at + 4) l 0 (omega arith) h,
-      slice-cons (suc at) (at + 4) l 0 (omega arith) h,
-      slice-cons (suc (suc at)) (at + 4) l 0 (omega arith) h,
-      slice-cons (suc (suc (suc at))) (at + 4) l 0 (omega arith) h,
-      add-four at,
-      slice-empty (suc (suc (suc (suc at)))) l,
-      add-zero,
-    )
+-- and from two parts of m bytes each: 256 to the m is the weight of the upper
+pub number-halves : (l : List ℕ) (at m : ℕ) → at + 2 * m ≤ length l
+    → numberOf (slice at (at + 2 * m) l) ≡ numberOf (slice at (at + m) l) + 256 ^ m * numberOf (slice (at + m) (at + m + m) l)
+number-halves l at m h =
+    let e : at + m + m ≡ at + 2 * m = omega arith in
+    let size : length (slice at (at + m) l) ≡ m = length-slice at (at + m) l (omega arith) ∙ omega arith in
+    rw (e, slice-split at (at + m) (at + 2 * m) l (omega arith) (omega arith), numberOf-append, size)

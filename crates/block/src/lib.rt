@@ -98,11 +98,9 @@ pub fn number(s: &[u8], at: usize) -> u32
     requires { ⌜ at + 4 ≤ length (now s) ⌝ }
     ensures { λ r. ⌜ r ≡ numberOf (slice at (at + 4) (now (s .entry))) ⌝ }
 {
-    let a = s[at] as u32;
-    let b = s[at + 1] as u32;
-    let c = s[at + 2] as u32;
-    let d = s[at + 3] as u32;
-    a + 256 * (b + 256 * (c + 256 * d))
+    let low = number16(s, at) as u32;
+    let high = number16(s, at + 2) as u32;
+    low + 65536 * high
 }
 
 // The number in the eight bytes from `at` on, the lowest first.
@@ -110,15 +108,9 @@ pub fn number64(s: &[u8], at: usize) -> u64
     requires { ⌜ at + 8 ≤ length (now s) ⌝ }
     ensures { λ r. ⌜ r ≡ numberOf (slice at (at + 8) (now (s .entry))) ⌝ }
 {
-    let a = s[at] as u64;
-    let b = s[at + 1] as u64;
-    let c = s[at + 2] as u64;
-    let d = s[at + 3] as u64;
-    let e = s[at + 4] as u64;
-    let f = s[at + 5] as u64;
-    let g = s[at + 6] as u64;
-    let h = s[at + 7] as u64;
-    a + 256 * (b + 256 * (c + 256 * (d + 256 * (e + 256 * (f + 256 * (g + 256 * h))))))
+    let low = number(s, at) as u64;
+    let high = number(s, at + 4) as u64;
+    low + 4294967296 * high
 }
 
 // The signed value of 32 bits, and back.
