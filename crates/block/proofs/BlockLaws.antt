@@ -62,7 +62,7 @@ bytes-entriesBytes low [] h = bytes-nil
 bytes-entriesBytes low (e ∷ es) h =
     let b = both _ _ h in
     let w = is-within _ _ _ (b .left) in
-    bytes-append (bytes-entryBytes e (omega arith)) (bytes-entriesBytes (suc (e .item)) es (b .right))
+    bytes-append (bytes-entryBytes e (omega arith)) (bytes-entriesBytes _ es (b .right))
 
 pub bytes-recordBytes : (r : Record) → RecordFacts r → AllBytes (recordBytes r)
 unfolding recordBytes

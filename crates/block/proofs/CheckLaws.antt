@@ -34,11 +34,11 @@ module _ (a c : List ℕ) where
 
   pub firstCheck-append : 508 ≤ length a → firstCheck (a ++ c) ≡ firstCheck a
   unfolding firstCheck
-  firstCheck-append h = ap (λ (n : ℕ). n % 65535) (sumTo-append 254 h)
+  firstCheck-append h = rw (sumTo-append 254 h)
 
   pub secondCheck-append : 508 ≤ length a → secondCheck (a ++ c) ≡ secondCheck a
   unfolding secondCheck
-  secondCheck-append h = ap (λ (n : ℕ). n % 65535) (weightedTo-append 254 h)
+  secondCheck-append h = rw (weightedTo-append 254 h)
 
 -- so it is that of the first 508 bytes
 pub firstCheck-take : (b : List ℕ) → 508 ≤ length b → firstCheck (take 508 b) ≡ firstCheck b

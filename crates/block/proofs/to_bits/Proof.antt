@@ -1,4 +1,4 @@
--- `block::to_bits` meets its contract: a negative value is counted from -2^31 up and moved up by 2^31, any other is its own bits.
+-- `to_bits` meets its contract: a negative value is counted from -2^31 up and moved up by 2^31, any other is its own bits.
 -- Assumes nothing.
 use Prim.Native.Nat.{ℕ, suc, _+_, _-_, _<_, _^_}
 use mathlib.Core.Path.{_≡_, refl}

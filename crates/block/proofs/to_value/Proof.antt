@@ -21,10 +21,11 @@ upper : (b : ℕ) → 2147483648 ≤ b → b < 2 ^ 32 → toZ w32 (b - 214748364
 upper b h k =
     rw (toZ-pos w32 {n = b - 2147483648} (omega arith), lt-ltb (b - 2147483648) 2147483648 (omega arith), le-ltb b 2147483648 h) (ap negsuc (omega arith))
 
+upper-fits : (b : ℕ) → 2147483648 ≤ b → b < 2 ^ 32 → SFits w32 (toZ w32 (b - 2147483648) +ℤ negsuc 2147483647)
+upper-fits b h k = rw (upper b h k) (sfits-toZ (record { fits = k }))
+
 add-result : tie.Need-add-result
-add-result c =
-    let b = c .before .args .bits in
-    rw (upper b (c .if1 .left) (c .before .fits .bits .fits)) (sfits-toZ (c .before .fits .bits))
+add-result c = upper-fits (c .before .args .bits) (c .if1 .left) (c .before .fits .bits .fits)
 
 returns : tie.Need-returns
 returns c = search needs
@@ -32,7 +33,7 @@ returns c = search needs
 returns-2 : tie.Need-returns-2
 returns-2 c =
     let b = c .before .args .bits in
-    rw (upper b (c .if1 .left) (c .before .fits .bits .fits)) (toZ-ofZ (sfits-toZ (c .before .fits .bits)))
+    toZ-ofZ (upper-fits b (c .if1 .left) (c .before .fits .bits .fits)) ∙ upper b (c .if1 .left) (c .before .fits .bits .fits)
 
 pub to-value-spec : {M : Type 1} → statement M
 to-value-spec = tie.close (tie.spec cast-result cast-result-2 add-result returns returns-2)

@@ -1,4 +1,4 @@
--- `block::form::entries_fit` meets its contract. The loop's invariant: all of the entries fit just if those from `e` on do.
+-- `entries_fit` meets its contract. The loop's invariant: all of the entries fit just if those from `e` on do.
 -- Assumes nothing.
 use Prim.Native.Nat.{_-_, _≤_}
 use mathlib.Core.Path.{_≡_, sym, _∙_}

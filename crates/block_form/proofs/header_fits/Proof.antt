@@ -1,4 +1,4 @@
--- `block::form::header_fits` meets its contract: each test that fails makes `headerFits` false, and past them bytes 8 to 15 decide.
+-- `header_fits` meets its contract: each test that fails makes `headerFits` false, and past them bytes 8 to 15 decide.
 -- Assumes nothing.
 use mathlib.Core.Path.{sym, _∙_}
 use native.Mathlib.Omega.{arith}

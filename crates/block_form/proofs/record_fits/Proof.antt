@@ -1,4 +1,4 @@
--- `block::form::record_fits` meets its contract: each test that fails makes the record unfit, and past them it is what `entries_fit` answers.
+-- `record_fits` meets its contract: each test that fails makes the record unfit, and past them it is what `entries_fit` answers.
 -- Assumes nothing.
 use mathlib.Core.Path.{sym, _∙_}
 use native.Mathlib.Omega.{arith}

@@ -1,4 +1,4 @@
--- `block::form::records_fit` meets its contract. The loop's invariant: all of the records fit just if those from `j` on do.
+-- `records_fit` meets its contract. The loop's invariant: all of the records fit just if those from `j` on do.
 -- Assumes nothing.
 use Prim.Native.Nat.{_-_, _≤_}
 use mathlib.Core.Path.{_≡_, sym, _∙_}

@@ -1,4 +1,4 @@
--- `block::form::ticket_absent` meets its contract. The loop's invariant: the ticket is absent from `from` on just if it is from `i` on.
+-- `ticket_absent` meets its contract. The loop's invariant: the ticket is absent from `from` on just if it is from `i` on.
 -- Assumes nothing.
 use Prim.Native.Nat.{_-_, _≤_}
 use mathlib.Core.Path.{_≡_, refl, sym, _∙_}

@@ -1,4 +1,4 @@
--- `block::form::tickets_differ` meets its contract. The loop's invariant: all of the tickets differ just if those from record `j` on do.
+-- `tickets_differ` meets its contract. The loop's invariant: all of the tickets differ just if those from record `j` on do.
 -- Assumes nothing.
 use Prim.Native.Nat.{_+_, _-_, _≤_}
 use mathlib.Core.Path.{_≡_, sym, _∙_}

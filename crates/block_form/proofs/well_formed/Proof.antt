@@ -1,4 +1,4 @@
--- `block::form::well_formed` meets its contract: length, header, kind with number of records, records, tickets; the first that fails refuses.
+-- `well_formed` meets its contract: length, header, kind with number of records, records, tickets; the first that fails refuses.
 -- Assumes nothing.
 use mathlib.Core.Path.{_≡_, sym, _∙_}
 use native.Mathlib.Omega.{arith}

@@ -1,4 +1,4 @@
--- `block::form::zero` meets its contract. The loop's invariant: the part is all zero just if its last eight bytes are, and all from `i` on.
+-- `zero` meets its contract. The loop's invariant: the part is all zero just if its last eight bytes are, and all from `i` on.
 -- Assumes nothing.
 use Prim.Native.Nat.{_+_, _-_, _<_}
 use mathlib.Core.Path.{_≡_, sym, _∙_}

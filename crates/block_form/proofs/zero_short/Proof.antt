@@ -1,4 +1,4 @@
--- `block::form::zero_short` meets its contract. The loop's invariant: the part is all zero just if all from `i` on is.
+-- `zero_short` meets its contract. The loop's invariant: the part is all zero just if all from `i` on is.
 -- Assumes nothing.
 use Prim.Native.Nat.{_-_, _≤_}
 use mathlib.Core.Path.{_≡_, refl, sym, _∙_}

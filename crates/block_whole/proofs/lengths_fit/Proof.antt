@@ -1,4 +1,4 @@
--- `writer::lengths_fit` meets its contract: each answer says which of the tests were passed. Assumes nothing.
+-- `lengths_fit` meets its contract: each answer says which of the tests were passed. Assumes nothing.
 use borrow.Author.Tests.{eq-eqb, ne-eqb}
 use Rattle.block.specs.Writing.{lengthsFit}
 use Rattle.block_whole.proofs.lengths_fit.Statement.{statement}

@@ -1,4 +1,4 @@
--- `writer::put_records` meets its contract. The loop's invariant: the block starts with its first 16 bytes and the bytes of the first j
+-- `put_records` meets its contract. The loop's invariant: the block starts with its first 16 bytes and the bytes of the first j
 -- records, and the rest is as it was. Assumes nothing.
 use Prim.Native.Nat.{_+_, _-_, _*_, _≤_}
 use mathlib.Core.Path.{_≡_, _∙_}

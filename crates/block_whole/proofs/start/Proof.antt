@@ -1,4 +1,4 @@
--- `writer::start` meets its contract. The loop's invariant: the first i bytes are zero, and the rest is as it was. Assumes nothing.
+-- `start` meets its contract. The loop's invariant: the first i bytes are zero, and the rest is as it was. Assumes nothing.
 use Prim.Native.Nat.{ℕ, _-_, _≤_}
 use mathlib.Core.Path.{_≡_, refl, _∙_}
 use mathlib.Core.List.{_++_, append-nil}

@@ -1,4 +1,4 @@
--- `writer::write_block` meets its contract: what the four calls leave, one after the other, is the message's block (`block-put`).
+-- `write_block` meets its contract: what the four calls leave, one after the other, is the message's block (`block-put`).
 -- Assumes nothing.
 use mathlib.Core.Path.{_≡_, refl, sym, ap, _∙_}
 use mathlib.Core.Bool.{true}

@@ -1,4 +1,4 @@
--- `writer::put_entries` meets its contract. The loop's invariant: the part starts with the bytes of the first e entries, and the
+-- `put_entries` meets its contract. The loop's invariant: the part starts with the bytes of the first e entries, and the
 -- rest is as it was; the zeros go behind the last. Assumes nothing.
 use Prim.Native.Nat.{ℕ, _-_, _*_, _≤_}
 use mathlib.Core.Path.{_≡_, refl, ap, _∙_}

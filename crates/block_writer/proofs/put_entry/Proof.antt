@@ -1,4 +1,4 @@
--- `writer::put_entry` meets its contract: the item's part and then the value's part are all of the entry's. Assumes nothing.
+-- `put_entry` meets its contract: the item's part and then the value's part are all of the entry's. Assumes nothing.
 use mathlib.Core.Path.{ap, _∙_}
 use native.Mathlib.Omega.{arith}
 use borrow.Author.Needs.{needs}

@@ -1,4 +1,4 @@
--- `writer::put_number` meets its contract: four stores are all of the part. Assumes nothing.
+-- `put_number` meets its contract: four stores are all of the part. Assumes nothing.
 use borrow.Author.Needs.{needs}
 use Rattle.block.proofs.WriteLaws.{number-put}
 use Rattle.block_writer.proofs.put_number.Statement.{statement}

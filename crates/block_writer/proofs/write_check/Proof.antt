@@ -1,4 +1,4 @@
--- `writer::write_check` meets its contract: the sums of the first 508 bytes are the block's. Assumes nothing.
+-- `write_check` meets its contract: the sums of the first 508 bytes are the block's. Assumes nothing.
 use native.Mathlib.Omega.{arith}
 use borrow.Author.Tests.{eq-eqb, ne-eqb}
 use borrow.Author.Needs.{needs}

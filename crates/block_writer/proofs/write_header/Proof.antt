@@ -1,4 +1,4 @@
--- `writer::write_header` meets its contract: four stores, the slot's part and the zeros' part, in this order, are all of it. Assumes nothing.
+-- `write_header` meets its contract: four stores, the slot's part and the zeros' part, in this order, are all of it. Assumes nothing.
 use Prim.Native.Nat.{ℕ}
 use mathlib.Core.Path.{ap, _∙_}
 use native.Mathlib.Omega.{arith}

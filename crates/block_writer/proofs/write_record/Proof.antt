@@ -1,4 +1,4 @@
--- `writer::write_record` meets its contract: the ticket's part, the count's part and the entries' part, in this order, are all of it.
+-- `write_record` meets its contract: the ticket's part, the count's part and the entries' part, in this order, are all of it.
 -- Assumes nothing.
 use mathlib.Core.Path.{_∙_}
 use native.Mathlib.Omega.{arith}
