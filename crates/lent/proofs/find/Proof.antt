@@ -95,7 +95,7 @@ module _ {M : Type 1} (𝓤 : URA M) (H : Heap 𝓤) (A : Atoms 𝓤) (W : Given
         -- [the slice; its token; the locals]: ticket 0
         assigns ! (bin ! (load ! (from ! (stop !)) (look ! 4 refl)) (lit ! tt) tt) (from ! (stop !)) (init ! 2 refl (tt, tt)) $ when ! (load ! (from ! (stop !)) (look ! 2 refl)) (λ z.
         assigns ! (of-opd ! (lit ! tt)) (from ! (stop !)) (init ! 8 refl (tt, record { fits = omega arith })) $ returns-within ! Ends refl (look ! 8 refl) $
-        frees-cell ! 8 refl refl $ frees-cell ! 6 refl refl $ frees-cell ! 4 refl refl $ frees-cell ! 2 refl refl $ free0 ! $ by ! (ends 6 (no-ticket ys k (eqb→eq k 0 z)) (omega arith))) (λ nz.
+        frees-cell ! 8 refl refl $ frees-cell ! 6 refl refl $ frees-cell ! 4 refl refl $ frees-cell ! 2 refl refl $ free0 ! $ by ! (ends _ (no-ticket ys k (eqb→eq k _ z)) (omega arith))) (λ nz.
         -- another: the search
         calls-lending ! fm (slice-shared R b o κ q γ ys W room vals tells (copies 𝓤 H A W)) (Scan 𝓤 H A mem run) known (to-scan 𝓤 H A W mem run b o ys k gk) (asks-scan 𝓤 H A W mem run b o ys k gk) (λ u. Is usize (rowFrom k 0 ys) (u ∷ [])) (gives-scan 𝓤 H A W mem run b o ys k gk)
         (λ ν δ i j. (and-then ! (load ! (from ! (stop !)) (look ! 6 refl)) (and-then ! (load ! (from ! (stop !)) (look ! 4 refl)) (no-more !)))) (λ u is. land ! (from ! (stop !)) (init ! 8 refl (uint-lawful 𝓤 H A W w64 .typed (rowFrom k 0 ys) _ is .0)) $

@@ -14,7 +14,7 @@ use ghost.Atoms.{Atoms}
 use contract.Running.{givenOf, tables, tablesOf}
 use types.Kit.{Given, ‵, ⋆, _$_, _∵_, !, qed, by, move}
 use types.Part.{whole, sub, store-in}
-use types.Run.{look, init, stop, hop, fld, from, lit, unit-lit, false-lit, of-opd, assigns, returns, enter, alloc1, alloc0, params1, pass1, pass0, free0}
+use types.Run.{look, init, stop, hop, fld, from, lit, unit-lit, of-opd, assigns, returns, enter, alloc1, alloc0, params1, pass1, pass0, free0}
 use denote.Triple.Spec.{tripleOf}
 use denote.Triple.Table.{entered}
 use Rattle.memory.specs.declared.Turn.{Turn}
@@ -35,11 +35,11 @@ module _ {M : Type 1} (𝓤 : URA M) (H : Heap 𝓤) (A : Atoms 𝓤) (W : Given
   walk =
       qed W (‵ (MutOf R b o κ γ h) ∷ ‵ (flft κ q) ∷ []) ∵ enter ! C Λ code.function (vptr b o ∷ []) _ $ alloc1 ! (λ l0. alloc1 ! (λ l1. alloc0 ! $ params1 ! $ pass1 ! (init ! 0 refl (tt, tt)) $ pass0 ! $
       move ! (4 ∷ 5 ∷ []) $ opens-turn ! tt b o h (λ g.
-      -- [the turn's cell; the open borrow; obs; auth; the locals]
+      -- [the turn's cell; the open borrow; obs; auth; the locals]; `λ Kt h. h` reads a constant, whichever it is
       let made = is-turn (next h) (omega arith) in
       assigns ! (of-opd ! (lit ! tt)) (from ! (hop ! (look ! 4 refl) (fld ! refl (stop !)))) (store-in ! 0 (sub ! 0 refl (whole !)) (tt, record { fits = omega arith })) $
-      assigns ! (of-opd ! (false-lit !)) (from ! (hop ! (look ! 4 refl) (fld ! refl (stop !)))) (store-in ! 0 (sub ! 1 refl (whole !)) (tt, tt)) $
-      assigns ! (of-opd ! (false-lit !)) (from ! (hop ! (look ! 4 refl) (fld ! refl (stop !)))) (store-in ! 0 (sub ! 2 refl (whole !)) (tt, tt)) $
+      assigns ! (of-opd ! (record { go = λ Kt h. h })) (from ! (hop ! (look ! 4 refl) (fld ! refl (stop !)))) (store-in ! 0 (sub ! 1 refl (whole !)) (tt, tt)) $
+      assigns ! (of-opd ! (record { go = λ Kt h. h })) (from ! (hop ! (look ! 4 refl) (fld ! refl (stop !)))) (store-in ! 0 (sub ! 2 refl (whole !)) (tt, tt)) $
       assigns ! (of-opd ! (unit-lit !)) (from ! (stop !)) (init ! 6 refl (tt, tt)) $ closes-turn ! tt b o (next h) made $ returns ! (look ! 4 refl) $
       frees-cell ! 4 refl refl $ frees-cell ! 2 refl refl $ free0 ! $ by ! (ends 𝓤 H A W next κ q b o γ h))))
 
