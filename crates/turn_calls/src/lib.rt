@@ -9,6 +9,7 @@ ghost use Rattle.lent.specs.Turns.{moved};
 ghost use Rattle.sending.specs.Lent.{sendParts, blockLeft};
 ghost use Rattle.delivering.specs.Lent.{deliverParts};
 ghost use Rattle.working.specs.Lent.{workParts};
+ghost use Rattle.turn_calls.specs.Handed.{madeReply};
 ghost use Rattle.calls.specs.Replies.{reply, number, workReply, turnChange};
 use calls::Reply;
 use calls::WorkReply;
@@ -65,6 +66,33 @@ pub fn not_made(number: u8) -> Reply
     }
 }
 
+// What a make hands back: the rows of the replica made, or the rows that were there.
+fn made_reply(rows: [Txn; 6], done: making::Made) -> Made
+    ensures { λ r. ⌜ r ≡ madeReply (done .answer) rows (done .counts) (done .table) ⌝ }
+{
+    let fresh = done.table;
+    let numbers = done.counts;
+    let answer = done.answer;
+    match answer {
+        Answered::Accepted => Made {
+            reply: Reply {
+                number: 0,
+                counts: numbers,
+            },
+            rows: fresh,
+            change: 4,
+        },
+        Answered::Refused(number) => Made {
+            reply: Reply {
+                number: number,
+                counts: numbers,
+            },
+            rows: rows,
+            change: 0,
+        },
+    }
+}
+
 pub fn make_on(
     rows: [Txn; 6],
     n: u32,
@@ -94,27 +122,7 @@ pub fn make_on(
         &mut *places,
         &mut *outbox,
     );
-    let fresh = done.table;
-    let numbers = done.counts;
-    let answer = done.answer;
-    match answer {
-        Answered::Accepted => Made {
-            reply: Reply {
-                number: 0,
-                counts: numbers,
-            },
-            rows: fresh,
-            change: 4,
-        },
-        Answered::Refused(number) => Made {
-            reply: Reply {
-                number: number,
-                counts: numbers,
-            },
-            rows: rows,
-            change: 0,
-        },
-    }
+    made_reply(rows, done)
 }
 
 pub fn send_on(

@@ -1,0 +1,2 @@
+-- What the helpers' contracts say.
+pub mod Handed
