@@ -5,7 +5,7 @@ use mathlib.Core.Bool.{true, _&&_}
 use native.Mathlib.Omega.{arith}
 use borrow.Author.Tests.{not-true, not-false}
 use lib.Dec.{eqb}
-use lib.ListN.{length}
+use lib.ListN.{length, getD}
 use lib.Seq.{slice}
 use Rattle.block.specs.Answers.{recordAt}
 use Rattle.block.proofs.ListLaws.{lent-slice, getD-slice}
@@ -88,9 +88,10 @@ same-length-8 c = search needs
 returns-2 : tie.Need-returns-2
 returns-2 c =
     let k = c .before .before in
-    let p = k .before .before in (
+    let p = k .before .before in
+    let a = p .before .before .before .before .before .before .before .before .before .before .before .args in (
       (λ m. rw (c .unchanged2 .ensures)
-          (work-empty _ (long (p .before)) (p .place-start .result) (p .place-start .ensures) (k .byte-at .result) (k .byte-at .ensures) (c .before .if2 .taken))),
+          (work-empty (workParts m (a .turn) (a .counts) (a .table) (a .queue .now) (a .items .now) (a .values .now) (a .stamps .now) (a .places .now)) (long (p .before)) (p .place-start .result) (p .place-start .ensures) (k .byte-at .result) (k .byte-at .ensures) (c .before .if2 .taken))),
       rw (c .unchanged2 .ensures) none-named,
     )
 
@@ -122,9 +123,10 @@ returns-3 : tie.Need-returns-3
 returns-3 c =
     let l = c .before .before .before in
     let k = l .before in
-    let p = k .before .before in (
+    let p = k .before .before in
+    let a = p .before .before .before .before .before .before .before .before .before .before .before .args in (
       (λ m. rw (c .passed .ensures)
-          (work-next _ (long (p .before)) (p .place-start .result) (p .place-start .ensures) (k .byte-at .result) (k .byte-at .ensures) (l .if2 .left) _ refl (c .before .if3 .taken))),
+          (work-next (workParts m (a .turn) (a .counts) (a .table) (a .queue .now) (a .items .now) (a .values .now) (a .stamps .now) (a .places .now)) (long (p .before)) (p .place-start .result) (p .place-start .ensures) (k .byte-at .result) (k .byte-at .ensures) (l .if2 .left) (getD (a .places .now) (p .place-start .result + 1) 0) refl (c .before .if3 .taken))),
       rw (c .passed .ensures) none-named,
     )
 
@@ -171,9 +173,10 @@ returns-4 c =
     let o = r .before .before .before .before in
     let l = o .before .before in
     let k = l .before in
-    let p = k .before .before in (
+    let p = k .before .before in
+    let a = p .before .before .before .before .before .before .before .before .before .before .before .args in (
       (λ m. rw (c .unchanged3 .ensures)
-          (work-unsent _ (long (p .before)) (p .place-start .result) (p .place-start .ensures) (k .byte-at .result) (k .byte-at .ensures) (l .if2 .left) _ refl (o .if3 .left)
+          (work-unsent (workParts m (a .turn) (a .counts) (a .table) (a .queue .now) (a .items .now) (a .values .now) (a .stamps .now) (a .places .now)) (long (p .before)) (p .place-start .result) (p .place-start .ensures) (k .byte-at .result) (k .byte-at .ensures) (l .if2 .left) _ refl (o .if3 .left)
           (r .record-at .result .ticket) (ticket r) (u .own-unsent .result) (u .own-unsent .ensures) (c .before .if4 .taken))),
       rw (c .unchanged3 .ensures) none-named,
     )
