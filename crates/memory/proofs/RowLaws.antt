@@ -12,6 +12,7 @@ use lib.Dec.{eqb, ltb}
 use lib.ListN.{length, getD, set, take, drop, replicate, length-take, length-drop, drop-of-length-le}
 use lib.Seq.{slice, paste, paste-suc, slice-cons, drop-cons, drop-length, drop-drop, take-take, getD-at, length-take-le}
 use Rattle.block.proofs.ListLaws.{take-drop}
+use Rattle.memory.specs.declared.Held.{Held}
 use Rattle.memory.specs.declared.Held.the-variants.{By, Nobody}
 use Rattle.memory.specs.declared.Txn.{Txn}
 use Rattle.memory.specs.Rows.{openCount, rowFrom, indexFrom, has, holderFrom, countBelow, shiftIn, insertAt}
@@ -50,17 +51,28 @@ module _ (l : List ℕ) (k t x : ℕ) where
   part-cons : k < t → t ≤ length l → slice k t l ≡ getD l k 0 ∷ slice (k + 1) t l
   part-cons h fits = rw (add-one k) (slice-cons k t l 0 h fits)
 
-  pub has-found : k < t → t ≤ length l → getD l k 0 ≡ x → has x (slice k t l) ≡ true
+  has-found : k < t → t ≤ length l → getD l k 0 ≡ x → has x (slice k t l) ≡ true
   unfolding has
   has-found h fits e = rw (part-cons h fits, eq-eqb (getD l k 0) x e)
 
-  pub has-next : k < t → t ≤ length l → (getD l k 0 ≡ x → ⊥) → has x (slice k t l) ≡ has x (slice (k + 1) t l)
+  has-next : k < t → t ≤ length l → (getD l k 0 ≡ x → ⊥) → has x (slice k t l) ≡ has x (slice (k + 1) t l)
   unfolding has
   has-next h fits e = rw (part-cons h fits, ne-eqb (getD l k 0) x e)
 
-  pub has-end : t ≤ k → has x (slice k t l) ≡ false
+  has-end : t ≤ k → has x (slice k t l) ≡ false
   unfolding has
   has-end h = rw (drop-of-length-le (take t l) {i = k} (omega (arith, length-take t l)))
+
+  -- the same under the choice of a holder
+  module _ (j : ℕ) (rest : Held) {h : Held} (e : h ≡ cond (has x (slice k t l)) (By j) rest) where
+    pub scan-found : k < t → t ≤ length l → getD l k 0 ≡ x → h ≡ By j
+    scan-found p fits q = e ∙ ap (λ (w : Bool). cond w (By j) rest) (has-found p fits q)
+
+    pub scan-next : k < t → t ≤ length l → (getD l k 0 ≡ x → ⊥) → h ≡ cond (has x (slice (k + 1) t l)) (By j) rest
+    scan-next p fits q = e ∙ ap (λ (w : Bool). cond w (By j) rest) (has-next p fits q)
+
+    pub scan-end : t ≤ k → h ≡ rest
+    scan-end p = e ∙ ap (λ (w : Bool). cond w (By j) rest) (has-end p)
 
 -- what is taken ends where its list does
 take-within : {A : Type 0} (t : ℕ) (l : List A) → take (min t (length l)) l ≡ take t l

@@ -7,9 +7,9 @@ use native.Mathlib.Omega.{arith}
 use borrow.Author.Needs.{needs}
 use lib.ListN.{length, drop}
 use lib.Seq.{slice}
-use Rattle.memory.specs.declared.Held.the-variants.{By}
+use Rattle.memory.specs.declared.Held.the-variants.{By, Nobody}
 use Rattle.memory.specs.Rows.{closed, has, holderFrom, holderOf}
-use Rattle.memory.proofs.RowLaws.{has-found, has-next, has-end, holder-me, holder-closed, holder-open, holder-end}
+use Rattle.memory.proofs.RowLaws.{scan-found, scan-next, scan-end, holder-me, holder-closed, holder-open, holder-end}
 use Rattle.memory.proofs.rows.holder.Statement.{statement}
 use Rattle.memory.proofs.rows.holder.Tie as tie
 
@@ -73,13 +73,9 @@ loop-less c = search needs
 loop-again : tie.Need-loop-again Inv-loop μ-loop Inv-search μ-search
 loop-again c =
     let l = c .before .before .before in
-    let a = l .before .before .before .before .before .before .before .before .before .before .args in (
-      omega arith,
-      omega arith,
-      omega arith,
-      l .loop .inv .3
-          ∙ rw (has-next (a .items .now) (l .loop .k) (l .before .lesser .result) (a .item) (omega arith) (omega arith) (c .if3 .left)),
-    )
+    let a = l .before .before .before .before .before .before .before .before .before .before .args in
+    let v = l .loop .inv in
+    (v .0, v .1, v .2, scan-next (a .items .now) (l .loop .k) (l .before .lesser .result) (a .item) _ _ (v .3) (omega arith) (v .1) (c .if3 .left))
 
 add-i : tie.Need-add-i Inv-loop μ-loop Inv-search μ-search
 add-i c = search needs
@@ -94,7 +90,7 @@ search-again c =
     let h : b .search .i < length (a .t1) = omega arith in
     ⊎-elim
     (λ w.
-    (omega arith, omega arith, w .5 .inv .3 ∙ rw (has-end (a .items .now) (w .5 .k) (w .4 .result) (a .item) (omega arith))))
+    (omega arith, omega arith, scan-end (a .items .now) (w .5 .k) (w .4 .result) (a .item) _ _ (w .5 .inv .3) (omega arith)))
     (⊎-elim
     (λ w.
     (omega arith, omega arith, b .search .inv .2 ∙ holder-closed _ (a .t1) (b .search .i) h (a .items .now) (a .me) (a .item) (w .0 .taken) (w .2 .left)))
@@ -105,18 +101,17 @@ returns : tie.Need-returns Inv-loop μ-loop Inv-search μ-search
 returns c =
     let b = c .before .before in
     let a = b .before .before .args in
-    ⊎-elim
+    ⊎-elim {C = By (c .before .search-test .found) ≡ holderOf (a .t1) (a .items .now) (a .me) (a .item)}
     (λ w. absurd (omega arith))
     (λ w.
-    ap By (w .11)
-    ∙ sym (w .7 .inv .3 ∙ rw (has-found (a .items .now) (w .7 .k) (w .6 .result) (a .item) (omega arith) (omega arith) (w .10 .taken))))
+    ap By (w .11) ∙ sym (scan-found (a .items .now) (w .7 .k) (w .6 .result) (a .item) _ _ (w .7 .inv .3) (omega arith) (w .7 .inv .1) (w .10 .taken)))
     (c .before .search-test .came)
 
 returns-2 : tie.Need-returns-2 Inv-loop μ-loop Inv-search μ-search
 returns-2 c =
     let b = c .before .before in
     let a = b .before .before .args in
-    ⊎-elim
+    ⊎-elim {C = Nobody ≡ holderOf (a .t1) (a .items .now) (a .me) (a .item)}
     (λ w.
     let e : b .search .i ≡ 6 = omega arith in
     sym (b .search .inv .2 ∙ rw e (holder-end (a .t1) 6 (omega arith) (a .items .now) (a .me) (a .item))))
