@@ -72,16 +72,16 @@ static void set(int k, uint32_t item, int32_t value) {
     must(begun.number);
     s->counts = begun.counts;
     stemline_read_reply old = stemline_read(
-        s->table, STEMLINE_TABLE, s->items, STEMLINE_ITEMS, s->writes, STEMLINE_WRITES,
-        s->snapshots, STEMLINE_SNAPSHOTS, begun.ticket, item);
+        s->table, STEMLINE_TABLE, begun.ticket, s->items, STEMLINE_ITEMS,
+        s->writes, STEMLINE_WRITES, s->snapshots, STEMLINE_SNAPSHOTS, item);
     must(old.number);
     stemline_reply written = stemline_write(
-        s->table, STEMLINE_TABLE, &s->turn, s->counts, s->items, STEMLINE_ITEMS,
-        s->writes, STEMLINE_WRITES, s->stamps, STEMLINE_STAMPS, begun.ticket, item, value);
+        s->table, STEMLINE_TABLE, &s->turn, begun.ticket, s->counts, s->items, STEMLINE_ITEMS,
+        s->writes, STEMLINE_WRITES, s->stamps, STEMLINE_STAMPS, item, value);
     must(written.number);
     s->counts = written.counts;
     stemline_ask_reply asked = stemline_ask(
-        s->table, STEMLINE_TABLE, s->counts, s->queue, STEMLINE_QUEUE, begun.ticket);
+        s->table, STEMLINE_TABLE, begun.ticket, s->counts, s->queue, STEMLINE_QUEUE);
     must(asked.number);
     s->counts = asked.counts;
     snprintf(text, sizeof text, "studio %d: ticket %u sets item %u from %d to %d", k,

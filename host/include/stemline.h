@@ -155,26 +155,27 @@ stemline_begin_reply stemline_begin(
 /* What the transaction wrote last to the item, else the item's value at its
  * begin. Refused by 1, 2, 3, 4. */
 stemline_read_reply stemline_read(
-    const stemline_txn *table, size_t table_length, const uint8_t *items, size_t items_length,
-    const int32_t *writes, size_t writes_length, const int32_t *snapshots, size_t snapshots_length,
-    uint32_t ticket, uint32_t item);
+    const stemline_txn *table, size_t table_length, uint32_t ticket,
+    const uint8_t *items, size_t items_length, const int32_t *writes, size_t writes_length,
+    const int32_t *snapshots, size_t snapshots_length, uint32_t item);
 
 /* Puts the item with its value into the writeset and locks it.
  * Refused by 1, 2, 3, 4, 7 and, unless the transaction holds the item, 8, 9, 10. */
 stemline_reply stemline_write(
-    stemline_txn *table, size_t table_length, const stemline_turn *turn, stemline_counts counts,
-    uint8_t *items, size_t items_length, int32_t *writes, size_t writes_length,
-    const uint32_t *stamps, size_t stamps_length, uint32_t ticket, uint32_t item, int32_t value);
+    stemline_txn *table, size_t table_length, const stemline_turn *turn, uint32_t ticket,
+    stemline_counts counts, uint8_t *items, size_t items_length,
+    int32_t *writes, size_t writes_length, const uint32_t *stamps, size_t stamps_length,
+    uint32_t item, int32_t value);
 
 /* Requests commit: a transaction without writes ends on the spot, any other
  * waits for the next own block. Refused by 1, 3, 4. */
 stemline_ask_reply stemline_ask(
-    stemline_txn *table, size_t table_length, stemline_counts counts,
-    uint32_t *queue, size_t queue_length, uint32_t ticket);
+    stemline_txn *table, size_t table_length, uint32_t ticket, stemline_counts counts,
+    uint32_t *queue, size_t queue_length);
 
 /* Ends an active transaction. Refused by 1, 3, 4. */
 stemline_reply stemline_withdraw(
-    stemline_txn *table, size_t table_length, stemline_counts counts, uint32_t ticket);
+    stemline_txn *table, size_t table_length, uint32_t ticket, stemline_counts counts);
 
 /* The counts of the calls so far. Refused by 1. */
 stemline_report_reply stemline_report(

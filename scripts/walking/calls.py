@@ -25,6 +25,7 @@ class Call:
     refusal: str = ""  # the function that answers a wrong table, empty where the call answers 1 itself or has no table
     before: str = ""  # the parts of the memory, {t} the table and {h} the turn
     step: str = ""  # the engine's step, {m} the memory
+    at_row: str = ""  # the engine's step at the row `at`, of a call that finds its row
     after: str = ""  # the parts after the call, {r} the reply too; empty where nothing changes
     replied: str = ""  # what the reply is of an outcome
 
@@ -55,6 +56,21 @@ class Call:
     @property
     def rest(self):
         return range(self.held, len(self.params))
+
+    @property
+    def ticketed(self):
+        """Whether the first of the rest is a ticket: it leads to the row, and is not handed on."""
+        return self.by_row == "find"
+
+    @property
+    def passed(self):
+        """What is handed on to the call by value."""
+        return range(self.held + self.ticketed, len(self.params))
+
+    @property
+    def row_passed(self):
+        """Whether the call by value is passed the row's record; else it takes it from the six rows."""
+        return self.by_row is not None and not self.by_rows
 
     @property
     def by_row(self):
@@ -102,43 +118,43 @@ CALLS = {
             [("table", TABLE_MUT), ("turn", TURN_MUT), ("size", U32), ("me", U32), ("start", shared("i32")), ("queue", mut("u32")),
              ("items", mut("u8")), ("writes", mut("i32")), ("snapshots", mut("i32")), ("values", mut("i32")), ("stamps", mut("u32")),
              ("places", mut("u8")), ("outbox", mut("u8"))],
-            "not_made", "allParts {h} (countsFor 0 0) {t} " + ALL, "makeStep {m} size me start", "allParts {h} ({r} .counts) {t} " + LATER, "reply",
+            "not_made", "allParts {h} (countsFor 0 0) {t} " + ALL, "makeStep {m} size me start", "", "allParts {h} ({r} .counts) {t} " + LATER, "reply",
         ),
         Call(
             "begin", "client_calls.begin_on", "Begun", "BeginReply",
             [("table", TABLE_MUT), ("counts", COUNTS), ("values", shared("i32")), ("snapshots", mut("i32"))],
-            "no_begin", "beginParts m {t} counts values snapshots", "beginStep {m}", "beginParts m {t} ({r} .counts) values snapshots′", "beginReply",
+            "no_begin", "beginParts m {t} counts values snapshots", "beginStep {m}", "beginRow {m} at", "beginParts m {t} ({r} .counts) values snapshots′", "beginReply",
         ),
         Call(
             "read", "client_calls.read_on", "ReadReply", "ReadReply",
-            [("table", TABLE), ("items", shared("u8")), ("writes", shared("i32")), ("snapshots", shared("i32")), ("ticket", U32), ("item", U32)],
-            "no_read", "readParts m {t} items writes snapshots", "readStep {m} ticket item", "", "readReply",
+            [("table", TABLE), ("ticket", U32), ("items", shared("u8")), ("writes", shared("i32")), ("snapshots", shared("i32")), ("item", U32)],
+            "no_read", "readParts m {t} items writes snapshots", "readStep {m} ticket item", "readRow {m} at item", "", "readReply",
         ),
         Call(
             "write", "client_calls.write_on", "Changed", "Reply",
-            [("table", TABLE_MUT), ("turn", TURN), ("counts", COUNTS), ("items", mut("u8")), ("writes", mut("i32")), ("stamps", shared("u32")),
-             ("ticket", U32), ("item", U32), ("value", I32)],
-            "replied", "writeParts m {h} counts {t} items writes stamps", "writeStep {m} ticket item value",
+            [("table", TABLE_MUT), ("turn", TURN), ("ticket", U32), ("counts", COUNTS), ("items", mut("u8")), ("writes", mut("i32")), ("stamps", shared("u32")),
+             ("item", U32), ("value", I32)],
+            "replied", "writeParts m {h} counts {t} items writes stamps", "writeStep {m} ticket item value", "writeRow {m} at item value",
             "writeParts m {h} ({r} .counts) {t} items′ writes′ stamps", "reply",
         ),
         Call(
             "ask", "client_calls.ask_on", "Asked", "AskReply",
-            [("table", TABLE_MUT), ("counts", COUNTS), ("queue", mut("u32")), ("ticket", U32)],
-            "no_ask", "askParts m counts {t} queue", "askStep {m} ticket", "askParts m ({r} .counts) {t} queue′", "askReply",
+            [("table", TABLE_MUT), ("ticket", U32), ("counts", COUNTS), ("queue", mut("u32"))],
+            "no_ask", "askParts m counts {t} queue", "askStep {m} ticket", "askRow {m} at", "askParts m ({r} .counts) {t} queue′", "askReply",
         ),
         Call(
-            "withdraw", "client_calls.withdraw_on", "Changed", "Reply", [("table", TABLE_MUT), ("counts", COUNTS), ("ticket", U32)],
-            "replied", "withdrawParts m counts {t}", "withdrawStep {m} ticket", "withdrawParts m ({r} .counts) {t}", "reply",
+            "withdraw", "client_calls.withdraw_on", "Changed", "Reply", [("table", TABLE_MUT), ("ticket", U32), ("counts", COUNTS)],
+            "replied", "withdrawParts m counts {t}", "withdrawStep {m} ticket", "withdrawRow {m} at", "withdrawParts m ({r} .counts) {t}", "reply",
         ),
         Call(
             "report", "client_calls.report_on", "ReportReply", "ReportReply", [("table", TABLE), ("turn", TURN), ("counts", COUNTS)],
-            "no_report", "reportParts m {h} counts {t}", "reportStep {m}", "", "reportReply",
+            "no_report", "reportParts m {h} counts {t}", "reportStep {m}", "", "", "reportReply",
         ),
         Call(
             "send", "send_on", "Sent", "u8",
             [("table", TABLE_MUT), ("turn", TURN_MUT), ("counts", COUNTS), ("queue", mut("u32")), ("items", shared("u8")), ("writes", shared("i32")),
              ("outbox", mut("u8")), ("block", mut("u8"))],
-            "", "sendParts m {h} counts {t} queue items writes outbox", "sendStep {m} block", "sendParts m {h} counts {t} queue′ items writes outbox′", "number",
+            "", "sendParts m {h} counts {t} queue items writes outbox", "sendStep {m} block", "", "sendParts m {h} counts {t} queue′ items writes outbox′", "number",
         ),
         Call(
             "deliver", "deliver_on", "u8", "u8",
@@ -148,7 +164,7 @@ CALLS = {
             "work", "work_on", "Worked", "WorkReply",
             [("table", TABLE_MUT), ("turn", TURN_MUT), ("counts", COUNTS), ("queue", mut("u32")), ("items", shared("u8")), ("values", mut("i32")),
              ("stamps", mut("u32")), ("places", mut("u8"))],
-            "no_work", "workParts m {h} counts {t} queue items values stamps places", "workStep {m}",
+            "no_work", "workParts m {h} counts {t} queue items values stamps places", "workStep {m}", "",
             "workParts m {h} ({r} .counts) {t} queue′ items values′ stamps′ places′", "workReply",
         ),
     ]

@@ -36,6 +36,7 @@ class Facts:
         self.call = call
         self.name = call.name.capitalize()
         self.rest = [call.params[i] for i in call.rest]
+        self.passed = [call.params[i] for i in call.passed]
         self.muts = [call.params[i] for i in call.rest if call.is_mut(i)]
         self.changes_table = call.table == TABLE_MUT
         self.moves_turn = call.turn == TURN_MUT
@@ -54,20 +55,21 @@ class Facts:
     # ---- what the call by value says
     def on(self):
         call = self.call
-        first = [("at", "ℕ"), ("t", "Txn")] * (call.by_row is not None) + [("rows", "List Txn")] * call.by_rows
+        first = [("at", "ℕ")] * (call.by_row is not None) + [("t", "Txn")] * call.row_passed + [("rows", "List Txn")] * call.by_rows
         if call.turn_passed:
             first.append(("turn", "Turn"))
-        names = first + [(n, typ(k)) for n, k in self.rest] + [("r", den(call.result))] + [(n + "′", typ(k)) for n, k in self.muts]
+        names = first + [(n, typ(k)) for n, k in self.passed] + [("r", den(call.result))] + [(n + "′", typ(k)) for n, k in self.muts]
         table = "rows" if call.by_rows else "table"
         all_of = "(turn : Turn) → " if call.name == "make" else "(m : Memory) → "
         if call.by_row:
             put = f"(set {table} at (r .row))"
-            where = f"freeRow {table}" if call.by_row == "scan" else f"rowOf ticket {table}"
-            all_of += ("" if call.by_rows else "(table : List Txn) → ") + f"t ≡ rowAt {table} at → at ≡ {where} → "
+            all_of += "(table : List Txn) → t ≡ rowAt table at → " * call.row_passed
         else:
             put = "(r .rows)"
         turn = "(moved (r .change) turn)" if self.moves_turn else "turn"
-        _, outcome = self.step(table, "turn")
+        before, outcome = self.step(table, "turn")
+        if call.by_row:
+            outcome = call.at_row.format(m=f"({before})")
         after = self.after(put if self.changes_table else table, turn, reply_of(call))
         types = " → ".join(t for _, t in names)
         return f"abbrev pub {self.name}On : {types} → Type 0\n{self.name}On {' '.join(n for n, _ in names)} = {all_of}{self.claim(reply_of(call), after, outcome)}\n"
@@ -113,15 +115,15 @@ class Facts:
     def made(self):
         call = self.call
         types, names = self.binder([("r", den(call.result))] + [(n + "′", typ(k)) for n, k in self.muts])
-        rest = [n for n, _ in self.rest] + ["r"] + [n + "′" for n, _ in self.muts]
+        rest = [n for n, _ in self.passed] + ["r"] + [n + "′" for n, _ in self.muts]
         at = "(rowFrom 0 0 table)" if call.by_row == "scan" else "(rowOf ticket table)"
-        on = [at, f"(rowAt table {at})"] * (call.by_row is not None) + ["(loaded table)"] * call.by_rows + ["turn"] * call.turn_passed
+        on = [at] * (call.by_row is not None) + [f"(rowAt table {at})"] * call.row_passed + ["(loaded table)"] * call.by_rows + ["turn"] * call.turn_passed
         on = " ".join(on + rest)
         one = "turn" if call.name == "make" else "m"
         said = f"(rw (loaded-six table six) at said) {one}" if call.by_rows else f"said {one} table"
         rows = ""
         if call.by_row:
-            table, said = f"(set table {at} (r .row))", said + " refl refl"
+            table, said = f"(set table {at} (r .row))", said + " refl" * call.row_passed
         else:
             table = "(stored (r .rows) table)"
             rows = ", stored-six (r .rows) table six" * self.changes_table
@@ -141,26 +143,26 @@ class Facts:
         return "\n".join(parts)
 
 
-WITHDRAWN = """module _ (table : List Txn) (counts : Counts) (ticket : ℕ) (r : Changed) (six : length table ≡ 6) (said : WithdrawOn (rowOf ticket table) (rowAt table (rowOf ticket table)) counts ticket r) where
+WITHDRAWN = """module _ (table : List Txn) (ticket : ℕ) (counts : Counts) (r : Changed) (six : length table ≡ 6) (said : WithdrawOn (rowOf ticket table) (rowAt table (rowOf ticket table)) counts r) where
   module _ (m : Memory) where
     -- the row that is left, by the number
     rows-are : set table (rowOf ticket table) (r .row) ≡ withdrawStep (withdrawParts m counts table) ticket .memory .txns .table
-    rows-are = ap (λ (x : Memory). x .txns .table) (said m table refl refl .1)
+    rows-are = ap (λ (x : Memory). x .txns .table) (said m table refl .1)
 
     numbered : r .reply .number ≡ number (withdrawStep (withdrawParts m counts table) ticket)
-    numbered = ap (λ (x : Reply). x .number) (said m table refl refl .0)
+    numbered = ap (λ (x : Reply). x .number) (said m table refl .0)
 
     put : (table′ : List Txn) → set table (rowOf ticket table) (r .row) ≡ table′
         → (r .reply ≡ reply (called (withdrawParts m counts table) (withdrawStep (withdrawParts m counts table) ticket)))
         × (withdrawParts m (r .reply .counts) table′ ≡ called (withdrawParts m counts table) (withdrawStep (withdrawParts m counts table) ticket) .memory)
     put table′ e =
-        let q = said m table refl refl in
+        let q = said m table refl in
         (rw (called-six (withdrawParts m counts table) (withdrawStep (withdrawParts m counts table) ticket) six) (q .0), rw (called-six (withdrawParts m counts table) (withdrawStep (withdrawParts m counts table) ticket) six) (ap (withdrawParts m (r .reply .counts)) (sym e) ∙ q .1))
 
-  pub withdraw-kept : (r .reply .number ≡ 0 → ⊥) → WithdrawDid table counts ticket (r .reply) table
+  pub withdraw-kept : (r .reply .number ≡ 0 → ⊥) → WithdrawDid table ticket counts (r .reply) table
   withdraw-kept z = λ m. put m table (rows-are m ∙ withdraw-table table m counts ticket .1 (λ e. z (numbered m ∙ e)))
 
-  pub withdraw-ended : r .reply .number ≡ 0 → WithdrawDid table counts ticket (r .reply) (set table (rowOf ticket table) closed)
+  pub withdraw-ended : r .reply .number ≡ 0 → WithdrawDid table ticket counts (r .reply) (set table (rowOf ticket table) closed)
   withdraw-ended z = λ m. put m _ (rows-are m ∙ withdraw-table table m counts ticket .0 (sym (numbered m) ∙ z))
 """
 
@@ -188,7 +190,7 @@ def client():
     types = ["Reply", "BeginReply", "ReadReply", "AskReply", "ReportReply", "Changed", "Begun", "Asked"]
     head = SAYS.format(whose="a client's call says") + USES.format(path="_≡_, refl, sym, ap, _∙_", pos=", pos", lists="set")
     head += "use Rattle.memory.specs.Rows.{closed, rowFrom, rowOf, freeRow, rowAt}\n"
-    head += "use Rattle.engine.specs.Client.{beginStep, readStep, writeStep, askStep, withdrawStep, reportStep}\n"
+    head += "use Rattle.engine.specs.Client.{beginRow, beginStep, readRow, readStep, writeRow, writeStep, askRow, askStep, withdrawRow, withdrawStep, reportStep}\n"
     head += "use Rattle.client.specs.Lent.{beginParts, readParts, writeParts, askParts, withdrawParts, reportParts}\n"
     head += "use Rattle.lent.specs.Table.{loaded}\n"
     head += "use Rattle.calls.specs.Replies.{noReport, number, reply, beginReply, readReply, askReply, reportReply}\n"

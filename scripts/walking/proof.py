@@ -93,13 +93,14 @@ class Proof(Walk):
     def asking(self):
         """What the callees by value are asked."""
         call, text = self.call, ""
-        lead = [(self.found, f"vint w64 {self.found}"), (f"rowAt ys {self.found}", "v₂")] * (call.by_row is not None)
-        lead = lead[:2] + [("loaded ys", "v₅")] * call.by_rows + [("h", "v₃")] * call.turn_passed
+        lead = [(self.found, f"vint w64 {self.found}")] * (call.by_row is not None) + [(f"rowAt ys {self.found}", "v₂")] * call.row_passed
+        lead += [("loaded ys", "v₅")] * call.by_rows + [("h", "v₃")] * call.turn_passed
+        behind = " .1" * call.ticketed  # the ticket is not handed on
         text += f"  abbrev κs₁ : Lfts {len(self.rest_refs)}\n  κs₁ = {self.lifetimes(self.rest_refs)}\n\n"
-        text += f"  abbrev a₁ : Args call.signature κs₁\n  a₁ = {''.join(f'({x}, ' for x, _ in lead)}rest{')' * len(lead)}\n\n"
+        text += f"  abbrev a₁ : Args call.signature κs₁\n  a₁ = {''.join(f'({x}, ' for x, _ in lead)}rest{behind}{')' * len(lead)}\n\n"
         values = [v for _, v in lead if v.startswith("v") and " " not in v]
         text += f"  abbrev to-call : {'Val → ' * len(values)}ByValue 𝓤 H A mem run .Ghost\n"
-        text += f"  to-call {' '.join(values)} = ((κs₁, {self.shares(self.rest_refs)}, tt, a₁, {''.join(f'({v} ∷ [], ' for _, v in lead)}rest-at{')' * len(lead)}), tt)\n\n"
+        text += f"  to-call {' '.join(values)} = ((κs₁, {self.shares(self.rest_refs)}, tt, a₁, {''.join(f'({v} ∷ [], ' for _, v in lead)}rest-at{behind}{')' * len(lead)}), tt)\n\n"
         parts = {  # by the machine value: what it is a value of
             "v₂": ("R", f"(rowAt ys {self.found})", "makes 𝓤 H A"),
             "v₅": ("(Array R 6)", "(loaded ys)", "array-makes 𝓤 H A W R (makes 𝓤 H A) 6"),
@@ -108,7 +109,7 @@ class Proof(Walk):
         asked = [f"{self.found} < 2 ^ 64"] * (call.by_row is not None) + [f"({' '.join(values)} : Val)"] * bool(values)
         asked += [f"Is {parts[v][0]} {parts[v][1]} ({v} ∷ [])" for v in values]
         names = ["fits"] * (call.by_row is not None) + values + [v.replace("v", "is") for v in values]
-        steps = ""
+        steps = "fsplit ! $ drop ! $ " * call.ticketed
         for v in reversed(values):
             row, what, makes = parts[v]
             steps += f"owned ! {row} (Is {row}) ({makes}) {what} ({v} ∷ []) {v.replace('v', 'is')} $ fjoin ! $ "

@@ -25,16 +25,16 @@ class Walk(Names):
     def said(self):
         """What the call by value says, of r and the last values ws."""
         call = self.call
-        lead = [self.found, f"(rowAt ys {self.found})"] * (call.by_row is not None) + ["(loaded ys)"] * call.by_rows + ["h"] * call.turn_passed
-        rest = [self.var(i) for i in call.rest]
+        lead = [self.found] * (call.by_row is not None) + [f"(rowAt ys {self.found})"] * call.row_passed + ["(loaded ys)"] * call.by_rows + ["h"] * call.turn_passed
+        rest = [self.var(i) for i in call.passed]
         return f"{call.name.capitalize()}On {' '.join(lead + rest + ['r'] + [self.last(i) for i in self.muts])}"
 
     @property
     def leading(self):
-        return 2 * (self.call.by_row is not None) + self.call.by_rows + self.call.turn_passed
+        return (self.call.by_row is not None) + self.call.row_passed + self.call.by_rows + self.call.turn_passed
 
     def last(self, i):
-        return "(ws" + " .1" * (self.leading + i - self.call.held) + " .0)"
+        return "(ws" + " .1" * (self.leading + i - self.call.passed[0]) + " .0)"
 
     @property
     def result(self):
@@ -136,7 +136,7 @@ class Walk(Names):
         """The call that does the work: what is left of the parameters is handed on to it."""
         call = self.call
         self.bring(["rest", "toks"])
-        values = ["v₂"] * (call.by_row is not None) + ["v₅"] * call.by_rows + ["v₃"] * call.turn_passed
+        values = ["v₂"] * call.row_passed + ["v₅"] * call.by_rows + ["v₃"] * call.turn_passed
         facts = [v.replace("v", "is") for v in values]
         to = f"(to-call {' '.join(values)})"
         fits = ["(is₁ .1)"] * (call.by_row is not None)
@@ -145,7 +145,7 @@ class Walk(Names):
         self.say(f"calls-at ! fm (ByValue 𝓤 H A mem run) known-call {to} {self.operands(operands, len(self.front) - 1)} (λ u.", 1)
         res = "ℕ" if call.result == "u8" else call.result
         self.say(f"use1 W (later (some (λ (r : {res}). (Toks ⊛ ‵ ({self.result} .own r (u ∷ []))) ⊛ some (λ (ws : Lasts call.ended κs₁ a₁). ‵ (lasts call.ended κs₁ a₁ ws) ⊛ raw (fact 𝓤 ({self.said()})))))) (id⊢ 𝓤 _) $ await ! tt $ pick ! (λ r. split ! $ move ! (1 ∷ []) $ pick ! (λ ws.", 2)
-        drops = "fsplit ! $ drop ! $ " * self.leading
+        drops = "fsplit ! $ drop ! $ " * self.leading + "nothing ! $ fjoin ! $ " * call.ticketed  # of the ticket nothing is said
         self.say(f"split ! $ move ! (1 ∷ []) $ heard ! ({self.said()}) (λ said. {drops}move ! (1 ∷ []) $ split ! $ move ! (1 ∷ []) $", 1)
         self.say(f"peeks ! {self.result} (Is {self.result}) (shows 𝓤 H A {self.result}) r (u ∷ []) (λ is. drop ! $", 1)
         self.front = ["toks", "rest"] + self.front[2:]
@@ -224,7 +224,7 @@ class Walk(Names):
             self.wrong_table(statement[2])
         else:
             self.assign(0, statement[2][1][2])
-            self.leave(self.end("ys", "(withdraw-kept ys counts ticket r six said (unequal (r .reply .number) 0 refused))", "refl") + ")", "returns-within ! Post refl")
+            self.leave(self.end("ys", "(withdraw-kept ys ticket counts r six said (unequal (r .reply .number) 0 refused))", "refl") + ")", "returns-within ! Post refl")
         self.full, self.front = kept
         self.say("(λ six₀. let six = equal (length ys) 6 six₀ in" if first else "(λ taken.", 1)
 
@@ -240,7 +240,7 @@ class Walk(Names):
             return self.end("", "said", "")
         if call.name == "withdraw":
             gone = f"(set ys {self.found} closed)"
-            return self.end(gone, "(withdraw-ended ys counts ticket r six said (equal (r .reply .number) 0 taken))", f"(length-set ys {self.found} closed)")
+            return self.end(gone, "(withdraw-ended ys ticket counts r six said (equal (r .reply .number) 0 taken))", f"(length-set ys {self.found} closed)")
         args = ["ys"] + ["h"] * (call.turn is not None) + [self.var(i) for i in call.rest] + ["r"] + [self.last(i) for i in self.muts]
         did = f"({call.name}-did {' '.join(args)} six said)"
         if call.result in ("Made", "Sent", "Worked"):

@@ -11,7 +11,7 @@ use borrow.Author.Tests.{eqb-true, eqb-false, eq-eqb, ne-eqb}
 use Rattle.memory.specs.declared.Txn.{Txn}
 use Rattle.memory.specs.Memory.{Memory, bump, withReadOnly, withTable}
 use Rattle.memory.specs.Rows.{closed, writeCount, indexOf}
-use Rattle.engine.specs.Client.{rowNo, rowWith, askRefusal, readOnlyAt, queueAt}
+use Rattle.engine.specs.Client.{rowNo, rowIn, askRefusal, readOnlyAt, queueAt}
 use Rattle.engine.specs.Moves.{waiting}
 use Rattle.engine.specs.Step.{step}
 use Rattle.engine.specs.Step.Call.{ask}
@@ -52,12 +52,12 @@ module _ (n : ℕ) (start : List ℤ) (m : Memory) (s : Sound n m) (t : ℕ) whe
     found : FoundRow t (m .txns .table)
     found = row-found t (m .txns .table) (s .shape .lengths .table) (p .row)
 
-    ended-owes : writeCount (rowWith m t) ≡ 0 → Owed n start m (ask t) (readOnlyAt m r)
+    ended-owes : writeCount (rowIn m (rowNo m t)) ≡ 0 → Owed n start m (ask t) (readOnlyAt m r)
     unfolding readOnlyAt heard Rattle.protocol.specs.System.step txnOf isEmpty
     ended-owes e =
         client-owes n start m (ask t) (ended (view m .transactions) t (requested t)) (readOnlyAt m r)
         (withReadOnly (m .counts) (bump (m .counts .«read_only»))) (withTable (m .txns) (set (m .txns .table) r closed))
-        (rw (model-ends (view m .transactions) t _ (find-row m (s .shape) t (p .row)) (p .active) (ap isEmpty (no-writes r (rowWith m t) (m .txns .items) (m .txns .writes) e))))
+        (rw (model-ends (view m .transactions) t _ (find-row m (s .shape) t (p .row)) (p .active) (ap isEmpty (no-writes r (rowIn m (rowNo m t)) (m .txns .items) (m .txns .writes) e))))
         refl refl
         (record {
           own = refl;
@@ -69,12 +69,12 @@ module _ (n : ℕ) (start : List ℤ) (m : Memory) (s : Sound n m) (t : ℕ) whe
         })
 
     abbrev row : Txn
-    row = record { ticket = rowWith m t .ticket; stage = 1; snapshot = rowWith m t .snapshot; writes = rowWith m t .writes }
+    row = record { ticket = rowIn m (rowNo m t) .ticket; stage = 1; snapshot = rowIn m (rowNo m t) .snapshot; writes = rowIn m (rowNo m t) .writes }
 
     abbrev y : Rattle.memory.specs.Memory.Transactions
     y = record {
       table = set (m .txns .table) r row;
-      queue = set (m .txns .queue) (indexOf 0 (m .txns .queue)) (rowWith m t .ticket);
+      queue = set (m .txns .queue) (indexOf 0 (m .txns .queue)) (rowIn m (rowNo m t) .ticket);
       items = m .txns .items;
       writes = m .txns .writes;
       snapshots = m .txns .snapshots;
@@ -88,17 +88,17 @@ module _ (n : ℕ) (start : List ℤ) (m : Memory) (s : Sound n m) (t : ℕ) whe
           table = refl;
           live = found .live;
           ticket = refl;
-          here = rw (eq-eqb (rowWith m t .ticket) t (found .is));
+          here = rw (eq-eqb (rowIn m (rowNo m t) .ticket) t (found .is));
           beside = λ k h d. refl;
           others = λ u d. rw (ne-eqb (u .ticket) t (λ e. d (e ∙ sym (found .is))));
         })
 
-    joined-owes : (writeCount (rowWith m t) ≡ 0 → ⊥) → Owed n start m (ask t) (queueAt m r (rowWith m t))
+    joined-owes : (writeCount (rowIn m (rowNo m t)) ≡ 0 → ⊥) → Owed n start m (ask t) (queueAt m r (rowIn m (rowNo m t)))
     unfolding queueAt heard Rattle.protocol.specs.System.step txnOf
     joined-owes z =
-        client-owes n start m (ask t) (joined (view m .transactions) t) (queueAt m r (rowWith m t)) (m .counts) y
+        client-owes n start m (ask t) (joined (view m .transactions) t) (queueAt m r (rowIn m (rowNo m t))) (m .counts) y
         (rw (model-joins (view m .transactions) t _ (find-row m (s .shape) t (p .row)) (p .active)
-        (some-writes r (rowWith m t) (m .txns .items) (m .txns .writes) (p .row) (s .shape .lengths .items) (s .shape .lengths .writes) z)))
+        (some-writes r (rowIn m (rowNo m t)) (m .txns .items) (m .txns .writes) (p .row) (s .shape .lengths .items) (s .shape .lengths .writes) z)))
         refl refl
         (record {
           own = refl;
@@ -110,10 +110,10 @@ module _ (n : ℕ) (start : List ℤ) (m : Memory) (s : Sound n m) (t : ℕ) whe
         })
 
   pub ask-owes : Owed n start m (ask t) (step m (ask t))
-  unfolding step Rattle.engine.specs.Client.askStep askRefusal
+  unfolding step Rattle.engine.specs.Client.askRow askRefusal
   ask-owes =
-      let w = writeCount (rowWith m t) in
-      unless-by (Owed n start m (ask t)) (askRefusal m t) m
+      let w = writeCount (rowIn m (rowNo m t)) in
+      unless-by (Owed n start m (ask t)) (askRefusal m (rowNo m t)) m
       (λ e. let p = ask-passed m t e in
       cond-by (Owed n start m (ask t)) (eqb w 0) (λ z. ended-owes p (eqb-true w 0 z)) (λ z. joined-owes p (eqb-false w 0 z)))
-      (λ e. refused-owes n start m (ask t) (askRefusal m t) (not-first 9 _ refl))
+      (λ e. refused-owes n start m (ask t) (askRefusal m (rowNo m t)) (not-first 9 _ refl))

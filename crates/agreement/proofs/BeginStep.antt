@@ -11,7 +11,7 @@ use borrow.Author.Tests.{lt-leb}
 use Rattle.memory.specs.declared.Txn.{Txn}
 use Rattle.memory.specs.Memory.{Memory, withTickets}
 use Rattle.memory.specs.Rows.{isOpen, openCount, freeRow, rowAt}
-use Rattle.engine.specs.Client.{beginRefusal, beginAt}
+use Rattle.engine.specs.Client.{freeNo, beginRefusal, beginAt}
 use Rattle.engine.specs.Step.{step}
 use Rattle.engine.specs.Step.Call.{begin}
 use Rattle.engine.proofs.Tests.{cond-by, less-by, not-first}
@@ -118,4 +118,4 @@ module _ (n : ℕ) (start : List ℤ) (m : Memory) (s : Sound n m) where
   unfolding beginRefusal
   begin-owes =
       begin-by (Owed n start m begin) m (λ e. begun-owes (begin-passed m e))
-      (λ e. refused-owes n start m begin (beginRefusal m) (not-first 9 _ refl))
+      (λ e. refused-owes n start m begin (beginRefusal m (freeNo m)) (not-first 9 _ refl))

@@ -10,7 +10,7 @@ use borrow.Author.Tests.{eq-eqb, lt-leb, leb-false}
 use Rattle.block.proofs.ListLaws.{getD-slice}
 use Rattle.memory.specs.Memory.{Memory}
 use Rattle.engine.specs.Calls.{outcome}
-use Rattle.engine.specs.Client.{rowNo, rowWith, readRefusal, valueFor}
+use Rattle.engine.specs.Client.{rowNo, rowIn, readRefusal, valueFor}
 use Rattle.engine.specs.Step.{step}
 use Rattle.engine.specs.Step.Call.{read}
 use Rattle.engine.proofs.Tests.{not-first, passes}
@@ -38,7 +38,7 @@ record ReadPassed (m : Memory) (t i : ℕ) : Type 0 where
   item : i < 128
   own : RowPassed m t
 
-read-passed : (m : Memory) (t i : ℕ) → readRefusal m t i ≡ 0 → ReadPassed m t i
+read-passed : (m : Memory) (t i : ℕ) → readRefusal m (rowNo m t) i ≡ 0 → ReadPassed m t i
 unfolding readRefusal
 read-passed m t i e =
     let a = passes _ _ refl e in
@@ -48,21 +48,21 @@ read-passed m t i e =
 
 module _ (n : ℕ) (start : List ℤ) (m : Memory) (s : Sound n m) (t i : ℕ) where
   module _ (p : ReadPassed m t i) where
-    value-seen : valueFor m t i ≡ seen (txnOf (m .txns) (rowNo m t) (rowWith m t)) i
+    value-seen : valueFor m (rowNo m t) i ≡ seen (txnOf (m .txns) (rowNo m t) (rowIn m (rowNo m t))) i
     unfolding valueFor txnOf
     value-seen =
         let r = rowNo m t in
         rw (getD-slice (m .txns .snapshots) (pos 0) (128 * r) (128 * r + 128) i (128 * r + i) refl (omega (arith, p .item)))
-        (sym (writes-say r (rowWith m t) (m .txns .items) (m .txns .writes) (p .own .row) (s .shape .lengths .items) (s .shape .lengths .writes) i
+        (sym (writes-say r (rowIn m (rowNo m t)) (m .txns .items) (m .txns .writes) (p .own .row) (s .shape .lengths .items) (s .shape .lengths .writes) i
         (getD (m .txns .snapshots) (128 * r + i) (pos 0))))
 
-    model : readStep (setup n start) (view m .transactions) t i ≡ answered (view m .transactions) (got t i (valueFor m t i))
+    model : readStep (setup n start) (view m .transactions) t i ≡ answered (view m .transactions) (got t i (valueFor m (rowNo m t) i))
     unfolding txnOf
     model =
         model-reads n start (view m .transactions) t i _ (p .item) (find-row m (s .shape) t (p .own .row)) (p .own .active)
         ∙ ap (λ (v : ℤ). answered (view m .transactions) (got t i v)) (sym value-seen)
 
-    got-owes : Owed n start m (read t i) (outcome (Rattle.engine.specs.Calls.Answer.got (valueFor m t i)) m)
+    got-owes : Owed n start m (read t i) (outcome (Rattle.engine.specs.Calls.Answer.got (valueFor m (rowNo m t) i)) m)
     unfolding heard Rattle.protocol.specs.System.step
     got-owes = follows (rw model) (rw model (alike-same (view m)))
 
@@ -70,4 +70,4 @@ module _ (n : ℕ) (start : List ℤ) (m : Memory) (s : Sound n m) (t i : ℕ) w
   unfolding readRefusal
   read-owes =
       read-by (Owed n start m (read t i)) m t i (λ e. got-owes (read-passed m t i e))
-      (λ e. refused-owes n start m (read t i) (readRefusal m t i) (not-first 9 _ refl))
+      (λ e. refused-owes n start m (read t i) (readRefusal m (rowNo m t) i) (not-first 9 _ refl))

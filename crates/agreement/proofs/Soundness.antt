@@ -14,7 +14,7 @@ use Rattle.memory.specs.Rows.{writeCount, itemsOf, countBelow, insertAt}
 use Rattle.memory.specs.Turns.{markApplying, advance}
 use Rattle.engine.specs.Calls.{Outcome}
 use Rattle.engine.specs.Make.{madeMemory}
-use Rattle.engine.specs.Client.{rowNo, rowWith, beginAt, rewriteAt, insertWrite, staleAt, readOnlyAt, queueAt, withdrawAt, reportStep}
+use Rattle.engine.specs.Client.{rowNo, rowIn, beginAt, rewriteAt, insertWrite, staleAt, readOnlyAt, queueAt, withdrawAt, reportStep}
 use Rattle.engine.specs.Moves.{sendRefusal, sendNow, deliverNow, passNext, isLast, commitWriteset}
 use Rattle.engine.specs.Step.{Call, step}
 use Rattle.engine.specs.Step.Call.{begin, read, write, ask, withdraw, report, send, deliver, work}
@@ -133,7 +133,7 @@ rest-each n m s begin e = begin-by (Rests n m s) m (λ p. begin-rests n m s _) (
 rest-each n m s (read t i) e = read-by (Rests n m s) m t i (λ p. s) (λ p. s)
 rest-each n m s (write t i v) e =
     write-by (Rests n m s) m t i v (λ p. stale-rests n m s _) (λ p o. rewrite-rests n m s _ _ v e)
-    (λ p o. let w = write-passed m t i p in insert-rests n m s (rowNo m t) i (rowWith m t) v (w .own .row) (w .items) (w .writes) (w .room o) e) (λ p q. s)
+    (λ p o. let w = write-passed m t i p in insert-rests n m s (rowNo m t) i (rowIn m (rowNo m t)) v (w .own .row) (w .items) (w .writes) (w .room o) e) (λ p q. s)
 rest-each n m s (ask t) e = ask-by (Rests n m s) m t (λ p. read-only-rests n m s _) (λ p o. queue-rests n m s _ _) (λ p. s)
 rest-each n m s (withdraw t) e = withdraw-by (Rests n m s) m t (λ p. withdraw-rests n m s _) (λ p. s)
 rest-each n m s report e = unfold step reportStep in s

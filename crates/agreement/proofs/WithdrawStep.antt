@@ -51,7 +51,7 @@ module _ (n : ℕ) (start : List ℤ) (m : Memory) (s : Sound n m) where
   unfolding withdrawRefusal
   withdraw-owes t =
       withdraw-by (Owed n start m (withdraw t)) m t (λ e. withdrawn-owes t (withdraw-passed m t e))
-      (λ e. refused-owes n start m (withdraw t) (withdrawRefusal m t) (not-first 9 _ refl))
+      (λ e. refused-owes n start m (withdraw t) (withdrawRefusal m (rowNo m t)) (not-first 9 _ refl))
 
   -- ---- report
 

@@ -19,7 +19,7 @@ use Rattle.memory.specs.Memory.{Transactions, Memory, withAborted, withTable, w
 use Rattle.memory.specs.Rows.{closed, rowAt, writeCount, itemsOf, indexOf, countBelow, insertAt}
 use Rattle.engine.specs.Calls.{Answer, outcome}
 use Rattle.engine.specs.Calls.Answer.{wrote, refused}
-use Rattle.engine.specs.Client.{rowNo, rowWith, ownIndex, isOwn, isApplying, heldByOther, isStale, isFull, writeRefusal, rewriteAt, insertWrite, staleAt}
+use Rattle.engine.specs.Client.{rowNo, rowIn, ownIndex, isOwn, isApplying, heldByOther, isStale, isFull, writeRefusal, rewriteAt, insertWrite, staleAt}
 use Rattle.engine.specs.Moves.{waiting}
 use Rattle.engine.specs.Shape.{Shape}
 use Rattle.engine.specs.Step.{step}
@@ -87,11 +87,11 @@ last-none false false false e = (refl, refl, refl)
 record Reached (m : Memory) (t i n : ℕ) : Type 0 where
   item : i < 128
   row : rowNo m t < 6
-  active : rowWith m t .stage ≡ 0
+  active : rowIn m (rowNo m t) .stage ≡ 0
   applying : isApplying m ≡ false
-  rest : lastThree (isOwn m t i) (heldByOther m t i) (isStale m t i) (isFull m t) ≡ n
+  rest : lastThree (isOwn m (rowNo m t) i) (heldByOther m (rowNo m t) i) (isStale m (rowNo m t) i) (isFull m (rowNo m t)) ≡ n
 
-reached : (m : Memory) (t i n : ℕ) → ((j : ℕ) → j < 7 → j + 1 ≡ n → ⊥) → writeRefusal m t i ≡ n → Reached m t i n
+reached : (m : Memory) (t i n : ℕ) → ((j : ℕ) → j < 7 → j + 1 ≡ n → ⊥) → writeRefusal m (rowNo m t) i ≡ n → Reached m t i n
 unfolding writeRefusal
 reached m t i n far e =
     let a = passes _ _ (ne-eqb 1 n (far 0 (omega arith))) e in
@@ -102,7 +102,7 @@ reached m t i n far e =
     record {
       item = leb-false 128 i (b .0);
       row = leb-false 6 (rowNo m t) (c .0);
-      active = eqb-true (rowWith m t .stage) 0 (not-false _ (d .0));
+      active = eqb-true (rowIn m (rowNo m t) .stage) 0 (not-false _ (d .0));
       applying = f .0;
       rest = f .1;
     }
@@ -157,7 +157,7 @@ module _ (m : Memory) (S : Shape m) where
     has-found i = has-row i ∙ sym (index-has i (items m k) 0) ∙ rw (zero-add, items-long)
 
   -- no other open transaction has the item
-  unheld : (t i : ℕ) → rowNo m t < 6 → heldByOther m t i ≡ false → any (λ o. not (eqb (o .ticket) t) && has i (o .writes)) (openTxns x) ≡ false
+  unheld : (t i : ℕ) → rowNo m t < 6 → heldByOther m (rowNo m t) i ≡ false → any (λ o. not (eqb (o .ticket) t) && has i (o .writes)) (openTxns x) ≡ false
   unheld t i h e = bool-by (any (λ o. not (eqb (o .ticket) t) && has i (o .writes)) (openTxns x)) other (λ q. q)
     where
       other : any (λ o. not (eqb (o .ticket) t) && has i (o .writes)) (openTxns x) ≡ true
@@ -205,9 +205,9 @@ module _ (m : Memory) (S : Shape m) (t i : ℕ) (v : ℤ) (h : rowNo m t < 6) wh
 
   -- ---- an item written again
 
-  module _ (own : ownIndex m t i < writeCount (rowWith m t)) where
+  module _ (own : ownIndex m (rowNo m t) i < writeCount (rowIn m (rowNo m t))) where
     abbrev k : ℕ
-    k = ownIndex m t i
+    k = ownIndex m (rowNo m t) i
 
     abbrev rewritten : Transactions
     rewritten = record {
@@ -218,7 +218,7 @@ module _ (m : Memory) (S : Shape m) (t i : ℕ) (v : ℤ) (h : rowNo m t < 6) wh
       snapshots = m .txns .snapshots;
     }
 
-    inside : ownIndex m t i < length (itemsOf (rowNo m t) (rowWith m t) (m .txns .items))
+    inside : ownIndex m (rowNo m t) i < length (itemsOf (rowNo m t) (rowIn m (rowNo m t)) (m .txns .items))
     inside = omega (arith, own, items-long m S r h)
 
     is-own : getD (items m r) k 0 ≡ i
@@ -245,7 +245,7 @@ module _ (m : Memory) (S : Shape m) (t i : ℕ) (v : ℤ) (h : rowNo m t < 6) wh
 
   -- ---- a new item
 
-  module _ (none : writeCount (rowWith m t) ≤ ownIndex m t i) (room : writeCount (rowWith m t) < 8) where
+  module _ (none : writeCount (rowIn m (rowNo m t)) ≤ ownIndex m (rowNo m t) i) (room : writeCount (rowIn m (rowNo m t)) < 8) where
     abbrev n : ℕ
     n = writeCount (row m r)
 
@@ -264,7 +264,7 @@ module _ (m : Memory) (S : Shape m) (t i : ℕ) (v : ℤ) (h : rowNo m t < 6) wh
       snapshots = m .txns .snapshots;
     }
 
-    fits : countBelow i (itemsOf (rowNo m t) (rowWith m t) (m .txns .items)) 0 ≤ writeCount (rowWith m t)
+    fits : countBelow i (itemsOf (rowNo m t) (rowIn m (rowNo m t)) (m .txns .items)) 0 ≤ writeCount (rowIn m (rowNo m t))
     fits = omega (arith, below i (items m r) .fits, items-long m S r h)
 
     counted : writeCount longer ≡ n + 1
@@ -307,7 +307,7 @@ module _ (n : ℕ) (start : List ℤ) (m : Memory) (S : Shape m) (t i : ℕ) (v 
   abbrev own : ℕ
   own = rowNo m t
 
-  stale-owes : writeRefusal m t i ≡ 9 → Owed n start m (write t i v) (staleAt m (rowNo m t))
+  stale-owes : writeRefusal m (rowNo m t) i ≡ 9 → Owed n start m (write t i v) (staleAt m (rowNo m t))
   unfolding txnOf heard staleAt
   stale-owes e =
       let q = reached m t i 9 (λ j u. omega arith) e in
@@ -319,24 +319,24 @@ module _ (n : ℕ) (start : List ℤ) (m : Memory) (S : Shape m) (t i : ℕ) (v 
       (has-found m S own (q .row) i ∙ p .0) (unheld m S t i (q .row) (p .1)) (p .2)))
       refl refl (row-closed m S own (q .row) (f .live) t (f .is))
 
-  again-owes : writeRefusal m t i ≡ 0 → isOwn m t i ≡ true → Owed n start m (write t i v) (rewriteAt m (rowNo m t) (ownIndex m t i) v)
+  again-owes : writeRefusal m (rowNo m t) i ≡ 0 → isOwn m (rowNo m t) i ≡ true → Owed n start m (write t i v) (rewriteAt m (rowNo m t) (ownIndex m (rowNo m t) i) v)
   unfolding txnOf heard rewriteAt
   again-owes e o =
       let q = reached m t i 0 (λ j u. omega arith) e in
-      let w = ltb-true (ownIndex m t i) (writeCount (rowWith m t)) o in
+      let w = ltb-true (ownIndex m (rowNo m t) i) (writeCount (rowIn m (rowNo m t))) o in
       owes-by n start m t i v wrote (rewritten m S t i v (q .row) w) (m .counts .aborted) (map (withWrite t i v) (openTxns (m .txns))) (Event.wrote t i v)
       (rw (q .applying)
       (model-again (setup n start) (storeOf m) (view m .transactions) t i v (txnOf (m .txns) own (row m own)) (q .item) (find-row m S t (q .row)) (q .active)
       (has-found m S own (q .row) i ∙ o)))
       refl refl (row-changed m S own (q .row) (rewritten m S t i v (q .row) w) (row m own) (withWrite t i v) (again m S t i v (q .row) w))
 
-  new-owes : writeRefusal m t i ≡ 0 → isOwn m t i ≡ false → Owed n start m (write t i v) (insertWrite m (rowNo m t) (rowWith m t) i v)
+  new-owes : writeRefusal m (rowNo m t) i ≡ 0 → isOwn m (rowNo m t) i ≡ false → Owed n start m (write t i v) (insertWrite m (rowNo m t) (rowIn m (rowNo m t)) i v)
   unfolding txnOf heard insertWrite
   new-owes e o =
       let q = reached m t i 0 (λ j u. omega arith) e in
-      let p = last-none (heldByOther m t i) (isStale m t i) (isFull m t) (rw o at (q .rest)) in
-      let a = ltb-false (ownIndex m t i) (writeCount (rowWith m t)) o in
-      let b : writeCount (rowWith m t) < 8 = omega (arith, eqb-false (writeCount (rowWith m t)) 8 (p .2)) in
+      let p = last-none (heldByOther m (rowNo m t) i) (isStale m (rowNo m t) i) (isFull m (rowNo m t)) (rw o at (q .rest)) in
+      let a = ltb-false (ownIndex m (rowNo m t) i) (writeCount (rowIn m (rowNo m t))) o in
+      let b : writeCount (rowIn m (rowNo m t)) < 8 = omega (arith, eqb-false (writeCount (rowIn m (rowNo m t))) 8 (p .2)) in
       owes-by n start m t i v wrote (grown m S t i v (q .row) a b) (m .counts .aborted) (map (withWrite t i v) (openTxns (m .txns))) (Event.wrote t i v)
       (rw (q .applying)
       (model-new (setup n start) (storeOf m) (view m .transactions) t i v (txnOf (m .txns) own (row m own)) (q .item) (find-row m S t (q .row)) (q .active)
@@ -346,4 +346,4 @@ module _ (n : ℕ) (start : List ℤ) (m : Memory) (S : Shape m) (t i : ℕ) (v 
 pub write-owes : (n : ℕ) (start : List ℤ) (m : Memory) → Sound n m → (t i : ℕ) (v : ℤ) → Owed n start m (write t i v) (step m (write t i v))
 write-owes n start m s t i v =
     write-by (Owed n start m (write t i v)) m t i v (stale-owes n start m (s .shape) t i v) (again-owes n start m (s .shape) t i v) (new-owes n start m (s .shape) t i v)
-    (λ k e. refused-owes n start m (write t i v) (writeRefusal m t i) k)
+    (λ k e. refused-owes n start m (write t i v) (writeRefusal m (rowNo m t) i) k)

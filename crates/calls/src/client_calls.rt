@@ -1,12 +1,12 @@
-// What a client may do, at the row of its transaction: `at` is the row of the ticket, 6 where there is none, and `t` its record. Each contract holds of every table that has
-// the row.
+// What a client may do, at a row: `at` is any number, and `t` the record that the table has there. Each contract is the engine's step at that row, on every memory that has
+// the parts lent, with the reply in numbers.
 ghost use mathlib.Core.Path.{_≡_};
 ghost use mathlib.Core.List.{List};
 ghost use lib.ListN.{set};
 ghost use Rattle.memory.specs.declared.Txn.{Txn};
 ghost use Rattle.memory.specs.Memory.{Memory};
-ghost use Rattle.memory.specs.Rows.{freeRow, rowOf, rowAt};
-ghost use Rattle.engine.specs.Client.{beginStep, readStep, writeStep, askStep, withdrawStep, reportStep};
+ghost use Rattle.memory.specs.Rows.{rowAt};
+ghost use Rattle.engine.specs.Client.{beginRow, readRow, writeRow, askRow, withdrawRow, reportStep};
 ghost use Rattle.client.specs.Lent.{beginParts, readParts, writeParts, askParts, withdrawParts, reportParts};
 ghost use Rattle.calls.specs.Replies.{plainNumber, reply, beginReply, readReply, askReply, reportReply};
 use super::AskReply;
@@ -24,18 +24,18 @@ use client::Answered;
 use client::AskAnswer;
 use client::BeginAnswer;
 use client::ReadAnswer;
-use client::calls::report;
+use client::report;
 use client::rows::ask_row;
 use client::rows::begin_row;
 use client::rows::read_row;
 use client::rows::withdraw_row;
-use client::rows::write_row;
 use memory::Counts;
 use memory::Turn;
 use memory::Txn;
+use writing::write_row;
 
 pub fn begin_on(at: usize, t: Txn, counts: Counts, values: &[i32], snapshots: &mut [i32]) -> Begun
-    ensures { λ r. ⌜ ((m : Memory) (table : List Txn) → t ≡ rowAt table at → at ≡ freeRow table → (r .reply ≡ beginReply (beginStep (beginParts m table counts (now (values .entry)) (now (snapshots .entry))))) × (beginParts m (set table at (r .row)) (r .reply .counts) (now (values .entry)) (now (snapshots .exit)) ≡ beginStep (beginParts m table counts (now (values .entry)) (now (snapshots .entry))) .memory)) ⌝ }
+    ensures { λ r. ⌜ ((m : Memory) (table : List Txn) → t ≡ rowAt table at → (r .reply ≡ beginReply (beginRow (beginParts m table counts (now (values .entry)) (now (snapshots .entry))) at)) × (beginParts m (set table at (r .row)) (r .reply .counts) (now (values .entry)) (now (snapshots .exit)) ≡ beginRow (beginParts m table counts (now (values .entry)) (now (snapshots .entry))) at .memory)) ⌝ }
 {
     let done = begin_row(at, t, counts, values, &mut *snapshots);
     let row = done.row;
@@ -63,10 +63,9 @@ pub fn read_on(
     items: &[u8],
     writes: &[i32],
     snapshots: &[i32],
-    ticket: u32,
     item: u32,
 ) -> ReadReply
-    ensures { λ r. ⌜ ((m : Memory) (table : List Txn) → t ≡ rowAt table at → at ≡ rowOf ticket table → (r ≡ readReply (readStep (readParts m table (now (items .entry)) (now (writes .entry)) (now (snapshots .entry))) ticket item)) × (readParts m table (now (items .entry)) (now (writes .entry)) (now (snapshots .entry)) ≡ readStep (readParts m table (now (items .entry)) (now (writes .entry)) (now (snapshots .entry))) ticket item .memory)) ⌝ }
+    ensures { λ r. ⌜ ((m : Memory) (table : List Txn) → t ≡ rowAt table at → (r ≡ readReply (readRow (readParts m table (now (items .entry)) (now (writes .entry)) (now (snapshots .entry))) at item)) × (readParts m table (now (items .entry)) (now (writes .entry)) (now (snapshots .entry)) ≡ readRow (readParts m table (now (items .entry)) (now (writes .entry)) (now (snapshots .entry))) at item .memory)) ⌝ }
 {
     let answer = read_row(at, t, items, writes, snapshots, item);
     match answer {
@@ -87,26 +86,23 @@ fn number_of(answer: Answered) -> u8
     }
 }
 
-// The table's rows are for the locks of others.
+// The rows are for the record and for the locks of others.
 pub fn write_on(
     at: usize,
-    t: Txn,
     rows: [Txn; 6],
     turn: Turn,
     counts: Counts,
     items: &mut [u8],
     writes: &mut [i32],
     stamps: &[u32],
-    ticket: u32,
     item: u32,
     value: i32,
 ) -> Changed
-    ensures { λ r. ⌜ ((m : Memory) → t ≡ rowAt rows at → at ≡ rowOf ticket rows → (r .reply ≡ reply (writeStep (writeParts m turn counts rows (now (items .entry)) (now (writes .entry)) (now (stamps .entry))) ticket item value)) × (writeParts m turn (r .reply .counts) (set rows at (r .row)) (now (items .exit)) (now (writes .exit)) (now (stamps .entry)) ≡ writeStep (writeParts m turn counts rows (now (items .entry)) (now (writes .entry)) (now (stamps .entry))) ticket item value .memory)) ⌝ }
+    ensures { λ r. ⌜ ((m : Memory) → (r .reply ≡ reply (writeRow (writeParts m turn counts rows (now (items .entry)) (now (writes .entry)) (now (stamps .entry))) at item value)) × (writeParts m turn (r .reply .counts) (set rows at (r .row)) (now (items .exit)) (now (writes .exit)) (now (stamps .entry)) ≡ writeRow (writeParts m turn counts rows (now (items .entry)) (now (writes .entry)) (now (stamps .entry))) at item value .memory)) ⌝ }
 {
     let done = write_row(
         rows,
         at,
-        t,
         turn,
         counts,
         &mut *items,
@@ -125,8 +121,8 @@ pub fn write_on(
     }
 }
 
-pub fn ask_on(at: usize, t: Txn, counts: Counts, queue: &mut [u32], ticket: u32) -> Asked
-    ensures { λ r. ⌜ ((m : Memory) (table : List Txn) → t ≡ rowAt table at → at ≡ rowOf ticket table → (r .reply ≡ askReply (askStep (askParts m counts table (now (queue .entry))) ticket)) × (askParts m (r .reply .counts) (set table at (r .row)) (now (queue .exit)) ≡ askStep (askParts m counts table (now (queue .entry))) ticket .memory)) ⌝ }
+pub fn ask_on(at: usize, t: Txn, counts: Counts, queue: &mut [u32]) -> Asked
+    ensures { λ r. ⌜ ((m : Memory) (table : List Txn) → t ≡ rowAt table at → (r .reply ≡ askReply (askRow (askParts m counts table (now (queue .entry))) at)) × (askParts m (r .reply .counts) (set table at (r .row)) (now (queue .exit)) ≡ askRow (askParts m counts table (now (queue .entry))) at .memory)) ⌝ }
 {
     let done = ask_row(at, t, counts, &mut *queue);
     let row = done.row;
@@ -156,8 +152,8 @@ pub fn ask_on(at: usize, t: Txn, counts: Counts, queue: &mut [u32], ticket: u32)
     }
 }
 
-pub fn withdraw_on(at: usize, t: Txn, counts: Counts, ticket: u32) -> Changed
-    ensures { λ r. ⌜ ((m : Memory) (table : List Txn) → t ≡ rowAt table at → at ≡ rowOf ticket table → (r .reply ≡ reply (withdrawStep (withdrawParts m counts table) ticket)) × (withdrawParts m (r .reply .counts) (set table at (r .row)) ≡ withdrawStep (withdrawParts m counts table) ticket .memory)) ⌝ }
+pub fn withdraw_on(at: usize, t: Txn, counts: Counts) -> Changed
+    ensures { λ r. ⌜ ((m : Memory) (table : List Txn) → t ≡ rowAt table at → (r .reply ≡ reply (withdrawRow (withdrawParts m counts table) at)) × (withdrawParts m (r .reply .counts) (set table at (r .row)) ≡ withdrawRow (withdrawParts m counts table) at .memory)) ⌝ }
 {
     let done = withdraw_row(at, t, counts);
     let row = done.row;

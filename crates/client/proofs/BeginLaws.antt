@@ -11,31 +11,30 @@ use lib.Seq.{paste, length-take-le}
 use Rattle.block.specs.Answers.{firstOf}
 use Rattle.block.proofs.ListLaws.{lent}
 use Rattle.memory.specs.Memory.{Memory, withTickets, withTxns}
-use Rattle.memory.specs.Rows.{freeRow}
 use Rattle.memory.proofs.RowLaws.{paste-back}
 use Rattle.engine.specs.Calls.{outcome}
 use Rattle.engine.specs.Calls.Answer.{refused, began}
-use Rattle.engine.specs.Client.{beginRefusal, beginAt, beginStep}
+use Rattle.engine.specs.Client.{beginRefusal, beginAt, beginRow}
 
-module _ (m : Memory) where
-  pub begin-values : (length (m .store .values) ≡ 128 → ⊥) → outcome (refused 1) m ≡ beginStep m
-  unfolding beginStep beginRefusal firstOf
+module _ (m : Memory) (r : ℕ) where
+  pub begin-values : (length (m .store .values) ≡ 128 → ⊥) → outcome (refused 1) m ≡ beginRow m r
+  unfolding beginRow beginRefusal firstOf
   begin-values h = rw (ne-eqb (length (m .store .values)) 128 h)
 
   module _ (values : length (m .store .values) ≡ 128) where
-    pub begin-snapshots : (length (m .txns .snapshots) ≡ 768 → ⊥) → outcome (refused 1) m ≡ beginStep m
-    unfolding beginStep beginRefusal firstOf
+    pub begin-snapshots : (length (m .txns .snapshots) ≡ 768 → ⊥) → outcome (refused 1) m ≡ beginRow m r
+    unfolding beginRow beginRefusal firstOf
     begin-snapshots h = rw (eq-eqb (length (m .store .values)) 128 values, ne-eqb (length (m .txns .snapshots)) 768 h)
 
-    module _ (snapshots : length (m .txns .snapshots) ≡ 768) (r : ℕ) (row : r ≡ freeRow (m .txns .table)) where
-      pub begin-full : 6 ≤ r → outcome (refused 5) m ≡ beginStep m
-      unfolding beginStep beginRefusal firstOf
-      begin-full h = rw (eq-eqb (length (m .store .values)) 128 values, eq-eqb (length (m .txns .snapshots)) 768 snapshots, ← row, le-leb 6 r h)
+    module _ (snapshots : length (m .txns .snapshots) ≡ 768) where
+      pub begin-full : 6 ≤ r → outcome (refused 5) m ≡ beginRow m r
+      unfolding beginRow beginRefusal firstOf
+      begin-full h = rw (eq-eqb (length (m .store .values)) 128 values, eq-eqb (length (m .txns .snapshots)) 768 snapshots, le-leb 6 r h)
 
       module _ (free : r < 6) where
-        pub begin-spent : 100000000 ≤ m .counts .tickets → outcome (refused 6) m ≡ beginStep m
-        unfolding beginStep beginRefusal firstOf
-        begin-spent h = rw (eq-eqb (length (m .store .values)) 128 values, eq-eqb (length (m .txns .snapshots)) 768 snapshots, ← row, lt-leb 6 r free, le-leb 100000000 (m .counts .tickets) h)
+        pub begin-spent : 100000000 ≤ m .counts .tickets → outcome (refused 6) m ≡ beginRow m r
+        unfolding beginRow beginRefusal firstOf
+        begin-spent h = rw (eq-eqb (length (m .store .values)) 128 values, eq-eqb (length (m .txns .snapshots)) 768 snapshots, lt-leb 6 r free, le-leb 100000000 (m .counts .tickets) h)
 
         -- s is what the row's part of the snapshots became
         module _ (s : List ℤ)
@@ -57,6 +56,6 @@ module _ (m : Memory) where
                 writes = m .txns .writes;
                 snapshots = putMid (128 * r) (128 * r + 128 - 128 * r) (m .txns .snapshots) s;
               }))
-              ≡ beginStep m
-          unfolding beginStep beginRefusal beginAt firstOf
-          begin-taken h = rw (eq-eqb (length (m .store .values)) 128 values, eq-eqb (length (m .txns .snapshots)) 768 snapshots, ← row, lt-leb 6 r free, lt-leb 100000000 (m .counts .tickets) h, snapshot-is)
+              ≡ beginRow m r
+          unfolding beginRow beginRefusal beginAt firstOf
+          begin-taken h = rw (eq-eqb (length (m .store .values)) 128 values, eq-eqb (length (m .txns .snapshots)) 768 snapshots, lt-leb 6 r free, lt-leb 100000000 (m .counts .tickets) h, snapshot-is)

@@ -1,6 +1,6 @@
--- One law for each answer of a call, over plain variables.
+-- One law for each answer of a call, over plain variables; every row and record are those of some table.
 pub mod BeginLaws
 pub mod ReadLaws
-pub mod WriteLaws
 pub mod AskLaws
 pub mod RowLaws
+pub mod Tables

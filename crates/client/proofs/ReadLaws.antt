@@ -10,53 +10,53 @@ use Rattle.block.specs.Answers.{firstOf}
 use Rattle.block.proofs.ListLaws.{lent, lent-slice}
 use Rattle.memory.specs.declared.Txn.{Txn}
 use Rattle.memory.specs.Memory.{Memory}
-use Rattle.memory.specs.Rows.{rowOf, rowAt, indexOf}
+use Rattle.memory.specs.Rows.{rowAt, indexOf}
 use Rattle.engine.specs.Calls.{outcome}
 use Rattle.engine.specs.Calls.Answer.{refused, got}
-use Rattle.engine.specs.Client.{readRefusal, valueFor, readStep}
+use Rattle.engine.specs.Client.{readRefusal, valueFor, readRow}
 
-module _ (m : Memory) (ticket item : ℕ) where
-  pub read-items : (length (m .txns .items) ≡ 48 → ⊥) → outcome (refused 1) m ≡ readStep m ticket item
-  unfolding readStep readRefusal firstOf
+module _ (m : Memory) (r item : ℕ) where
+  pub read-items : (length (m .txns .items) ≡ 48 → ⊥) → outcome (refused 1) m ≡ readRow m r item
+  unfolding readRow readRefusal firstOf
   read-items h = rw (ne-eqb (length (m .txns .items)) 48 h)
 
   module _ (items : length (m .txns .items) ≡ 48) where
-    pub read-writes : (length (m .txns .writes) ≡ 48 → ⊥) → outcome (refused 1) m ≡ readStep m ticket item
-    unfolding readStep readRefusal firstOf
+    pub read-writes : (length (m .txns .writes) ≡ 48 → ⊥) → outcome (refused 1) m ≡ readRow m r item
+    unfolding readRow readRefusal firstOf
     read-writes h = rw (eq-eqb (length (m .txns .items)) 48 items, ne-eqb (length (m .txns .writes)) 48 h)
 
     module _ (writes : length (m .txns .writes) ≡ 48) where
-      pub read-snapshots : (length (m .txns .snapshots) ≡ 768 → ⊥) → outcome (refused 1) m ≡ readStep m ticket item
-      unfolding readStep readRefusal firstOf
+      pub read-snapshots : (length (m .txns .snapshots) ≡ 768 → ⊥) → outcome (refused 1) m ≡ readRow m r item
+      unfolding readRow readRefusal firstOf
       read-snapshots h = rw (eq-eqb (length (m .txns .items)) 48 items, eq-eqb (length (m .txns .writes)) 48 writes, ne-eqb (length (m .txns .snapshots)) 768 h)
 
       module _ (snapshots : length (m .txns .snapshots) ≡ 768) where
-        pub read-item : 128 ≤ item → outcome (refused 2) m ≡ readStep m ticket item
-        unfolding readStep readRefusal firstOf
+        pub read-item : 128 ≤ item → outcome (refused 2) m ≡ readRow m r item
+        unfolding readRow readRefusal firstOf
         read-item h = rw (eq-eqb (length (m .txns .items)) 48 items, eq-eqb (length (m .txns .writes)) 48 writes, eq-eqb (length (m .txns .snapshots)) 768 snapshots, le-leb 128 item h)
 
-        module _ (low : item < 128) (r : ℕ) (row : r ≡ rowOf ticket (m .txns .table)) where
-          pub read-absent : 6 ≤ r → outcome (refused 3) m ≡ readStep m ticket item
-          unfolding readStep readRefusal firstOf
-          read-absent h = rw (eq-eqb (length (m .txns .items)) 48 items, eq-eqb (length (m .txns .writes)) 48 writes, eq-eqb (length (m .txns .snapshots)) 768 snapshots, lt-leb 128 item low, ← row, le-leb 6 r h)
+        module _ (low : item < 128) where
+          pub read-absent : 6 ≤ r → outcome (refused 3) m ≡ readRow m r item
+          unfolding readRow readRefusal firstOf
+          read-absent h = rw (eq-eqb (length (m .txns .items)) 48 items, eq-eqb (length (m .txns .writes)) 48 writes, eq-eqb (length (m .txns .snapshots)) 768 snapshots, lt-leb 128 item low, le-leb 6 r h)
 
           module _ (there : r < 6) (t : Txn) (at : t ≡ rowAt (m .txns .table) r) where
-            pub read-asked : (t .stage ≡ 0 → ⊥) → outcome (refused 4) m ≡ readStep m ticket item
-            unfolding readStep readRefusal firstOf
-            read-asked h = rw (eq-eqb (length (m .txns .items)) 48 items, eq-eqb (length (m .txns .writes)) 48 writes, eq-eqb (length (m .txns .snapshots)) 768 snapshots, lt-leb 128 item low, ← row, lt-leb 6 r there, ← at, ne-eqb (t .stage) 0 h)
+            pub read-asked : (t .stage ≡ 0 → ⊥) → outcome (refused 4) m ≡ readRow m r item
+            unfolding readRow readRefusal firstOf
+            read-asked h = rw (eq-eqb (length (m .txns .items)) 48 items, eq-eqb (length (m .txns .writes)) 48 writes, eq-eqb (length (m .txns .snapshots)) 768 snapshots, lt-leb 128 item low, lt-leb 6 r there, ← at, ne-eqb (t .stage) 0 h)
 
             module _ (active : t .stage ≡ 0) (n k : ℕ) (count : n ≡ min (t .writes) 8) (index : k ≡ indexOf item (lent (8 * r) (8 * r + n) (m .txns .items))) where
               place : k ≡ indexOf item (slice (8 * r) (8 * r + n) (m .txns .items))
               place = index ∙ ap (indexOf item) (lent-slice (8 * r) (8 * r + n) (m .txns .items) (omega arith))
 
-              accepted : outcome (got (valueFor m ticket item)) m ≡ readStep m ticket item
-              unfolding readStep readRefusal firstOf
-              accepted = rw (eq-eqb (length (m .txns .items)) 48 items, eq-eqb (length (m .txns .writes)) 48 writes, eq-eqb (length (m .txns .snapshots)) 768 snapshots, lt-leb 128 item low, ← row, lt-leb 6 r there, ← at, eq-eqb (t .stage) 0 active)
+              accepted : outcome (got (valueFor m r item)) m ≡ readRow m r item
+              unfolding readRow readRefusal firstOf
+              accepted = rw (eq-eqb (length (m .txns .items)) 48 items, eq-eqb (length (m .txns .writes)) 48 writes, eq-eqb (length (m .txns .snapshots)) 768 snapshots, lt-leb 128 item low, lt-leb 6 r there, ← at, eq-eqb (t .stage) 0 active)
 
-              pub read-own : k < n → (v : ℤ) → v ≡ getD (m .txns .writes) (8 * r + k) (pos 0) → outcome (got v) m ≡ readStep m ticket item
+              pub read-own : k < n → (v : ℤ) → v ≡ getD (m .txns .writes) (8 * r + k) (pos 0) → outcome (got v) m ≡ readRow m r item
               unfolding valueFor
-              read-own h v e = rw (e) (ap (λ (x : ℤ). outcome (got x) m) (rw (← row, ← at, ← count, ← place, lt-ltb k n h)) ∙ accepted)
+              read-own h v e = rw (e) (ap (λ (x : ℤ). outcome (got x) m) (rw (← at, ← count, ← place, lt-ltb k n h)) ∙ accepted)
 
-              pub read-old : n ≤ k → (v : ℤ) → v ≡ getD (m .txns .snapshots) (128 * r + item) (pos 0) → outcome (got v) m ≡ readStep m ticket item
+              pub read-old : n ≤ k → (v : ℤ) → v ≡ getD (m .txns .snapshots) (128 * r + item) (pos 0) → outcome (got v) m ≡ readRow m r item
               unfolding valueFor
-              read-old h v e = rw (e) (ap (λ (x : ℤ). outcome (got x) m) (rw (← row, ← at, ← count, ← place, le-ltb k n h)) ∙ accepted)
+              read-old h v e = rw (e) (ap (λ (x : ℤ). outcome (got x) m) (rw (← at, ← count, ← place, le-ltb k n h)) ∙ accepted)

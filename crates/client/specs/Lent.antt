@@ -1,15 +1,13 @@
 -- Which parts of the memory each function of the client's calls is lent, and what its enum answers. A contract speaks of every memory with those parts.
-use Prim.Native.Nat.{ℕ, _+_, _*_, _-_}
-use mathlib.Core.Bool.{cond}
+use Prim.Native.Nat.{ℕ, _-_}
 use mathlib.Core.List.{List}
-use lib.Dec.{eqb, ltb}
 use lib.IntN.{ℤ}
-use lib.ListN.{getD, set, replicate}
+use lib.ListN.{replicate}
 use Rattle.memory.specs.declared.Counts.{Counts}
 use Rattle.memory.specs.declared.Turn.{Turn}
 use Rattle.memory.specs.declared.Txn.{Txn}
 use Rattle.memory.specs.Memory.{Memory}
-use Rattle.memory.specs.Rows.{closed, rowAt, writeCount, itemsOf, indexOf, holderOf, isHeld, countBelow, insertAt}
+use Rattle.memory.specs.Rows.{closed}
 use Rattle.client.specs.declared.Answered.{Answered}
 use Rattle.client.specs.declared.Answered.the-variants as done
 use Rattle.client.specs.declared.AskAnswer.{AskAnswer}
@@ -18,10 +16,9 @@ use Rattle.client.specs.declared.BeginAnswer.{BeginAnswer}
 use Rattle.client.specs.declared.BeginAnswer.the-variants as begun
 use Rattle.client.specs.declared.ReadAnswer.{ReadAnswer}
 use Rattle.client.specs.declared.ReadAnswer.the-variants as gotten
-use Rattle.engine.specs.Calls.{Answer, Outcome, outcome}
+use Rattle.engine.specs.Calls.{Answer}
 use Rattle.engine.specs.Make.{turnZero, countsFor}
-use Rattle.engine.specs.Client.{rewriteAt, staleAt, insertWrite}
-use Rattle.engine.specs.Calls.Answer.{refused, made, began, got, wrote, queued, readOnly, withdrew}
+use Rattle.engine.specs.Calls.Answer.{refused, began, got, queued, readOnly}
 
 -- ---- answers: document 01's number and the value of each case
 
@@ -106,34 +103,3 @@ allParts turn counts table queue items writes snapshots values stamps places out
 -- what a make is lent: slices alone, with no replica in them yet
 abbrev pub slices : List ℕ → List ℕ → List ℤ → List ℤ → List ℤ → List ℕ → List ℕ → List ℕ → Memory
 slices = allParts turnZero (countsFor 0 0) (replicate 6 closed)
-
--- ---- a write in two parts
-
--- table, items and values after a new item
-pub record Inserted : Type 0 where
-  pub table : List Txn
-  pub items : List ℕ
-  pub writes : List ℤ
-
-abbrev pub inserted : List Txn → List ℕ → List ℤ → Inserted
-inserted t i w = record { table = t; items = i; writes = w }
-
-unfoldable pub insertIn : List Txn → List ℕ → List ℤ → ℕ → ℕ → ℤ → Inserted
-insertIn table items writes r item value =
-    let t = rowAt table r in
-    let n = writeCount t in
-    let p = countBelow item (itemsOf r t items) 0 in
-    inserted (set table r (record { ticket = t .ticket; stage = t .stage; snapshot = t .snapshot; writes = n + 1 }))
-    (insertAt (8 * r + p) (n - p) item items)
-    (insertAt (8 * r + p) (n - p) value writes)
-
--- the write of an active transaction, of row r, while nothing is applied
-unfoldable pub writeRow : Memory → ℕ → ℕ → ℤ → Outcome
-writeRow m r item value =
-    let x = m .txns in
-    let t = rowAt (x .table) r in
-    let k = indexOf item (itemsOf r t (x .items)) in
-    cond (ltb k (writeCount t)) (rewriteAt m r k value)
-    (cond (isHeld (holderOf (x .table) (x .items) r item)) (outcome (refused 8) m)
-    (cond (ltb (t .snapshot) (getD (m .store .stamps) item 0)) (staleAt m r)
-    (cond (eqb (writeCount t) 8) (outcome (refused 10) m) (insertWrite m r t item value))))

@@ -1,18 +1,15 @@
-// What a client may do, at the row of its transaction: `at` is the row, 6 where there is none, and `t` its record. Each contract holds of every table that has the row;
-// `calls` and a host's interface find it.
+// What a client may do, at a row: `at` is any number, and `t` the record that the table has there, a free one past its end. Each contract is one equation with the step at
+// that row, of engine's `specs/Client.antt`, on every memory that has the parts lent; every row and record are those of some table (`specs/Tables.antt`).
 ghost use mathlib.Core.Path.{_≡_};
 ghost use mathlib.Core.List.{List};
-ghost use mathlib.Core.Bool.{_&&_};
-ghost use Prim.Native.Nat.{ℕ, _<_};
-ghost use lib.Dec.{eqb};
-ghost use lib.ListN.{length, set};
+ghost use lib.ListN.{set};
 ghost use Rattle.memory.specs.declared.Txn.{Txn};
-ghost use Rattle.memory.specs.Memory.{Memory, bump, withReadOnly, withAborted};
-ghost use Rattle.memory.specs.Rows.{closed, rowOf, freeRow, rowAt, writeCount};
+ghost use Rattle.memory.specs.Memory.{Memory, bump, withReadOnly};
+ghost use Rattle.memory.specs.Rows.{closed, rowAt};
 ghost use Rattle.engine.specs.Calls.{outcome};
-ghost use Rattle.engine.specs.Calls.Answer.{wrote, withdrew};
-ghost use Rattle.engine.specs.Client.{beginStep, readStep, writeStep, askStep, withdrawStep};
-ghost use Rattle.client.specs.Lent.{inserted, insertIn, writeRow, beginAnswer, readAnswer, askAnswer, plainAnswer, beginParts, readParts, writeParts, askParts, withdrawParts};
+ghost use Rattle.engine.specs.Calls.Answer.{withdrew};
+ghost use Rattle.engine.specs.Client.{beginRow, readRow, askRow, withdrawRow};
+ghost use Rattle.client.specs.Lent.{beginAnswer, readAnswer, askAnswer, plainAnswer, beginParts, readParts, askParts, withdrawParts};
 use super::Answered;
 use super::AskAnswer;
 use super::BeginAnswer;
@@ -21,18 +18,22 @@ use super::RowAsked;
 use super::RowBegun;
 use super::RowChanged;
 use memory::Counts;
-use memory::Held;
-use memory::Turn;
 use memory::Txn;
 use memory::rows::bump;
 use memory::rows::copy_values;
-use memory::rows::count_below;
-use memory::rows::holder;
 use memory::rows::index_of;
-use memory::rows::insert_item;
-use memory::rows::insert_value;
 use memory::rows::queue_end;
 use memory::rows::write_count;
+
+// The record of a row; a free one past the last.
+pub fn row_at(table: [Txn; 6], at: usize) -> Txn
+    ensures { λ r. ⌜ r ≡ rowAt table at ⌝ }
+{
+    if at < 6 {
+        return table[at];
+    }
+    free()
+}
 
 fn not_begun(number: u8, t: Txn, counts: Counts) -> RowBegun
     ensures { λ r. ⌜ r ≡ record { answer = BeginAnswer.Refused number; row = t; counts = counts } ⌝ }
@@ -52,7 +53,7 @@ pub fn begin_row(
     values: &[i32],
     snapshots: &mut [i32],
 ) -> RowBegun
-    ensures { λ r. ⌜ ((m : Memory) (table : List Txn) → t ≡ rowAt table at → at ≡ freeRow table → outcome (beginAnswer (r .answer)) (beginParts m (set table at (r .row)) (r .counts) (now (values .entry)) (now (snapshots .exit))) ≡ beginStep (beginParts m table counts (now (values .entry)) (now (snapshots .entry)))) ⌝ }
+    ensures { λ r. ⌜ ((m : Memory) (table : List Txn) → t ≡ rowAt table at → outcome (beginAnswer (r .answer)) (beginParts m (set table at (r .row)) (r .counts) (now (values .entry)) (now (snapshots .exit))) ≡ beginRow (beginParts m table counts (now (values .entry)) (now (snapshots .entry))) at) ⌝ }
 {
     if values.len() != 128 {
         return not_begun(1, t, counts);
@@ -92,7 +93,7 @@ pub fn read_row(
     snapshots: &[i32],
     item: u32,
 ) -> ReadAnswer
-    ensures { λ r. ⌜ ((m : Memory) (table : List Txn) (ticket : ℕ) → t ≡ rowAt table at → at ≡ rowOf ticket table → outcome (readAnswer r) (readParts m table (now (items .entry)) (now (writes .entry)) (now (snapshots .entry))) ≡ readStep (readParts m table (now (items .entry)) (now (writes .entry)) (now (snapshots .entry))) ticket item) ⌝ }
+    ensures { λ r. ⌜ ((m : Memory) (table : List Txn) → t ≡ rowAt table at → outcome (readAnswer r) (readParts m table (now (items .entry)) (now (writes .entry)) (now (snapshots .entry))) ≡ readRow (readParts m table (now (items .entry)) (now (writes .entry)) (now (snapshots .entry))) at item) ⌝ }
 {
     if items.len() != 48 {
         return ReadAnswer::Refused(1);
@@ -122,7 +123,7 @@ pub fn read_row(
 }
 
 // A refused call: nothing changes.
-fn kept(number: u8, t: Txn, counts: Counts) -> RowChanged
+pub fn kept(number: u8, t: Txn, counts: Counts) -> RowChanged
     ensures { λ r. ⌜ r ≡ record { answer = Answered.Refused number; row = t; counts = counts } ⌝ }
 {
     RowChanged {
@@ -132,7 +133,7 @@ fn kept(number: u8, t: Txn, counts: Counts) -> RowChanged
     }
 }
 
-fn changed(t: Txn, counts: Counts) -> RowChanged
+pub fn changed(t: Txn, counts: Counts) -> RowChanged
     ensures { λ r. ⌜ r ≡ record { answer = Answered.Accepted; row = t; counts = counts } ⌝ }
 {
     RowChanged {
@@ -142,7 +143,7 @@ fn changed(t: Txn, counts: Counts) -> RowChanged
     }
 }
 
-fn free() -> Txn
+pub fn free() -> Txn
     ensures { λ r. ⌜ r ≡ closed ⌝ }
 {
     Txn {
@@ -151,124 +152,6 @@ fn free() -> Txn
         snapshot: 0,
         writes: 0,
     }
-}
-
-// The row's transaction ends as aborted, and the write is answered 9.
-fn stale(counts: Counts) -> RowChanged
-    ensures { λ r. ⌜ r ≡ record { answer = Answered.Refused 9; row = closed; counts = withAborted counts (bump (counts .aborted)) } ⌝ }
-{
-    let mut after = counts;
-    after.aborted = bump(counts.aborted);
-    kept(9, free(), after)
-}
-
-// A new item, in its place among the row's items.
-fn insert(t: Txn, items: &mut [u8], writes: &mut [i32], at: usize, item: u8, value: i32) -> Txn
-    requires { ⌜ (length (now items) ≡ 48) × (length (now writes) ≡ 48) × (at < 6) × (writeCount t < 8) ⌝ }
-    ensures { λ r. ⌜ ((table : List Txn) → t ≡ rowAt table at → inserted (set table at r) (now (items .exit)) (now (writes .exit)) ≡ insertIn table (now (items .entry)) (now (writes .entry)) at item value) ⌝ }
-{
-    let n = write_count(t.writes);
-    let from = 8 * at;
-    let end = from + n;
-    let place = from + count_below(&items[from..end], item);
-    insert_item(&mut items[place..end + 1], item);
-    insert_value(&mut writes[place..end + 1], value);
-    Txn {
-        ticket: t.ticket,
-        stage: t.stage,
-        snapshot: t.snapshot,
-        writes: n as u32 + 1,
-    }
-}
-
-// A write by the active transaction of a row.
-fn write_at(
-    table: [Txn; 6],
-    at: usize,
-    t: Txn,
-    counts: Counts,
-    items: &mut [u8],
-    writes: &mut [i32],
-    stamps: &[u32],
-    item: u8,
-    value: i32,
-) -> RowChanged
-    requires { ⌜ (length (now items) ≡ 48) × (length (now writes) ≡ 48) × (length (now stamps) ≡ 128) × (at < 6) × (item < 128) ⌝ }
-    ensures { λ r. ⌜ ((m : Memory) → t ≡ rowAt table at → outcome (plainAnswer wrote (r .answer)) (writeParts m (m .turn) (r .counts) (set table at (r .row)) (now (items .exit)) (now (writes .exit)) (now (stamps .entry))) ≡ writeRow (writeParts m (m .turn) counts table (now (items .entry)) (now (writes .entry)) (now (stamps .entry))) at item value) ⌝ }
-{
-    let n = write_count(t.writes);
-    let from = 8 * at;
-    let k = index_of(&items[from..from + n], item);
-    if k < n {
-        writes[from + k] = value;
-        return changed(t, counts);
-    }
-    if let Held::By(_) = holder(table, &*items, at, item) {
-        return kept(8, t, counts);
-    }
-    if t.snapshot < stamps[item as usize] {
-        return stale(counts);
-    }
-    if n == 8 {
-        return kept(10, t, counts);
-    }
-    let row = insert(t, &mut *items, &mut *writes, at, item, value);
-    changed(row, counts)
-}
-
-fn writing_fits(items: &[u8], writes: &[i32], stamps: &[u32]) -> bool
-    ensures { λ r. ⌜ r ≡ (eqb (length (now (items .entry))) 48 && eqb (length (now (writes .entry))) 48 && eqb (length (now (stamps .entry))) 128) ⌝ }
-{
-    if items.len() != 48 {
-        return false;
-    }
-    if writes.len() != 48 {
-        return false;
-    }
-    stamps.len() == 128
-}
-
-// Records the value and locks the item.
-pub fn write_row(
-    table: [Txn; 6],
-    at: usize,
-    t: Txn,
-    turn: Turn,
-    counts: Counts,
-    items: &mut [u8],
-    writes: &mut [i32],
-    stamps: &[u32],
-    item: u32,
-    value: i32,
-) -> RowChanged
-    ensures { λ r. ⌜ ((m : Memory) (ticket : ℕ) → t ≡ rowAt table at → at ≡ rowOf ticket table → outcome (plainAnswer wrote (r .answer)) (writeParts m turn (r .counts) (set table at (r .row)) (now (items .exit)) (now (writes .exit)) (now (stamps .entry))) ≡ writeStep (writeParts m turn counts table (now (items .entry)) (now (writes .entry)) (now (stamps .entry))) ticket item value) ⌝ }
-{
-    if !writing_fits(&*items, &*writes, stamps) {
-        return kept(1, t, counts);
-    }
-    if 128 <= item {
-        return kept(2, t, counts);
-    }
-    if 6 <= at {
-        return kept(3, t, counts);
-    }
-    if t.stage != 0 {
-        return kept(4, t, counts);
-    }
-    if turn.applying {
-        return kept(7, t, counts);
-    }
-    write_at(
-        table,
-        at,
-        t,
-        counts,
-        &mut *items,
-        &mut *writes,
-        stamps,
-        item as u8,
-        value,
-    )
 }
 
 fn not_asked(number: u8, t: Txn, counts: Counts) -> RowAsked
@@ -296,7 +179,7 @@ fn read_only(counts: Counts) -> RowAsked
 
 // Requests commit: an empty writeset ends on the spot, any other joins the queue.
 pub fn ask_row(at: usize, t: Txn, counts: Counts, queue: &mut [u32]) -> RowAsked
-    ensures { λ r. ⌜ ((m : Memory) (table : List Txn) (ticket : ℕ) → t ≡ rowAt table at → at ≡ rowOf ticket table → outcome (askAnswer (r .answer)) (askParts m (r .counts) (set table at (r .row)) (now (queue .exit))) ≡ askStep (askParts m counts table (now (queue .entry))) ticket) ⌝ }
+    ensures { λ r. ⌜ ((m : Memory) (table : List Txn) → t ≡ rowAt table at → outcome (askAnswer (r .answer)) (askParts m (r .counts) (set table at (r .row)) (now (queue .exit))) ≡ askRow (askParts m counts table (now (queue .entry))) at) ⌝ }
 {
     if queue.len() != 6 {
         return not_asked(1, t, counts);
@@ -328,7 +211,7 @@ pub fn ask_row(at: usize, t: Txn, counts: Counts, queue: &mut [u32]) -> RowAsked
 
 // Ends an active transaction.
 pub fn withdraw_row(at: usize, t: Txn, counts: Counts) -> RowChanged
-    ensures { λ r. ⌜ ((m : Memory) (table : List Txn) (ticket : ℕ) → t ≡ rowAt table at → at ≡ rowOf ticket table → outcome (plainAnswer withdrew (r .answer)) (withdrawParts m (r .counts) (set table at (r .row))) ≡ withdrawStep (withdrawParts m counts table) ticket) ⌝ }
+    ensures { λ r. ⌜ ((m : Memory) (table : List Txn) → t ≡ rowAt table at → outcome (plainAnswer withdrew (r .answer)) (withdrawParts m (r .counts) (set table at (r .row))) ≡ withdrawRow (withdrawParts m counts table) at) ⌝ }
 {
     if 6 <= at {
         return kept(3, t, counts);

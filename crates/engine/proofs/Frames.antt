@@ -14,7 +14,7 @@ use Rattle.memory.specs.declared.Txn.{Txn}
 use Rattle.memory.specs.Memory.{Blocks, Memory, withReadOnly, withAborted, withTxns}
 use Rattle.memory.specs.Rows.{closed, freeRow, rowAt, writeCount, itemsOf, indexOf, countBelow}
 use Rattle.memory.specs.Turns.{placeStart}
-use Rattle.engine.specs.Client.{rowNo, rowWith, ownIndex, beginAt, rewriteAt, insertWrite, staleAt, readOnlyAt, queueAt, withdrawAt, reportStep}
+use Rattle.engine.specs.Client.{freeNo, rowNo, rowIn, ownIndex, beginAt, rewriteAt, insertWrite, staleAt, readOnlyAt, queueAt, withdrawAt, reportStep}
 use Rattle.engine.specs.Moves.{sendNow, deliverNow, isLast, passNext, commitWriteset}
 use Rattle.engine.specs.Step.{step}
 use Rattle.engine.specs.Step.Call.{write}
@@ -28,7 +28,7 @@ use Rattle.engine.proofs.BlockFacts.{taken-block}
 
 -- ---- begin
 
-begin-frame : (m : Memory) → BeginPassed m → BeginFrame m (beginAt m (freeRow (m .txns .table)) .memory)
+begin-frame : (m : Memory) → BeginPassed m → BeginFrame m (beginAt m (freeNo m) .memory)
 unfolding beginAt
 begin-frame m p =
     let r = freeRow (m .txns .table) in
@@ -101,8 +101,8 @@ write-frame : (m : Memory) (t i : ℕ) (v : ℤ) → WriteFrame m (step m (write
 write-frame m t i v =
     let r = rowNo m t in
     write-by (λ o. WriteFrame m (o .memory) r) m t i v (λ e. stale-frame m r)
-    (λ e o. rewrite-frame m r (ownIndex m t i) v (omega (arith, ltb-true (ownIndex m t i) (writeCount (rowWith m t)) o)))
-    (λ e o. let p = write-passed m t i e in insert-frame m r (rowWith m t) i v (p .own .row) (p .room o) (p .items) (p .writes))
+    (λ e o. rewrite-frame m r (ownIndex m (rowNo m t) i) v (omega (arith, ltb-true (ownIndex m (rowNo m t) i) (writeCount (rowIn m (rowNo m t))) o)))
+    (λ e o. let p = write-passed m t i e in insert-frame m r (rowIn m (rowNo m t)) i v (p .own .row) (p .room o) (p .items) (p .writes))
     (λ k e. write-same m r)
 
 -- ---- ask, withdraw
@@ -261,7 +261,7 @@ frames = record {
   writes = write-frame;
   asks = λ m t. ask-by (λ o. AskFrame m (o .memory) (rowNo m t)) m t
       (λ e. read-only-frame m (rowNo m t))
-      (λ e n. queue-frame m (rowNo m t) (rowWith m t))
+      (λ e n. queue-frame m (rowNo m t) (rowIn m (rowNo m t)))
       (λ e. ask-same m (rowNo m t));
   withdraws = λ m t. withdraw-by (λ o. WithdrawFrame m (o .memory) (rowNo m t)) m t (λ e. withdraw-frame m (rowNo m t)) (λ e. withdraw-same m (rowNo m t));
   reports = λ m. unfold step reportStep in refl;

@@ -13,7 +13,7 @@ use Rattle.block.specs.Answers.{readRefusal, headerOf, recordAt}
 use Rattle.memory.specs.Memory.{Memory, maxTickets}
 use Rattle.memory.specs.Rows.{freeRow, writeCount}
 use Rattle.memory.specs.Turns.{isEmpty}
-use Rattle.engine.specs.Client.{rowNo, rowWith, isOwn, notOpen, notActive, heldByOther, beginRefusal, writeRefusal, askRefusal, withdrawRefusal}
+use Rattle.engine.specs.Client.{freeNo, rowNo, rowIn, isOwn, notOpen, notActive, heldByOther, beginRefusal, writeRefusal, askRefusal, withdrawRefusal}
 use Rattle.engine.specs.Moves.{deliverRefusal, blockAtTurn, isSent, workRefusal}
 use Rattle.engine.proofs.Tests.{clash, passes}
 
@@ -29,7 +29,7 @@ pub record BeginPassed (m : Memory) : Type 0 where
   pub row : freeRow (m .txns .table) < 6
   pub tickets : m .counts .tickets < maxTickets
 
-pub begin-passed : (m : Memory) → beginRefusal m ≡ 0 → BeginPassed m
+pub begin-passed : (m : Memory) → beginRefusal m (freeNo m) ≡ 0 → BeginPassed m
 unfolding beginRefusal
 begin-passed m e =
     let a = passes _ _ refl e in
@@ -48,20 +48,20 @@ begin-passed m e =
 -- the ticket's row
 pub record RowPassed (m : Memory) (t : ℕ) : Type 0 where
   pub row : rowNo m t < 6
-  pub active : rowWith m t .stage ≡ 0
+  pub active : rowIn m (rowNo m t) .stage ≡ 0
 
-pub row-passed : (m : Memory) (t : ℕ) → notOpen m t ≡ false → notActive m t ≡ false → RowPassed m t
-row-passed m t a b = record { row = leb-false 6 (rowNo m t) a; active = eqb-true (rowWith m t .stage) 0 (not-false _ b) }
+pub row-passed : (m : Memory) (t : ℕ) → notOpen (rowNo m t) ≡ false → notActive m (rowNo m t) ≡ false → RowPassed m t
+row-passed m t a b = record { row = leb-false 6 (rowNo m t) a; active = eqb-true (rowIn m (rowNo m t) .stage) 0 (not-false _ b) }
 
 pub record WritePassed (m : Memory) (t i : ℕ) : Type 0 where
   pub items : length (m .txns .items) ≡ 48
   pub writes : length (m .txns .writes) ≡ 48
   pub item : i < 128
   pub own : RowPassed m t
-  pub unheld : isOwn m t i ≡ false → heldByOther m t i ≡ false
-  pub room : isOwn m t i ≡ false → writeCount (rowWith m t) < 8
+  pub unheld : isOwn m (rowNo m t) i ≡ false → heldByOther m (rowNo m t) i ≡ false
+  pub room : isOwn m (rowNo m t) i ≡ false → writeCount (rowIn m (rowNo m t)) < 8
 
-pub write-passed : (m : Memory) (t i : ℕ) → writeRefusal m t i ≡ 0 → WritePassed m t i
+pub write-passed : (m : Memory) (t i : ℕ) → writeRefusal m (rowNo m t) i ≡ 0 → WritePassed m t i
 unfolding writeRefusal
 write-passed m t i e =
     let a = passes _ _ refl e in
@@ -79,10 +79,10 @@ write-passed m t i e =
       room = λ o. let g = passes _ _ refl (rw o at (f .1)) in
           let h = passes _ _ refl (g .1) in
           let j = passes _ _ refl (h .1) in
-          omega (arith, eqb-false (writeCount (rowWith m t)) 8 (j .0));
+          omega (arith, eqb-false (writeCount (rowIn m (rowNo m t))) 8 (j .0));
     }
 
-pub stale-passed : (m : Memory) (t i : ℕ) → writeRefusal m t i ≡ 9 → RowPassed m t
+pub stale-passed : (m : Memory) (t i : ℕ) → writeRefusal m (rowNo m t) i ≡ 9 → RowPassed m t
 unfolding writeRefusal
 stale-passed m t i e =
     let a = passes _ _ refl e in
@@ -91,14 +91,14 @@ stale-passed m t i e =
     let d = passes _ _ refl (c .1) in
     row-passed m t (c .0) (d .0)
 
-pub ask-passed : (m : Memory) (t : ℕ) → askRefusal m t ≡ 0 → RowPassed m t
+pub ask-passed : (m : Memory) (t : ℕ) → askRefusal m (rowNo m t) ≡ 0 → RowPassed m t
 unfolding askRefusal
 ask-passed m t e =
     let a = passes _ _ refl e in
     let b = passes _ _ refl (a .1) in
     row-passed m t (b .0) (passes _ _ refl (b .1) .0)
 
-pub withdraw-passed : (m : Memory) (t : ℕ) → withdrawRefusal m t ≡ 0 → RowPassed m t
+pub withdraw-passed : (m : Memory) (t : ℕ) → withdrawRefusal m (rowNo m t) ≡ 0 → RowPassed m t
 unfolding withdrawRefusal
 withdraw-passed m t e =
     let a = passes _ _ refl e in

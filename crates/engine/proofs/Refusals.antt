@@ -9,7 +9,7 @@ use borrow.Author.Tests.{eq-eqb}
 use Rattle.memory.specs.Memory.{Memory, bump, withAborted, withTable, withTxns}
 use Rattle.memory.specs.Rows.{closed, openCount}
 use Rattle.engine.specs.Calls.{Outcome, numberOf}
-use Rattle.engine.specs.Client.{rowNo, beginRefusal, beginAt, readRefusal, writeRefusal, rewriteAt, insertWrite, staleAt, writeStep, askRefusal, readOnlyAt, queueAt, withdrawRefusal, withdrawAt, reportStep}
+use Rattle.engine.specs.Client.{freeNo, rowNo, beginRefusal, beginAt, readRefusal, writeRefusal, rewriteAt, insertWrite, staleAt, writeRow, askRefusal, readOnlyAt, queueAt, withdrawRefusal, withdrawAt, reportStep}
 use Rattle.engine.specs.Moves.{sendRefusal, sendNow, deliverRefusal, deliverNow, workRefusal, passNext, commitWriteset}
 use Rattle.engine.specs.Step.{Call, step, refusalOf}
 use Rattle.engine.specs.Step.Call.{begin, read, write, ask, withdraw, report, send, deliver, work}
@@ -25,11 +25,11 @@ Numbered n o = numberOf (o .answer) ≡ n
 
 number : (m : Memory) (c : Call) → numberOf (step m c .answer) ≡ refusalOf m c
 unfolding refusalOf beginAt staleAt rewriteAt insertWrite readOnlyAt queueAt withdrawAt sendNow deliverNow passNext commitWriteset
-number m begin = begin-by (Numbered (beginRefusal m)) m (λ e. sym e) (λ e. refl)
-number m (read t i) = read-by (Numbered (readRefusal m t i)) m t i (λ e. sym e) (λ e. refl)
-number m (write t i v) = write-by (Numbered (writeRefusal m t i)) m t i v (λ e. sym e) (λ e o. sym e) (λ e o. sym e) (λ k e. refl)
-number m (ask t) = ask-by (Numbered (askRefusal m t)) m t (λ e. sym e) (λ e n. sym e) (λ e. refl)
-number m (withdraw t) = withdraw-by (Numbered (withdrawRefusal m t)) m t (λ e. sym e) (λ e. refl)
+number m begin = begin-by (Numbered (beginRefusal m (freeNo m))) m (λ e. sym e) (λ e. refl)
+number m (read t i) = read-by (Numbered (readRefusal m (rowNo m t) i)) m t i (λ e. sym e) (λ e. refl)
+number m (write t i v) = write-by (Numbered (writeRefusal m (rowNo m t) i)) m t i v (λ e. sym e) (λ e o. sym e) (λ e o. sym e) (λ k e. refl)
+number m (ask t) = ask-by (Numbered (askRefusal m (rowNo m t))) m t (λ e. sym e) (λ e n. sym e) (λ e. refl)
+number m (withdraw t) = withdraw-by (Numbered (withdrawRefusal m (rowNo m t))) m t (λ e. sym e) (λ e. refl)
 number m report = unfold step reportStep in refl
 number m (send b) = send-by (Numbered (sendRefusal m b)) m b (λ e. sym e) (λ e. refl)
 number m (deliver b) = deliver-by (Numbered (deliverRefusal m b)) m b (λ e. sym e) (λ e. refl)
@@ -63,13 +63,13 @@ nine m (send b) e = absurd (not-first 9 _ refl e)
 nine m (deliver b) e = absurd (not-first 9 _ refl e)
 nine m work e = absurd (not-first 9 _ refl e)
 
-stale : (m : Memory) (ticket item : ℕ) (value : ℤ) → writeRefusal m ticket item ≡ 9
+stale : (m : Memory) (ticket item : ℕ) (value : ℤ) → writeRefusal m (rowNo m ticket) item ≡ 9
     → step m (write ticket item value) .memory
     ≡ withTxns m (withAborted (m .counts) (bump (m .counts .aborted))) (withTable (m .txns) (set (m .txns .table) (rowNo m ticket) closed))
-unfolding step writeStep staleAt
-stale m ticket item value e = rw (eq-eqb (writeRefusal m ticket item) 9 e)
+unfolding step writeRow staleAt
+stale m ticket item value e = rw (eq-eqb (writeRefusal m (rowNo m ticket) item) 9 e)
 
-stale-open : (m : Memory) (ticket item : ℕ) (value : ℤ) → length (m .txns .table) ≡ 6 → writeRefusal m ticket item ≡ 9
+stale-open : (m : Memory) (ticket item : ℕ) (value : ℤ) → length (m .txns .table) ≡ 6 → writeRefusal m (rowNo m ticket) item ≡ 9
     → openCount (m .txns .table) ≡ suc (openCount (step m (write ticket item value) .memory .txns .table))
 stale-open m ticket item value l e =
     let h = stale-passed m ticket item e .row in

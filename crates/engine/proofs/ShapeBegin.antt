@@ -7,7 +7,7 @@ use lib.Seq.{paste, length-paste}
 use Rattle.memory.specs.declared.Txn.{Txn}
 use Rattle.memory.specs.Memory.{Memory, maxTickets}
 use Rattle.memory.specs.Rows.{openCount, freeRow, rowAt}
-use Rattle.engine.specs.Client.{beginAt}
+use Rattle.engine.specs.Client.{freeNo, beginAt}
 use Rattle.engine.specs.Shape.{Shape}
 use Rattle.engine.proofs.RowLaws.{free-found, open-set, open-is, free-is}
 use Rattle.engine.proofs.Passed.{BeginPassed}
@@ -58,5 +58,5 @@ module _ (m : Memory) (s : Shape m) (r : ℕ) (h : r < 6) (isFree : rowAt (m .tx
   unfolding beginAt
   shape-begun = shape-changed m s r h row active apart parts change (queue-same m s r h row active apart refl parts refl)
 
-pub shape-begin : (m : Memory) → Shape m → BeginPassed m → Shape (beginAt m (freeRow (m .txns .table)) .memory)
+pub shape-begin : (m : Memory) → Shape m → BeginPassed m → Shape (beginAt m (freeNo m) .memory)
 shape-begin m s p = shape-begun m s (freeRow (m .txns .table)) (p .row) (free-found (m .txns .table) (s .lengths .table) (p .row)) (p .tickets)

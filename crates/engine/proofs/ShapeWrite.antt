@@ -12,7 +12,7 @@ use Rattle.block.proofs.ListLaws.{getD-slice}
 use Rattle.memory.specs.declared.Txn.{Txn}
 use Rattle.memory.specs.Memory.{Memory}
 use Rattle.memory.specs.Rows.{rowAt, writeCount, itemsOf, indexOf, holderOf, isHeld, countBelow, insertAt}
-use Rattle.engine.specs.Client.{rowNo, rowWith, ownIndex, isOwn, rewriteAt, insertWrite}
+use Rattle.engine.specs.Client.{rowNo, rowIn, ownIndex, isOwn, rewriteAt, insertWrite}
 use Rattle.engine.specs.Shape.{Shape}
 use Rattle.engine.proofs.Tests.{less-by, same-by}
 use Rattle.engine.proofs.HasLaws.{index-none, part-has}
@@ -155,8 +155,8 @@ module _ (m : Memory) (s : Shape m) (r x : ℕ) (v : ℤ) (h : r < 6) (small : x
   unfolding insertWrite
   shape-inserted = shape-changed m s r h row active apart parts change (queue-same m s r h row active apart active parts refl)
 
-pub shape-insert : (m : Memory) (t i : ℕ) (v : ℤ) → Shape m → WritePassed m t i → isOwn m t i ≡ false
-    → Shape (insertWrite m (rowNo m t) (rowWith m t) i v .memory)
+pub shape-insert : (m : Memory) (t i : ℕ) (v : ℤ) → Shape m → WritePassed m t i → isOwn m (rowNo m t) i ≡ false
+    → Shape (insertWrite m (rowNo m t) (rowIn m (rowNo m t)) i v .memory)
 shape-insert m t i v s p o =
     shape-inserted m s (rowNo m t) i v (p .own .row) (p .item) (p .own .active) (row-found t (m .txns .table) (s .lengths .table) (p .own .row) .live) (p .room o)
-    (ltb-false (ownIndex m t i) (writeCount (rowWith m t)) o) (p .unheld o)
+    (ltb-false (ownIndex m (rowNo m t) i) (writeCount (rowIn m (rowNo m t))) o) (p .unheld o)

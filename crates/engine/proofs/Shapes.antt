@@ -37,7 +37,7 @@ shape-each m s (read t i) = read-by Shaped m t i (λ e. s) (λ e. s)
 shape-each m s (write t i v) =
     write-by Shaped m t i v
     (λ e. let p = stale-passed m t i e in shape-stale m s (rowNo m t) (p .row) (p .active) (live m s t p))
-    (λ e o. shape-rewritten m (rowNo m t) (ownIndex m t i) v s)
+    (λ e o. shape-rewritten m (rowNo m t) (ownIndex m (rowNo m t) i) v s)
     (λ e o. shape-insert m t i v s (write-passed m t i e) o)
     (λ k e. s)
 shape-each m s (ask t) =

@@ -8,10 +8,10 @@ use lib.IntN.{ℤ}
 use lib.ListN.{getD}
 use borrow.Author.Tests.{eqb-true, eqb-false}
 use Rattle.memory.specs.Memory.{Memory}
-use Rattle.memory.specs.Rows.{freeRow, writeCount}
+use Rattle.memory.specs.Rows.{writeCount}
 use Rattle.engine.specs.Calls.{Outcome, outcome}
 use Rattle.engine.specs.Calls.Answer.{refused, got}
-use Rattle.engine.specs.Client.{rowNo, rowWith, ownIndex, isOwn, beginRefusal, beginAt, beginStep, readRefusal, valueFor, readStep, writeRefusal, rewriteAt, insertWrite, staleAt, writeStep, askRefusal, readOnlyAt, queueAt, askStep, withdrawRefusal, withdrawAt, withdrawStep}
+use Rattle.engine.specs.Client.{freeNo, rowNo, rowIn, ownIndex, isOwn, beginRefusal, beginAt, beginRow, readRefusal, valueFor, readRow, writeRefusal, rewriteAt, insertWrite, staleAt, writeRow, askRefusal, readOnlyAt, queueAt, askRow, withdrawRefusal, withdrawAt, withdrawRow}
 use Rattle.engine.specs.Moves.{sendRefusal, sendNow, sendStep, deliverRefusal, deliverNow, deliverStep, blockAtTurn, writesetAt, workRefusal, passNext, commitWriteset, workStep}
 use Rattle.engine.specs.Step.{step}
 use Rattle.engine.specs.Step.Call.{begin, read, write, ask, withdraw, send, deliver, work}
@@ -22,37 +22,37 @@ module _ (P : Outcome → Type 0) (m : Memory) where
   abbrev pub Refused : ℕ → Type 0
   Refused n = (n ≡ 0 → ⊥) → P (outcome (refused n) m)
 
-  pub begin-by : (beginRefusal m ≡ 0 → P (beginAt m (freeRow (m .txns .table)))) → Refused (beginRefusal m) → P (step m begin)
-  unfolding step beginStep
+  pub begin-by : (beginRefusal m (freeNo m) ≡ 0 → P (beginAt m (freeNo m))) → Refused (beginRefusal m (freeNo m)) → P (step m begin)
+  unfolding step beginRow
   begin-by f r = unless-by P _ m f r
 
-  pub read-by : (t i : ℕ) → (readRefusal m t i ≡ 0 → P (outcome (got (valueFor m t i)) m)) → Refused (readRefusal m t i) → P (step m (read t i))
-  unfolding step readStep
+  pub read-by : (t i : ℕ) → (readRefusal m (rowNo m t) i ≡ 0 → P (outcome (got (valueFor m (rowNo m t) i)) m)) → Refused (readRefusal m (rowNo m t) i) → P (step m (read t i))
+  unfolding step readRow
   read-by t i f r = unless-by P _ m f r
 
   pub write-by : (t i : ℕ) (v : ℤ)
-      → (writeRefusal m t i ≡ 9 → P (staleAt m (rowNo m t)))
-      → (writeRefusal m t i ≡ 0 → isOwn m t i ≡ true → P (rewriteAt m (rowNo m t) (ownIndex m t i) v))
-      → (writeRefusal m t i ≡ 0 → isOwn m t i ≡ false → P (insertWrite m (rowNo m t) (rowWith m t) i v))
-      → ((writeRefusal m t i ≡ 9 → ⊥) → Refused (writeRefusal m t i))
+      → (writeRefusal m (rowNo m t) i ≡ 9 → P (staleAt m (rowNo m t)))
+      → (writeRefusal m (rowNo m t) i ≡ 0 → isOwn m (rowNo m t) i ≡ true → P (rewriteAt m (rowNo m t) (ownIndex m (rowNo m t) i) v))
+      → (writeRefusal m (rowNo m t) i ≡ 0 → isOwn m (rowNo m t) i ≡ false → P (insertWrite m (rowNo m t) (rowIn m (rowNo m t)) i v))
+      → ((writeRefusal m (rowNo m t) i ≡ 9 → ⊥) → Refused (writeRefusal m (rowNo m t) i))
       → P (step m (write t i v))
-  unfolding step writeStep
+  unfolding step writeRow
   write-by t i v s f g r =
-      let n = writeRefusal m t i in
-      cond-by P (eqb n 9) (λ e. s (eqb-true n 9 e)) (λ e. unless-by P n m (λ z. cond-by P (isOwn m t i) (f z) (g z)) (r (eqb-false n 9 e)))
+      let n = writeRefusal m (rowNo m t) i in
+      cond-by P (eqb n 9) (λ e. s (eqb-true n 9 e)) (λ e. unless-by P n m (λ z. cond-by P (isOwn m (rowNo m t) i) (f z) (g z)) (r (eqb-false n 9 e)))
 
   pub ask-by : (t : ℕ)
-      → (askRefusal m t ≡ 0 → P (readOnlyAt m (rowNo m t)))
-      → (askRefusal m t ≡ 0 → (writeCount (rowWith m t) ≡ 0 → ⊥) → P (queueAt m (rowNo m t) (rowWith m t)))
-      → Refused (askRefusal m t)
+      → (askRefusal m (rowNo m t) ≡ 0 → P (readOnlyAt m (rowNo m t)))
+      → (askRefusal m (rowNo m t) ≡ 0 → (writeCount (rowIn m (rowNo m t)) ≡ 0 → ⊥) → P (queueAt m (rowNo m t) (rowIn m (rowNo m t))))
+      → Refused (askRefusal m (rowNo m t))
       → P (step m (ask t))
-  unfolding step askStep
+  unfolding step askRow
   ask-by t f g r =
-      let n = writeCount (rowWith m t) in
+      let n = writeCount (rowIn m (rowNo m t)) in
       unless-by P _ m (λ z. cond-by P (eqb n 0) (λ e. f z) (λ e. g z (eqb-false n 0 e))) r
 
-  pub withdraw-by : (t : ℕ) → (withdrawRefusal m t ≡ 0 → P (withdrawAt m (rowNo m t))) → Refused (withdrawRefusal m t) → P (step m (withdraw t))
-  unfolding step withdrawStep
+  pub withdraw-by : (t : ℕ) → (withdrawRefusal m (rowNo m t) ≡ 0 → P (withdrawAt m (rowNo m t))) → Refused (withdrawRefusal m (rowNo m t)) → P (step m (withdraw t))
+  unfolding step withdrawRow
   withdraw-by t f r = unless-by P _ m f r
 
   pub send-by : (b : List ℕ) → (sendRefusal m b ≡ 0 → P (sendNow m)) → Refused (sendRefusal m b) → P (step m (send b))

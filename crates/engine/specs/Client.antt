@@ -1,12 +1,13 @@
--- What a client may do: begin, read, write, ask, withdraw, report. Each call's refusals stand in the order of document 01's table.
-use Prim.Native.Nat.{ℕ, suc, _+_, _*_, _-_}
+-- What a client may do: begin, read, write, ask, withdraw, report. Each call's refusals stand in the order of document 01's table. What a call does is said at a row,
+-- on any memory and any row; the call itself is that at the row of its ticket.
+use Prim.Native.Nat.{ℕ, _+_, _*_, _-_}
 use mathlib.Core.Bool.{Bool, cond, not, _&&_}
-use mathlib.Core.List.{List, [], _∷_}
+use mathlib.Core.List.{[], _∷_}
 use lib.Dec.{eqb, ltb, leb}
 use lib.IntN.{ℤ, pos}
 use lib.ListN.{length, getD, set}
 use lib.Seq.{paste}
-use Rattle.block.specs.Answers.{Refusal, refuse, firstOf}
+use Rattle.block.specs.Answers.{refuse, firstOf}
 use Rattle.engine.specs.declared.Report.{Report}
 use Rattle.memory.specs.declared.Txn.{Txn}
 use Rattle.memory.specs.Memory.{Memory, maxTickets, bump, writesLent, withTickets, withReadOnly, withAborted, withWithdrawn, withTable, withTxns}
@@ -20,15 +21,20 @@ use Rattle.engine.specs.Calls.Answer.{refused, began, got, wrote, queued
 abbrev pub rowNo : Memory → ℕ → ℕ
 rowNo m ticket = rowOf ticket (m .txns .table)
 
-abbrev pub rowWith : Memory → ℕ → Txn
-rowWith m ticket = rowAt (m .txns .table) (rowNo m ticket)
+-- the first free row, 6 where there is none
+abbrev pub freeNo : Memory → ℕ
+freeNo m = freeRow (m .txns .table)
 
--- where the item stands among the row's own, one past the last where it does not
+-- row r's record
+abbrev pub rowIn : Memory → ℕ → Txn
+rowIn m r = rowAt (m .txns .table) r
+
+-- where the item stands among row r's own, one past the last where it does not
 abbrev pub ownIndex : Memory → ℕ → ℕ → ℕ
-ownIndex m ticket item = indexOf item (itemsOf (rowNo m ticket) (rowWith m ticket) (m .txns .items))
+ownIndex m r item = indexOf item (itemsOf r (rowIn m r) (m .txns .items))
 
 abbrev pub isOwn : Memory → ℕ → ℕ → Bool
-isOwn m ticket item = ltb (ownIndex m ticket item) (writeCount (rowWith m ticket))
+isOwn m r item = ltb (ownIndex m r item) (writeCount (rowIn m r))
 
 -- ---- the conditions of document 01's table
 
@@ -36,17 +42,17 @@ isOwn m ticket item = ltb (ownIndex m ticket item) (writeCount (rowWith m ticket
 abbrev pub itemOut : ℕ → Bool
 itemOut item = leb 128 item
 
--- 3: no open transaction has this ticket
-abbrev pub notOpen : Memory → ℕ → Bool
-notOpen m ticket = leb 6 (rowNo m ticket)
+-- 3: no open transaction has this ticket, and so it has no row
+abbrev pub notOpen : ℕ → Bool
+notOpen r = leb 6 r
 
 -- 4: it is asked or sent already
 abbrev pub notActive : Memory → ℕ → Bool
-notActive m ticket = not (eqb (rowWith m ticket .stage) 0)
+notActive m r = not (eqb (rowIn m r .stage) 0)
 
--- 5: 6 transactions are open
-abbrev pub noRoom : Memory → Bool
-noRoom m = leb 6 (freeRow (m .txns .table))
+-- 5: 6 transactions are open, and no row is free
+abbrev pub noRoom : ℕ → Bool
+noRoom r = leb 6 r
 
 -- 6: 100,000,000 tickets given
 abbrev pub ticketsSpent : Memory → Bool
@@ -58,27 +64,27 @@ isApplying m = m .turn .applying
 
 -- 8: another open transaction holds the item
 abbrev pub heldByOther : Memory → ℕ → ℕ → Bool
-heldByOther m ticket item = isHeld (holderOf (m .txns .table) (m .txns .items) (rowNo m ticket) item)
+heldByOther m r item = isHeld (holderOf (m .txns .table) (m .txns .items) r item)
 
 -- 9: the item's stamp is above the snapshot
 abbrev pub isStale : Memory → ℕ → ℕ → Bool
-isStale m ticket item = ltb (rowWith m ticket .snapshot) (getD (m .store .stamps) item 0)
+isStale m r item = ltb (rowIn m r .snapshot) (getD (m .store .stamps) item 0)
 
 -- 10: a ninth item
 abbrev pub isFull : Memory → ℕ → Bool
-isFull m ticket = eqb (writeCount (rowWith m ticket)) 8
+isFull m r = eqb (writeCount (rowIn m r)) 8
 
 -- ---- begin
 
-unfoldable pub beginRefusal : Memory → ℕ
-beginRefusal m =
+unfoldable pub beginRefusal : Memory → ℕ → ℕ
+beginRefusal m r =
     firstOf
     (refuse 1 (not (eqb (length (m .store .values)) 128 && eqb (length (m .txns .snapshots)) 768))
-    ∷ refuse 5 (noRoom m)
+    ∷ refuse 5 (noRoom r)
     ∷ refuse 6 (ticketsSpent m)
     ∷ [])
 
--- the first free row gets the next ticket, the commit count now and the values now
+-- the row gets the next ticket, the commit count now and the values now
 unfoldable pub beginAt : Memory → ℕ → Outcome
 beginAt m r =
     let ticket = m .counts .tickets + 1 in
@@ -93,45 +99,52 @@ beginAt m r =
       snapshots = paste (x .snapshots) (128 * r) (m .store .values) 128;
     }))
 
-unfoldable pub beginStep : Memory → Outcome
-beginStep m = unless (beginRefusal m) m (beginAt m (freeRow (m .txns .table)))
+unfoldable pub beginRow : Memory → ℕ → Outcome
+beginRow m r = unless (beginRefusal m r) m (beginAt m r)
+
+-- at the first free row
+abbrev pub beginStep : Memory → Outcome
+beginStep m = beginRow m (freeNo m)
 
 -- ---- read
 
 unfoldable pub readRefusal : Memory → ℕ → ℕ → ℕ
-readRefusal m ticket item =
+readRefusal m r item =
     firstOf
     (refuse 1 (not (writesLent m && eqb (length (m .txns .snapshots)) 768))
     ∷ refuse 2 (itemOut item)
-    ∷ refuse 3 (notOpen m ticket)
-    ∷ refuse 4 (notActive m ticket)
+    ∷ refuse 3 (notOpen r)
+    ∷ refuse 4 (notActive m r)
     ∷ [])
 
 -- what the transaction wrote last to the item, else the value at its snapshot
 unfoldable pub valueFor : Memory → ℕ → ℕ → ℤ
-valueFor m ticket item =
-    cond (isOwn m ticket item)
-    (getD (m .txns .writes) (8 * rowNo m ticket + ownIndex m ticket item) (pos 0))
-    (getD (m .txns .snapshots) (128 * rowNo m ticket + item) (pos 0))
+valueFor m r item =
+    cond (isOwn m r item)
+    (getD (m .txns .writes) (8 * r + ownIndex m r item) (pos 0))
+    (getD (m .txns .snapshots) (128 * r + item) (pos 0))
 
-unfoldable pub readStep : Memory → ℕ → ℕ → Outcome
-readStep m ticket item = unless (readRefusal m ticket item) m (outcome (got (valueFor m ticket item)) m)
+unfoldable pub readRow : Memory → ℕ → ℕ → Outcome
+readRow m r item = unless (readRefusal m r item) m (outcome (got (valueFor m r item)) m)
+
+abbrev pub readStep : Memory → ℕ → ℕ → Outcome
+readStep m ticket item = readRow m (rowNo m ticket) item
 
 -- ---- write
 
 -- an item that the transaction holds already is accepted before 8, 9 and 10 are looked at
 unfoldable pub writeRefusal : Memory → ℕ → ℕ → ℕ
-writeRefusal m ticket item =
+writeRefusal m r item =
     firstOf
     (refuse 1 (not (writesLent m && eqb (length (m .store .stamps)) 128))
     ∷ refuse 2 (itemOut item)
-    ∷ refuse 3 (notOpen m ticket)
-    ∷ refuse 4 (notActive m ticket)
+    ∷ refuse 3 (notOpen r)
+    ∷ refuse 4 (notActive m r)
     ∷ refuse 7 (isApplying m)
-    ∷ cond (isOwn m ticket item) []
-    (refuse 8 (heldByOther m ticket item)
-    ∷ refuse 9 (isStale m ticket item)
-    ∷ refuse 10 (isFull m ticket)
+    ∷ cond (isOwn m r item) []
+    (refuse 8 (heldByOther m r item)
+    ∷ refuse 9 (isStale m r item)
+    ∷ refuse 10 (isFull m r)
     ∷ []))
 
 -- a second write to an item replaces the first
@@ -168,22 +181,23 @@ insertWrite m r t item value =
 unfoldable pub staleAt : Memory → ℕ → Outcome
 staleAt m r = outcome (refused 9) (withTxns m (withAborted (m .counts) (bump (m .counts .aborted))) (withTable (m .txns) (set (m .txns .table) r closed)))
 
-unfoldable pub writeStep : Memory → ℕ → ℕ → ℤ → Outcome
-writeStep m ticket item value =
-    cond (eqb (writeRefusal m ticket item) 9) (staleAt m (rowNo m ticket))
-    (unless (writeRefusal m ticket item) m
-    (cond (isOwn m ticket item)
-    (rewriteAt m (rowNo m ticket) (ownIndex m ticket item) value)
-    (insertWrite m (rowNo m ticket) (rowWith m ticket) item value)))
+unfoldable pub writeRow : Memory → ℕ → ℕ → ℤ → Outcome
+writeRow m r item value =
+    cond (eqb (writeRefusal m r item) 9) (staleAt m r)
+    (unless (writeRefusal m r item) m
+    (cond (isOwn m r item) (rewriteAt m r (ownIndex m r item) value) (insertWrite m r (rowIn m r) item value)))
+
+abbrev pub writeStep : Memory → ℕ → ℕ → ℤ → Outcome
+writeStep m ticket item value = writeRow m (rowNo m ticket) item value
 
 -- ---- ask
 
 unfoldable pub askRefusal : Memory → ℕ → ℕ
-askRefusal m ticket =
+askRefusal m r =
     firstOf
     (refuse 1 (not (eqb (length (m .txns .queue)) 6))
-    ∷ refuse 3 (notOpen m ticket)
-    ∷ refuse 4 (notActive m ticket)
+    ∷ refuse 3 (notOpen r)
+    ∷ refuse 4 (notActive m r)
     ∷ [])
 
 -- an empty writeset commits and ends on the spot
@@ -204,21 +218,25 @@ queueAt m r t =
       snapshots = x .snapshots;
     }))
 
-unfoldable pub askStep : Memory → ℕ → Outcome
-askStep m ticket =
-    unless (askRefusal m ticket) m
-    (cond (eqb (writeCount (rowWith m ticket)) 0) (readOnlyAt m (rowNo m ticket)) (queueAt m (rowNo m ticket) (rowWith m ticket)))
+unfoldable pub askRow : Memory → ℕ → Outcome
+askRow m r = unless (askRefusal m r) m (cond (eqb (writeCount (rowIn m r)) 0) (readOnlyAt m r) (queueAt m r (rowIn m r)))
+
+abbrev pub askStep : Memory → ℕ → Outcome
+askStep m ticket = askRow m (rowNo m ticket)
 
 -- ---- withdraw
 
 unfoldable pub withdrawRefusal : Memory → ℕ → ℕ
-withdrawRefusal m ticket = firstOf (refuse 3 (notOpen m ticket) ∷ refuse 4 (notActive m ticket) ∷ [])
+withdrawRefusal m r = firstOf (refuse 3 (notOpen r) ∷ refuse 4 (notActive m r) ∷ [])
 
 unfoldable pub withdrawAt : Memory → ℕ → Outcome
 withdrawAt m r = outcome withdrew (withTxns m (withWithdrawn (m .counts) (bump (m .counts .withdrawn))) (withTable (m .txns) (set (m .txns .table) r closed)))
 
-unfoldable pub withdrawStep : Memory → ℕ → Outcome
-withdrawStep m ticket = unless (withdrawRefusal m ticket) m (withdrawAt m (rowNo m ticket))
+unfoldable pub withdrawRow : Memory → ℕ → Outcome
+withdrawRow m r = unless (withdrawRefusal m r) m (withdrawAt m r)
+
+abbrev pub withdrawStep : Memory → ℕ → Outcome
+withdrawStep m ticket = withdrawRow m (rowNo m ticket)
 
 -- ---- report
 

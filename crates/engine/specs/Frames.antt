@@ -33,10 +33,10 @@ pub record Refusals : Type 0 where
   pub unchanged : (m : Memory) (c : Call) → (refusalOf m c ≡ 0 → ⊥) → (refusalOf m c ≡ 9 → ⊥) → step m c .memory ≡ m
   -- 9 is a write's, and ends its transaction as aborted and does nothing else
   pub nine : (m : Memory) (c : Call) → refusalOf m c ≡ 9 → isWrite c ≡ true
-  pub stale : (m : Memory) (ticket item : ℕ) (value : ℤ) → writeRefusal m ticket item ≡ 9
+  pub stale : (m : Memory) (ticket item : ℕ) (value : ℤ) → writeRefusal m (rowNo m ticket) item ≡ 9
       → step m (write ticket item value) .memory
       ≡ withTxns m (withAborted (m .counts) (bump (m .counts .aborted))) (withTable (m .txns) (set (m .txns .table) (rowNo m ticket) closed))
-  pub stale-open : (m : Memory) (ticket item : ℕ) (value : ℤ) → length (m .txns .table) ≡ 6 → writeRefusal m ticket item ≡ 9
+  pub stale-open : (m : Memory) (ticket item : ℕ) (value : ℤ) → length (m .txns .table) ≡ 6 → writeRefusal m (rowNo m ticket) item ≡ 9
       → openCount (m .txns .table) ≡ suc (openCount (step m (write ticket item value) .memory .txns .table))
 
 -- the two lists are equal but from `at` to `at + n`

@@ -4,7 +4,7 @@ use mathlib.Core.List.{List, [], _∷_}
 use lib.IntN.{ℤ}
 use Rattle.memory.specs.Memory.{Memory}
 use Rattle.engine.specs.Calls.{Outcome}
-use Rattle.engine.specs.Client.{beginRefusal, beginStep, readRefusal, readStep, writeRefusal, writeStep, askRefusal, askStep, withdrawRefusal, withdrawStep, reportStep}
+use Rattle.engine.specs.Client.{rowNo, freeNo, beginRefusal, beginStep, readRefusal, readStep, writeRefusal, writeStep, askRefusal, askStep, withdrawRefusal, withdrawStep, reportStep}
 use Rattle.engine.specs.Moves.{sendRefusal, sendStep, deliverRefusal, deliverStep, workRefusal, workStep}
 
 -- tickets, items, values, the lent block of a send and the bytes of a deliver are any
@@ -32,11 +32,11 @@ step m work = workStep m
 
 -- the first refusal of each call's list that holds, 0 where none does
 unfoldable pub refusalOf : Memory → Call → ℕ
-refusalOf m begin = beginRefusal m
-refusalOf m (read ticket item) = readRefusal m ticket item
-refusalOf m (write ticket item value) = writeRefusal m ticket item
-refusalOf m (ask ticket) = askRefusal m ticket
-refusalOf m (withdraw ticket) = withdrawRefusal m ticket
+refusalOf m begin = beginRefusal m (freeNo m)
+refusalOf m (read ticket item) = readRefusal m (rowNo m ticket) item
+refusalOf m (write ticket item value) = writeRefusal m (rowNo m ticket) item
+refusalOf m (ask ticket) = askRefusal m (rowNo m ticket)
+refusalOf m (withdraw ticket) = withdrawRefusal m (rowNo m ticket)
 refusalOf m report = 0
 refusalOf m (send block) = sendRefusal m block
 refusalOf m (deliver bytes) = deliverRefusal m bytes

@@ -8,13 +8,13 @@ use crate::replicas::Replica;
 use client::Answered;
 use client::AskAnswer;
 use client::BeginAnswer;
-use client::Changed;
 use client::ReadAnswer;
 use delivering::DeliverAnswer;
 use memory::Counts;
 use memory::Turn;
 use memory::Txn;
 use sending::SendAnswer;
+use tickets::Changed;
 use working::WorkAnswer;
 
 fn after(answer: Answer, turn: Turn, counts: Counts, table: [Txn; 6]) -> Done {
@@ -108,7 +108,7 @@ fn make(
 fn begin(replica: Replica, values: &[i32], snapshots: &mut [i32]) -> Done {
     let table = replica.table;
     let counts = replica.counts;
-    let begun = client::calls::begin(table, counts, values, &mut *snapshots);
+    let begun = tickets::begin(table, counts, values, &mut *snapshots);
     let given = begun.answer;
     let answer = match given {
         BeginAnswer::Ticket(ticket) => Answer::Number(ticket),
@@ -121,7 +121,7 @@ fn begin(replica: Replica, values: &[i32], snapshots: &mut [i32]) -> Done {
 
 fn read(call: Call, replica: Replica, items: &[u8], writes: &[i32], snapshots: &[i32]) -> Done {
     let table = replica.table;
-    let given = client::calls::read(table, items, writes, snapshots, call.first, call.second);
+    let given = tickets::read(table, items, writes, snapshots, call.first, call.second);
     let answer = match given {
         ReadAnswer::Value(value) => Answer::Value(value),
         ReadAnswer::Refused(number) => Answer::Refused(number),
@@ -139,7 +139,7 @@ fn write(
     let turn = replica.turn;
     let table = replica.table;
     let counts = replica.counts;
-    let changed = client::calls::write(
+    let changed = tickets::write(
         turn,
         table,
         counts,
@@ -156,7 +156,7 @@ fn write(
 fn ask(call: Call, replica: Replica, queue: &mut [u32]) -> Done {
     let table = replica.table;
     let counts = replica.counts;
-    let asked = client::calls::ask(table, counts, &mut *queue, call.first);
+    let asked = tickets::ask(table, counts, &mut *queue, call.first);
     let given = asked.answer;
     let answer = match given {
         AskAnswer::Queued => Answer::Number(0),
@@ -171,7 +171,7 @@ fn ask(call: Call, replica: Replica, queue: &mut [u32]) -> Done {
 fn withdraw(call: Call, replica: Replica) -> Done {
     let table = replica.table;
     let counts = replica.counts;
-    let changed = client::calls::withdraw(table, counts, call.first);
+    let changed = tickets::withdraw(table, counts, call.first);
     plain(replica, changed)
 }
 
@@ -179,7 +179,7 @@ fn report(replica: Replica) -> Done {
     let turn = replica.turn;
     let table = replica.table;
     let counts = replica.counts;
-    let numbers = client::calls::report(turn, table, counts);
+    let numbers = client::report(turn, table, counts);
     unchanged(Answer::Numbers(numbers), replica)
 }
 

@@ -10,7 +10,7 @@ use Rattle.memory.specs.Memory.{Memory}
 use Rattle.memory.specs.Rows.{closed, rowOf}
 use Rattle.engine.specs.Calls.{Outcome, outcome}
 use Rattle.engine.specs.Calls.Answer.{refused}
-use Rattle.engine.specs.Client.{withdrawRefusal, withdrawAt, withdrawStep}
+use Rattle.engine.specs.Client.{withdrawRefusal, withdrawAt, withdrawRow, withdrawStep}
 use Rattle.engine.proofs.Tests.{unless-by}
 use Rattle.client.specs.Lent.{withdrawParts}
 use Rattle.lent.specs.Table.{loaded, stored}
@@ -41,6 +41,6 @@ module _ (t : List Txn) (m : Memory) (counts : Counts) (ticket : ℕ) where
   Tabled o = (number o ≡ 0 → o .memory .txns .table ≡ set t (rowOf ticket t) closed) × ((number o ≡ 0 → ⊥) → o .memory .txns .table ≡ t)
 
   pub withdraw-table : Tabled (withdrawStep (withdrawParts m counts t) ticket)
-  unfolding withdrawStep withdrawAt
+  unfolding withdrawRow withdrawAt
   withdraw-table =
-      unless-by Tabled (withdrawRefusal (withdrawParts m counts t) ticket) (withdrawParts m counts t) (λ z. ((λ e. refl), (λ n. absurd (n refl)))) (λ z. ((λ e. absurd (z e)), (λ n. refl)))
+      unless-by Tabled (withdrawRefusal (withdrawParts m counts t) (rowOf ticket t)) (withdrawParts m counts t) (λ z. ((λ e. refl), (λ n. absurd (n refl)))) (λ z. ((λ e. absurd (z e)), (λ n. refl)))

@@ -110,10 +110,10 @@ pub extern "C" fn stemline_begin(
 #[no_mangle]
 pub extern "C" fn stemline_read(
     table: &[Txn],
+    ticket: u32,
     items: &[u8],
     writes: &[i32],
     snapshots: &[i32],
-    ticket: u32,
     item: u32,
 ) -> ReadReply
     ensures { λ r. ⌜ ((m : Memory) → (r ≡ readReply (called (readParts m (now (table .entry)) (now (items .entry)) (now (writes .entry)) (now (snapshots .entry))) (readStep (readParts m (now (table .entry)) (now (items .entry)) (now (writes .entry)) (now (snapshots .entry))) ticket item))) × (readParts m (now (table .entry)) (now (items .entry)) (now (writes .entry)) (now (snapshots .entry)) ≡ called (readParts m (now (table .entry)) (now (items .entry)) (now (writes .entry)) (now (snapshots .entry))) (readStep (readParts m (now (table .entry)) (now (items .entry)) (now (writes .entry)) (now (snapshots .entry))) ticket item) .memory)) ⌝ }
@@ -123,18 +123,18 @@ pub extern "C" fn stemline_read(
     }
     let at = find(table, ticket);
     let t = row(table, at);
-    read_on(at, t, items, writes, snapshots, ticket, item)
+    read_on(at, t, items, writes, snapshots, item)
 }
 
 #[no_mangle]
 pub extern "C" fn stemline_write(
     table: &mut [Txn],
     turn: &Turn,
+    ticket: u32,
     counts: Counts,
     items: &mut [u8],
     writes: &mut [i32],
     stamps: &[u32],
-    ticket: u32,
     item: u32,
     value: i32,
 ) -> Reply
@@ -144,22 +144,9 @@ pub extern "C" fn stemline_write(
         return replied(1, counts);
     }
     let at = find(table, ticket);
-    let t = row(table, at);
     let rows = load(table);
     let now = copy_turn(turn);
-    let done = write_on(
-        at,
-        t,
-        rows,
-        now,
-        counts,
-        items,
-        writes,
-        stamps,
-        ticket,
-        item,
-        value,
-    );
+    let done = write_on(at, rows, now, counts, items, writes, stamps, item, value);
     put(table, at, done.row);
     done.reply
 }
@@ -167,9 +154,9 @@ pub extern "C" fn stemline_write(
 #[no_mangle]
 pub extern "C" fn stemline_ask(
     table: &mut [Txn],
+    ticket: u32,
     counts: Counts,
     queue: &mut [u32],
-    ticket: u32,
 ) -> AskReply
     ensures { λ r. ⌜ ((m : Memory) → (r ≡ askReply (called (askParts m counts (now (table .entry)) (now (queue .entry))) (askStep (askParts m counts (now (table .entry)) (now (queue .entry))) ticket))) × (askParts m (r .counts) (now (table .exit)) (now (queue .exit)) ≡ called (askParts m counts (now (table .entry)) (now (queue .entry))) (askStep (askParts m counts (now (table .entry)) (now (queue .entry))) ticket) .memory)) ⌝ }
 {
@@ -178,13 +165,13 @@ pub extern "C" fn stemline_ask(
     }
     let at = find(table, ticket);
     let t = row(table, at);
-    let done = ask_on(at, t, counts, queue, ticket);
+    let done = ask_on(at, t, counts, queue);
     put(table, at, done.row);
     done.reply
 }
 
 #[no_mangle]
-pub extern "C" fn stemline_withdraw(table: &mut [Txn], counts: Counts, ticket: u32) -> Reply
+pub extern "C" fn stemline_withdraw(table: &mut [Txn], ticket: u32, counts: Counts) -> Reply
     ensures { λ r. ⌜ ((m : Memory) → (r ≡ reply (called (withdrawParts m counts (now (table .entry))) (withdrawStep (withdrawParts m counts (now (table .entry))) ticket))) × (withdrawParts m (r .counts) (now (table .exit)) ≡ called (withdrawParts m counts (now (table .entry))) (withdrawStep (withdrawParts m counts (now (table .entry))) ticket) .memory)) ⌝ }
 {
     if table.len() != 6 {
@@ -192,7 +179,7 @@ pub extern "C" fn stemline_withdraw(table: &mut [Txn], counts: Counts, ticket: u
     }
     let at = find(table, ticket);
     let t = row(table, at);
-    let done = withdraw_on(at, t, counts, ticket);
+    let done = withdraw_on(at, t, counts);
     let reply = done.reply;
     if reply.number != 0 {
         return reply;

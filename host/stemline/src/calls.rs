@@ -81,10 +81,10 @@ pub fn begin(
 #[inline]
 pub fn read(
     table: &[Txn],
+    ticket: u32,
     items: &[u8],
     writes: &[i32],
     snapshots: &[i32],
-    ticket: u32,
     item: u32,
 ) -> ReadReply {
     // SAFETY: each pointer comes with the length of its own slice, borrowed for the call.
@@ -92,13 +92,13 @@ pub fn read(
         ffi::stemline_read(
             table.as_ptr(),
             table.len(),
+            ticket,
             items.as_ptr(),
             items.len(),
             writes.as_ptr(),
             writes.len(),
             snapshots.as_ptr(),
             snapshots.len(),
-            ticket,
             item,
         )
     }
@@ -110,11 +110,11 @@ pub fn read(
 pub fn write(
     table: &mut [Txn],
     turn: &Turn,
+    ticket: u32,
     counts: Counts,
     items: &mut [u8],
     writes: &mut [i32],
     stamps: &[u32],
-    ticket: u32,
     item: u32,
     value: i32,
 ) -> Reply {
@@ -124,6 +124,7 @@ pub fn write(
             table.as_mut_ptr(),
             table.len(),
             turn,
+            ticket,
             counts,
             items.as_mut_ptr(),
             items.len(),
@@ -131,7 +132,6 @@ pub fn write(
             writes.len(),
             stamps.as_ptr(),
             stamps.len(),
-            ticket,
             item,
             value,
         )
@@ -140,25 +140,25 @@ pub fn write(
 
 /// Requests commit. Refused by 1, 3, 4.
 #[inline]
-pub fn ask(table: &mut [Txn], counts: Counts, queue: &mut [u32], ticket: u32) -> AskReply {
+pub fn ask(table: &mut [Txn], ticket: u32, counts: Counts, queue: &mut [u32]) -> AskReply {
     // SAFETY: each pointer comes with the length of its own slice, borrowed for the call.
     unsafe {
         ffi::stemline_ask(
             table.as_mut_ptr(),
             table.len(),
+            ticket,
             counts,
             queue.as_mut_ptr(),
             queue.len(),
-            ticket,
         )
     }
 }
 
 /// Ends an active transaction. Refused by 1, 3, 4.
 #[inline]
-pub fn withdraw(table: &mut [Txn], counts: Counts, ticket: u32) -> Reply {
+pub fn withdraw(table: &mut [Txn], ticket: u32, counts: Counts) -> Reply {
     // SAFETY: the pointer comes with the length of its slice, borrowed for the call.
-    unsafe { ffi::stemline_withdraw(table.as_mut_ptr(), table.len(), counts, ticket) }
+    unsafe { ffi::stemline_withdraw(table.as_mut_ptr(), table.len(), ticket, counts) }
 }
 
 /// The replica's report. Refused by 1.

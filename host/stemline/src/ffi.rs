@@ -165,19 +165,20 @@ extern "C" {
     pub fn stemline_read(
         table: *const Txn,
         table_length: usize,
+        ticket: u32,
         items: *const u8,
         items_length: usize,
         writes: *const i32,
         writes_length: usize,
         snapshots: *const i32,
         snapshots_length: usize,
-        ticket: u32,
         item: u32,
     ) -> ReadReply;
     pub fn stemline_write(
         table: *mut Txn,
         table_length: usize,
         turn: *const Turn,
+        ticket: u32,
         counts: Counts,
         items: *mut u8,
         items_length: usize,
@@ -185,23 +186,22 @@ extern "C" {
         writes_length: usize,
         stamps: *const u32,
         stamps_length: usize,
-        ticket: u32,
         item: u32,
         value: i32,
     ) -> Reply;
     pub fn stemline_ask(
         table: *mut Txn,
         table_length: usize,
+        ticket: u32,
         counts: Counts,
         queue: *mut u32,
         queue_length: usize,
-        ticket: u32,
     ) -> AskReply;
     pub fn stemline_withdraw(
         table: *mut Txn,
         table_length: usize,
-        counts: Counts,
         ticket: u32,
+        counts: Counts,
     ) -> Reply;
     pub fn stemline_report(
         table: *const Txn,

@@ -86,10 +86,10 @@ impl Memory {
     pub fn read(&self, ticket: u32, item: u32) -> ReadReply {
         calls::read(
             &self.table,
+            ticket,
             &self.items,
             &self.writes,
             &self.snapshots,
-            ticket,
             item,
         )
     }
@@ -99,11 +99,11 @@ impl Memory {
         let reply = calls::write(
             &mut self.table,
             &self.turn,
+            ticket,
             self.counts,
             &mut self.items,
             &mut self.writes,
             &self.stamps,
-            ticket,
             item,
             value,
         );
@@ -113,14 +113,14 @@ impl Memory {
 
     #[inline]
     pub fn ask(&mut self, ticket: u32) -> AskReply {
-        let reply = calls::ask(&mut self.table, self.counts, &mut self.queue, ticket);
+        let reply = calls::ask(&mut self.table, ticket, self.counts, &mut self.queue);
         self.counts = reply.counts;
         reply
     }
 
     #[inline]
     pub fn withdraw(&mut self, ticket: u32) -> Reply {
-        let reply = calls::withdraw(&mut self.table, self.counts, ticket);
+        let reply = calls::withdraw(&mut self.table, ticket, self.counts);
         self.counts = reply.counts;
         reply
     }

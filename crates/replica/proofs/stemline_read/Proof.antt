@@ -81,43 +81,43 @@ abbrev ByValue : {M : Type 1} (𝓤 : URA M) (H : Heap 𝓤) (A : Atoms 𝓤) �
 ByValue 𝓤 H A mem run = tripleOf 𝓤 H A call.signature (call.spec 𝓤 H A mem run)
 
 module _ {M : Type 1} (𝓤 : URA M) (H : Heap 𝓤) (A : Atoms 𝓤) (W : Given 𝓤 H A) (mem : Memory → SProp 𝓤) (run : Routine → Fun 𝓤)
-    (κ₀ : Lft) (q₀ : Share) (κ₁ : Lft) (q₁ : Share) (κ₂ : Lft) (q₂ : Share) (κ₃ : Lft) (q₃ : Share) (b₀ o₀ : ℕ) (γ₀ : GName) (ys : List Txn) (room₀ : Room R (length ys)) (b₁ o₁ : ℕ) (γ₁ : GName) (items : List ℕ) (room₁ : Room u8 (length items)) (b₂ o₂ : ℕ) (γ₂ : GName) (writes : List ℤ) (room₂ : Room i32 (length writes)) (b₃ o₃ : ℕ) (γ₃ : GName) (snapshots : List ℤ) (room₃ : Room i32 (length snapshots)) (ticket : ℕ) (g₄ : ticket < 2 ^ 32) (item : ℕ) (g₅ : item < 2 ^ 32) where
+    (κ₀ : Lft) (q₀ : Share) (κ₂ : Lft) (q₂ : Share) (κ₃ : Lft) (q₃ : Share) (κ₄ : Lft) (q₄ : Share) (b₀ o₀ : ℕ) (γ₀ : GName) (ys : List Txn) (room₀ : Room R (length ys)) (ticket : ℕ) (g₁ : ticket < 2 ^ 32) (b₂ o₂ : ℕ) (γ₂ : GName) (items : List ℕ) (room₂ : Room u8 (length items)) (b₃ o₃ : ℕ) (γ₃ : GName) (writes : List ℤ) (room₃ : Room i32 (length writes)) (b₄ o₄ : ℕ) (γ₄ : GName) (snapshots : List ℤ) (room₄ : Room i32 (length snapshots)) (item : ℕ) (g₅ : item < 2 ^ 32) where
   -- what is handed on
-  abbrev rest : RefT (List ℕ) × (RefT (List ℤ) × (RefT (List ℤ) × (ℕ × (ℕ × Unit {0}))))
-  rest = (record { ptr = (b₁, o₁); name = γ₁; now = items }, (record { ptr = (b₂, o₂); name = γ₂; now = writes }, (record { ptr = (b₃, o₃); name = γ₃; now = snapshots }, (ticket, (item, tt)))))
+  abbrev rest : ℕ × (RefT (List ℕ) × (RefT (List ℤ) × (RefT (List ℤ) × (ℕ × Unit {0}))))
+  rest = (ticket, (record { ptr = (b₂, o₂); name = γ₂; now = items }, (record { ptr = (b₃, o₃); name = γ₃; now = writes }, (record { ptr = (b₄, o₄); name = γ₄; now = snapshots }, (item, tt)))))
 
   abbrev rest-at : List Val × (List Val × (List Val × (List Val × (List Val × Unit {0}))))
-  rest-at = (sliceVal (b₁, o₁) (length items) ∷ [], (sliceVal (b₂, o₂) (length writes) ∷ [], (sliceVal (b₃, o₃) (length snapshots) ∷ [], (vint w32 ticket ∷ [], (vint w32 item ∷ [], tt)))))
+  rest-at = (vint w32 ticket ∷ [], (sliceVal (b₂, o₂) (length items) ∷ [], (sliceVal (b₃, o₃) (length writes) ∷ [], (sliceVal (b₄, o₄) (length snapshots) ∷ [], (vint w32 item ∷ [], tt)))))
 
   abbrev Rest : Fml
-  Rest = owns (ShrSlice (named 1) κ₁ u8 ∷ ShrSlice (named 2) κ₂ i32 ∷ ShrSlice (named 3) κ₃ i32 ∷ u32 ∷ u32 ∷ []) rest rest-at
+  Rest = owns (u32 ∷ ShrSlice (named 1) κ₂ u8 ∷ ShrSlice (named 2) κ₃ i32 ∷ ShrSlice (named 3) κ₄ i32 ∷ u32 ∷ []) rest rest-at
 
   abbrev Toks : Item 𝓤
-  Toks = (‵ (flft κ₁ q₁) ⊛ (‵ (flft κ₂ q₂) ⊛ (‵ (flft κ₃ q₃) ⊛ ‵ ftrue)))
+  Toks = (‵ (flft κ₂ q₂) ⊛ (‵ (flft κ₃ q₃) ⊛ (‵ (flft κ₄ q₄) ⊛ ‵ ftrue)))
 
-  abbrev a : RefT (List Txn) × (RefT (List ℕ) × (RefT (List ℤ) × (RefT (List ℤ) × (ℕ × (ℕ × Unit {0})))))
+  abbrev a : RefT (List Txn) × (ℕ × (RefT (List ℕ) × (RefT (List ℤ) × (RefT (List ℤ) × (ℕ × Unit {0})))))
   a = (record { ptr = (b₀, o₀); name = γ₀; now = ys }, rest)
 
   abbrev at : List Val × (List Val × (List Val × (List Val × (List Val × (List Val × Unit {0})))))
   at = (sliceVal (b₀, o₀) (length ys) ∷ [], rest-at)
 
   abbrev bound : walkOf 𝓤 H A own.ended stayed (own.clauses 𝓤 H A mem run) .Ghost
-  bound = (((κ₀, (κ₁, (κ₂, (κ₃, tt)))), (q₀, (q₁, (q₂, (q₃, tt)))), tt, a, at), tt)
+  bound = (((κ₀, (κ₂, (κ₃, (κ₄, tt)))), (q₀, (q₂, (q₃, (q₄, tt)))), tt, a, at), tt)
 
   abbrev Post : Val → SProp 𝓤
   Post = walkOf 𝓤 H A own.ended stayed (own.clauses 𝓤 H A mem run) .post bound
 
   abbrev κs₁ : Lfts 3
-  κs₁ = (κ₁, (κ₂, (κ₃, tt)))
+  κs₁ = (κ₂, (κ₃, (κ₄, tt)))
 
   abbrev a₁ : Args call.signature κs₁
-  a₁ = ((rowOf ticket ys), (rowAt ys (rowOf ticket ys), rest))
+  a₁ = ((rowOf ticket ys), (rowAt ys (rowOf ticket ys), rest .1))
 
   abbrev to-call : Val → ByValue 𝓤 H A mem run .Ghost
-  to-call v₂ = ((κs₁, (q₁, (q₂, (q₃, tt))), tt, a₁, (vint w64 (rowOf ticket ys) ∷ [], (v₂ ∷ [], rest-at))), tt)
+  to-call v₂ = ((κs₁, (q₂, (q₃, (q₄, tt))), tt, a₁, (vint w64 (rowOf ticket ys) ∷ [], (v₂ ∷ [], rest-at .1))), tt)
 
   asks-call : (rowOf ticket ys) < 2 ^ 64 → (v₂ : Val) → Is R (rowAt ys (rowOf ticket ys)) (v₂ ∷ []) → ent 𝓤 (⋆ 𝓤 H A (‵ Rest ∷ Toks ∷ [])) (ByValue 𝓤 H A mem run .pre (to-call v₂))
-  asks-call fits v₂ is₂ = qed W (‵ Rest ∷ Toks ∷ []) ∵ owned ! R (Is R) (makes 𝓤 H A) (rowAt ys (rowOf ticket ys)) (v₂ ∷ []) is₂ $ fjoin ! $ owned ! usize (Is usize) (uint-makes 𝓤 H A W w64) (rowOf ticket ys) _ (refl, fits) $ fjoin ! $ move ! (1 ∷ 0 ∷ []) $ join ! $ frame ! $ done !
+  asks-call fits v₂ is₂ = qed W (‵ Rest ∷ Toks ∷ []) ∵ fsplit ! $ drop ! $ owned ! R (Is R) (makes 𝓤 H A) (rowAt ys (rowOf ticket ys)) (v₂ ∷ []) is₂ $ fjoin ! $ owned ! usize (Is usize) (uint-makes 𝓤 H A W w64) (rowOf ticket ys) _ (refl, fits) $ fjoin ! $ move ! (1 ∷ 0 ∷ []) $ join ! $ frame ! $ done !
 
   abbrev to-refuse : Refuse 𝓤 H A mem run .Ghost
   to-refuse = ((tt, tt, tt, (1, tt), (vint w8 1 ∷ [], tt)), tt)
@@ -126,7 +126,7 @@ module _ {M : Type 1} (𝓤 : URA M) (H : Heap 𝓤) (A : Atoms 𝓤) (W : Given
   asks-refuse = qed W [] ∵ nothing ! $ owned ! u8 (Is u8) (uint-makes 𝓤 H A W w8) 1 _ (refl, omega arith) $ fjoin ! $ nothing ! $ join ! $ frame ! $ done !
 
   -- the end: what is left of table and turn, and what is said of the rest
-  ends : (v : Val) (r : ReadReply) → Is D.the-row r (v ∷ []) → ReadDid ys items writes snapshots ticket item r
+  ends : (v : Val) (r : ReadReply) → Is D.the-row r (v ∷ []) → ReadDid ys ticket items writes snapshots item r
       → ent 𝓤 (⋆ 𝓤 H A (‵ (ShrAt R b₀ o₀ κ₀ γ₀ ys) ∷ ‵ (flft κ₀ q₀) ∷ ‵ (fsep ftrue (fsep ftrue (fsep ftrue (fsep ftrue (fsep ftrue ftrue))))) ∷ Toks ∷ [])) (Post v)
   ends v r is did =
       qed W (‵ (ShrAt R b₀ o₀ κ₀ γ₀ ys) ∷ ‵ (flft κ₀ q₀) ∷ ‵ (fsep ftrue (fsep ftrue (fsep ftrue (fsep ftrue (fsep ftrue ftrue))))) ∷ Toks ∷ []) ∵ suffices ! _ (ends-at 𝓤 H A own.ended stayed (own.clauses 𝓤 H A mem run) W bound v r (tt, (tt, (tt, (tt, (tt, (tt, tt)))))) (tt, (tt, (tt, (tt, (tt, (tt, tt))))))) $ says ! did $
@@ -134,15 +134,15 @@ module _ {M : Type 1} (𝓤 : URA M) (H : Heap 𝓤) (A : Atoms 𝓤) (W : Given
 
   ends-not : (v : Val) → Is D.the-row (record { number = 1; value = pos 0 }) (v ∷ []) → (length ys ≡ 6 → ⊥) → ent 𝓤 (⋆ 𝓤 H A (‵ (ShrAt R b₀ o₀ κ₀ γ₀ ys) ∷ ‵ (flft κ₀ q₀) ∷ ‵ Rest ∷ Toks ∷ [])) (Post v)
   ends-not v is other =
-      qed W (‵ (ShrAt R b₀ o₀ κ₀ γ₀ ys) ∷ ‵ (flft κ₀ q₀) ∷ ‵ Rest ∷ Toks ∷ []) ∵ updating ! $ move ! (2 ∷ []) $ use1 W (later (‵ (fsep ftrue (fsep ftrue (fsep ftrue (fsep ftrue (fsep ftrue ftrue))))))) (go-all 𝓤 H A W 4 ((shrSliceOf (1 ∷ []) tt (plain (λ _. u8))) ∷ (shrSliceOf (2 ∷ []) tt (plain (λ _. i32))) ∷ (shrSliceOf (3 ∷ []) tt (plain (λ _. i32))) ∷ (plain (λ _. u32)) ∷ (plain (λ _. u32)) ∷ []) (yes, (yes, (yes, (yes, (yes, tt))))) (stay-none-slice (1 ∷ []) tt (plain (λ _. u8)) yes, (stay-none-slice (2 ∷ []) tt (plain (λ _. i32)) yes, (stay-none-slice (3 ∷ []) tt (plain (λ _. i32)) yes, (stay-none (λ _. u32) yes, (stay-none (λ _. u32) yes, tt))))) (goes-none-slice 𝓤 H A W 4 (1 ∷ []) tt (plain (λ _. u8)) yes, (goes-none-slice 𝓤 H A W 4 (2 ∷ []) tt (plain (λ _. i32)) yes, (goes-none-slice 𝓤 H A W 4 (3 ∷ []) tt (plain (λ _. i32)) yes, (goes-none 𝓤 H A W 4 (λ _. u32) yes (λ κs x f. refl), (goes-none 𝓤 H A W 4 (λ _. u32) yes (λ κs x f. refl), tt))))) (κ₀, (κ₁, (κ₂, (κ₃, tt)))) rest (tt, (tt, (tt, (tt, (tt, tt))))) rest-at (tt, (tt, (tt, (tt, (tt, tt)))))) $ await ! tt $ move ! (1 ∷ 2 ∷ 0 ∷ []) $
-      by ! (ends v (record { number = 1; value = pos 0 }) is (read-not ys items writes snapshots ticket item other))
+      qed W (‵ (ShrAt R b₀ o₀ κ₀ γ₀ ys) ∷ ‵ (flft κ₀ q₀) ∷ ‵ Rest ∷ Toks ∷ []) ∵ updating ! $ move ! (2 ∷ []) $ use1 W (later (‵ (fsep ftrue (fsep ftrue (fsep ftrue (fsep ftrue (fsep ftrue ftrue))))))) (go-all 𝓤 H A W 4 ((plain (λ _. u32)) ∷ (shrSliceOf (1 ∷ []) tt (plain (λ _. u8))) ∷ (shrSliceOf (2 ∷ []) tt (plain (λ _. i32))) ∷ (shrSliceOf (3 ∷ []) tt (plain (λ _. i32))) ∷ (plain (λ _. u32)) ∷ []) (yes, (yes, (yes, (yes, (yes, tt))))) (stay-none (λ _. u32) yes, (stay-none-slice (1 ∷ []) tt (plain (λ _. u8)) yes, (stay-none-slice (2 ∷ []) tt (plain (λ _. i32)) yes, (stay-none-slice (3 ∷ []) tt (plain (λ _. i32)) yes, (stay-none (λ _. u32) yes, tt))))) (goes-none 𝓤 H A W 4 (λ _. u32) yes (λ κs x f. refl), (goes-none-slice 𝓤 H A W 4 (1 ∷ []) tt (plain (λ _. u8)) yes, (goes-none-slice 𝓤 H A W 4 (2 ∷ []) tt (plain (λ _. i32)) yes, (goes-none-slice 𝓤 H A W 4 (3 ∷ []) tt (plain (λ _. i32)) yes, (goes-none 𝓤 H A W 4 (λ _. u32) yes (λ κs x f. refl), tt))))) (κ₀, (κ₂, (κ₃, (κ₄, tt)))) rest (tt, (tt, (tt, (tt, (tt, tt))))) rest-at (tt, (tt, (tt, (tt, (tt, tt)))))) $ await ! tt $ move ! (1 ∷ 2 ∷ 0 ∷ []) $
+      by ! (ends v (record { number = 1; value = pos 0 }) is (read-not ys ticket items writes snapshots item other))
 
   module _ (C : Calls 𝓤 H) (Λ : Loops 𝓤 H) (fm : FmC 𝓤 H (W .laws) C) (known-refuse : Triple 𝓤 (C #refuse) (Refuse 𝓤 H A mem run)) (known-find : Triple 𝓤 (C #find) (Find 𝓤 H A mem run)) (known-row : Triple 𝓤 (C #row) (Row 𝓤 H A mem run)) (known-call : Triple 𝓤 (C #call) (ByValue 𝓤 H A mem run)) where
-    walk : ent 𝓤 (onEntry 𝓤 H A own.signature (κ₀, (κ₁, (κ₂, (κ₃, tt)))) (q₀, (q₁, (q₂, (q₃, tt)))) a at) (WpFn 𝓤 H C Λ code.function (sliceVal (b₀, o₀) (length ys) ∷ sliceVal (b₁, o₁) (length items) ∷ sliceVal (b₂, o₂) (length writes) ∷ sliceVal (b₃, o₃) (length snapshots) ∷ vint w32 ticket ∷ vint w32 item ∷ []) Post)
+    walk : ent 𝓤 (onEntry 𝓤 H A own.signature (κ₀, (κ₂, (κ₃, (κ₄, tt)))) (q₀, (q₂, (q₃, (q₄, tt)))) a at) (WpFn 𝓤 H C Λ code.function (sliceVal (b₀, o₀) (length ys) ∷ vint w32 ticket ∷ sliceVal (b₂, o₂) (length items) ∷ sliceVal (b₃, o₃) (length writes) ∷ sliceVal (b₄, o₄) (length snapshots) ∷ vint w32 item ∷ []) Post)
     walk =
-        qed W ((‵ (flft κ₀ q₀) ⊛ (‵ (flft κ₁ q₁) ⊛ (‵ (flft κ₂ q₂) ⊛ (‵ (flft κ₃ q₃) ⊛ ‵ ftrue)))) ∷ ‵ (owns (ShrSlice (named 0) κ₀ R ∷ ShrSlice (named 1) κ₁ u8 ∷ ShrSlice (named 2) κ₂ i32 ∷ ShrSlice (named 3) κ₃ i32 ∷ u32 ∷ u32 ∷ []) a at) ∷ []) ∵ enter ! C Λ code.function (sliceVal (b₀, o₀) (length ys) ∷ sliceVal (b₁, o₁) (length items) ∷ sliceVal (b₂, o₂) (length writes) ∷ sliceVal (b₃, o₃) (length snapshots) ∷ vint w32 ticket ∷ vint w32 item ∷ []) _ $
+        qed W ((‵ (flft κ₀ q₀) ⊛ (‵ (flft κ₂ q₂) ⊛ (‵ (flft κ₃ q₃) ⊛ (‵ (flft κ₄ q₄) ⊛ ‵ ftrue)))) ∷ ‵ (owns (ShrSlice (named 0) κ₀ R ∷ u32 ∷ ShrSlice (named 1) κ₂ u8 ∷ ShrSlice (named 2) κ₃ i32 ∷ ShrSlice (named 3) κ₄ i32 ∷ u32 ∷ []) a at) ∷ []) ∵ enter ! C Λ code.function (sliceVal (b₀, o₀) (length ys) ∷ vint w32 ticket ∷ sliceVal (b₂, o₂) (length items) ∷ sliceVal (b₃, o₃) (length writes) ∷ sliceVal (b₄, o₄) (length snapshots) ∷ vint w32 item ∷ []) _ $
         alloc1 ! (λ l0. alloc1 ! (λ l1. alloc1 ! (λ l2. alloc1 ! (λ l3. alloc1 ! (λ l4. alloc1 ! (λ l5. alloc1 ! (λ l6. alloc1 ! (λ l7. alloc1 ! (λ l8. alloc1 ! (λ l9. alloc1 ! (λ l10. alloc0 ! $ params1 ! $
-        pass1 ! (init ! 18 refl (tt, (tt, (record { fits = room₀ .0 }, tt)))) $ pass1 ! (init ! 16 refl (tt, (tt, (record { fits = room₁ .0 }, tt)))) $ pass1 ! (init ! 14 refl (tt, (tt, (record { fits = room₂ .0 }, tt)))) $ pass1 ! (init ! 12 refl (tt, (tt, (record { fits = room₃ .0 }, tt)))) $ pass1 ! (init ! 10 refl (tt, record { fits = g₄ })) $ pass1 ! (init ! 8 refl (tt, record { fits = g₅ })) $ pass0 ! $
+        pass1 ! (init ! 18 refl (tt, (tt, (record { fits = room₀ .0 }, tt)))) $ pass1 ! (init ! 16 refl (tt, record { fits = g₁ })) $ pass1 ! (init ! 14 refl (tt, (tt, (record { fits = room₂ .0 }, tt)))) $ pass1 ! (init ! 12 refl (tt, (tt, (record { fits = room₃ .0 }, tt)))) $ pass1 ! (init ! 10 refl (tt, (tt, (record { fits = room₄ .0 }, tt)))) $ pass1 ! (init ! 8 refl (tt, record { fits = g₅ })) $ pass0 ! $
         move ! (23 ∷ []) $ fsplit ! $
         move ! (24 ∷ []) $ split ! $
         move ! (2 ∷ 0 ∷ 3 ∷ 1 ∷ []) $
@@ -158,32 +158,32 @@ module _ {M : Type 1} (𝓤 : URA M) (H : Heap 𝓤) (A : Atoms 𝓤) (W : Given
         frees-cell ! 24 refl refl $ frees-cell ! 22 refl refl $ frees-cell ! 20 refl refl $ frees-cell ! 18 refl refl $ frees-cell ! 16 refl refl $ frees-cell ! 14 refl refl $ frees-cell ! 12 refl refl $ frees-room ! 10 refl refl $ frees-room ! 8 refl refl $ frees-cell ! 6 refl refl $ frees-cell ! 4 refl refl $ free0 ! $
         by ! (ends-not _ is (unequal (length ys) 6 other)))))
         (λ six₀. let six = equal (length ys) 6 six₀ in
-        calls-lending ! fm (slice-shared R b₀ o₀ κ₀ q₀ γ₀ ys W room₀ vals tells (copies 𝓤 H A W)) (Find 𝓤 H A mem run) known-find (to-find 𝓤 H A W mem run b₀ o₀ ys ticket g₄) (asks-find 𝓤 H A W mem run b₀ o₀ ys ticket g₄) (λ u. Is usize (rowOf ticket ys) (u ∷ [])) (gives-find 𝓤 H A W mem run b₀ o₀ ys ticket g₄)
-        (λ ν δ i j. (and-then ! (load ! (from ! (stop !)) (look ! 22 refl)) (and-then ! (load ! (from ! (stop !)) (look ! 14 refl)) (no-more !)))) (λ v₁ is₁. land ! (from ! (stop !)) (init ! 10 refl (uint-lawful 𝓤 H A W w64 .typed (rowOf ticket ys) _ is₁ .0)) $
+        calls-lending ! fm (slice-shared R b₀ o₀ κ₀ q₀ γ₀ ys W room₀ vals tells (copies 𝓤 H A W)) (Find 𝓤 H A mem run) known-find (to-find 𝓤 H A W mem run b₀ o₀ ys ticket g₁) (asks-find 𝓤 H A W mem run b₀ o₀ ys ticket g₁) (λ u. Is usize (rowOf ticket ys) (u ∷ [])) (gives-find 𝓤 H A W mem run b₀ o₀ ys ticket g₁)
+        (λ ν δ i j. (and-then ! (load ! (from ! (stop !)) (look ! 22 refl)) (and-then ! (load ! (from ! (stop !)) (look ! 20 refl)) (no-more !)))) (λ v₁ is₁. land ! (from ! (stop !)) (init ! 10 refl (uint-lawful 𝓤 H A W w64 .typed (rowOf ticket ys) _ is₁ .0)) $
         rewrite ! 10 (λ (w : Val). ‵ (fat fullShare (tyInt w64) l7 0 w)) (ap only (uint-tells w64 (rowOf ticket ys) _ is₁)) refl $
         calls-lending ! fm (slice-shared R b₀ o₀ κ₀ q₀ γ₀ ys W room₀ vals tells (copies 𝓤 H A W)) (Row 𝓤 H A mem run) known-row (to-row 𝓤 H A W mem run b₀ o₀ ys (rowOf ticket ys) (is₁ .1)) (asks-row 𝓤 H A W mem run b₀ o₀ ys (rowOf ticket ys) (is₁ .1)) (λ u. Is R (rowAt ys (rowOf ticket ys)) (u ∷ [])) (gives-row 𝓤 H A W mem run b₀ o₀ ys (rowOf ticket ys) (is₁ .1))
         (λ ν δ i j. (and-then ! (load ! (from ! (stop !)) (look ! 22 refl)) (and-then ! (load ! (from ! (stop !)) (look ! 10 refl)) (no-more !)))) (λ v₂ is₂. land ! (from ! (stop !)) (init ! 8 refl (lawful 𝓤 H A W .typed (rowAt ys (rowOf ticket ys)) _ is₂ .0)) $
         move ! (2 ∷ 3 ∷ []) $
         -- the call by value
         use2 W (raw (ByValue 𝓤 H A mem run .pre (to-call v₂))) (asks-call (is₁ .1) v₂ is₂) $
-        calls-at ! fm (ByValue 𝓤 H A mem run) known-call (to-call v₂) (and-then ! (load ! (from ! (stop !)) (look ! 9 refl)) (and-then ! (load ! (from ! (stop !)) (look ! 7 refl)) (and-then ! (load ! (from ! (stop !)) (look ! 19 refl)) (and-then ! (load ! (from ! (stop !)) (look ! 17 refl)) (and-then ! (load ! (from ! (stop !)) (look ! 15 refl)) (and-then ! (load ! (from ! (stop !)) (look ! 13 refl)) (and-then ! (load ! (from ! (stop !)) (look ! 11 refl)) (no-more !)))))))) (λ u.
-        use1 W (later (some (λ (r : ReadReply). (Toks ⊛ ‵ (D.the-row .own r (u ∷ []))) ⊛ some (λ (ws : Lasts call.ended κs₁ a₁). ‵ (lasts call.ended κs₁ a₁ ws) ⊛ raw (fact 𝓤 (ReadOn (rowOf ticket ys) (rowAt ys (rowOf ticket ys)) items writes snapshots ticket item r)))))) (id⊢ 𝓤 _) $ await ! tt $ pick ! (λ r. split ! $ move ! (1 ∷ []) $ pick ! (λ ws.
-        split ! $ move ! (1 ∷ []) $ heard ! (ReadOn (rowOf ticket ys) (rowAt ys (rowOf ticket ys)) items writes snapshots ticket item r) (λ said. fsplit ! $ drop ! $ fsplit ! $ drop ! $ move ! (1 ∷ []) $ split ! $ move ! (1 ∷ []) $
+        calls-at ! fm (ByValue 𝓤 H A mem run) known-call (to-call v₂) (and-then ! (load ! (from ! (stop !)) (look ! 9 refl)) (and-then ! (load ! (from ! (stop !)) (look ! 7 refl)) (and-then ! (load ! (from ! (stop !)) (look ! 17 refl)) (and-then ! (load ! (from ! (stop !)) (look ! 15 refl)) (and-then ! (load ! (from ! (stop !)) (look ! 13 refl)) (and-then ! (load ! (from ! (stop !)) (look ! 11 refl)) (no-more !))))))) (λ u.
+        use1 W (later (some (λ (r : ReadReply). (Toks ⊛ ‵ (D.the-row .own r (u ∷ []))) ⊛ some (λ (ws : Lasts call.ended κs₁ a₁). ‵ (lasts call.ended κs₁ a₁ ws) ⊛ raw (fact 𝓤 (ReadOn (rowOf ticket ys) (rowAt ys (rowOf ticket ys)) items writes snapshots item r)))))) (id⊢ 𝓤 _) $ await ! tt $ pick ! (λ r. split ! $ move ! (1 ∷ []) $ pick ! (λ ws.
+        split ! $ move ! (1 ∷ []) $ heard ! (ReadOn (rowOf ticket ys) (rowAt ys (rowOf ticket ys)) items writes snapshots item r) (λ said. fsplit ! $ drop ! $ fsplit ! $ drop ! $ nothing ! $ fjoin ! $ move ! (1 ∷ []) $ split ! $ move ! (1 ∷ []) $
         peeks ! D.the-row (Is D.the-row) (shows 𝓤 H A D.the-row) r (u ∷ []) (λ is. drop ! $
         land ! (from ! (stop !)) (init ! 24 refl (LL.lawful D.the-type D′.the-laws 𝓤 H A W .typed r _ is .0)) $
         returns ! (look ! 24 refl) $
         frees-cell ! 24 refl refl $ frees-cell ! 22 refl refl $ frees-cell ! 20 refl refl $ frees-cell ! 18 refl refl $ frees-cell ! 16 refl refl $ frees-cell ! 14 refl refl $ frees-cell ! 12 refl refl $ frees-cell ! 10 refl refl $ frees-cell ! 8 refl refl $ frees-cell ! 6 refl refl $ frees-cell ! 4 refl refl $ free0 ! $
         move ! (2 ∷ 3 ∷ 1 ∷ 0 ∷ []) $
-        by ! (ends _ (r) is (read-did ys items writes snapshots ticket item r six said)))))))))))))))))))))
+        by ! (ends _ (r) is (read-did ys ticket items writes snapshots item r six said)))))))))))))))))))))
 
 module _ {M : Type 1} (𝓤 : URA M) (H : Heap 𝓤) (A : Atoms 𝓤) (W : Given 𝓤 H A) (mem : Memory → SProp 𝓤) (run : Routine → Fun 𝓤) (𝓣 : Tables 𝓤 H)
     (g-refuse : Triple 𝓤 (𝓣 .C #refuse) (Refuse 𝓤 H A mem run)) (g-find : Triple 𝓤 (𝓣 .C #find) (Find 𝓤 H A mem run)) (g-row : Triple 𝓤 (𝓣 .C #row) (Row 𝓤 H A mem run)) (g-call : Triple 𝓤 (𝓣 .C #call) (ByValue 𝓤 H A mem run)) where
   walks : Walks 𝓤 H A own.ended stayed (WpFn 𝓤 H (𝓣 .C) (𝓣 .Λ) code.function) (own.clauses 𝓤 H A mem run)
-  walks = walked 𝓤 H A own.ended stayed (own.clauses 𝓤 H A mem run) (WpFn 𝓤 H (𝓣 .C) (𝓣 .Λ) code.function) (λ κs. (slice-vals, (slice-vals, (slice-vals, (slice-vals, (uint-vals w32, (uint-vals w32, tt))))))) (λ κs. (shr-slice-tells (named 0) (κs .0) R, (shr-slice-tells (named 1) (κs .1 .0) u8, (shr-slice-tells (named 2) (κs .1 .1 .0) i32, (shr-slice-tells (named 3) (κs .1 .1 .1 .0) i32, (uint-tells w32, (uint-tells w32, tt)))))))
-      (λ κs qs bounds a _ are. via 𝓤 _ (fst∗ 𝓤 _ (emp 𝓤)) (walk 𝓤 H A W mem run (κs .0) (qs .0) (κs .1 .0) (qs .1 .0) (κs .1 .1 .0) (qs .1 .1 .0) (κs .1 .1 .1 .0) (qs .1 .1 .1 .0) (a .0 .ptr .0) (a .0 .ptr .1) (a .0 .name) (a .0 .now) (are .0 .0 .1) (a .1 .0 .ptr .0) (a .1 .0 .ptr .1) (a .1 .0 .name) (a .1 .0 .now) (are .1 .0 .0 .1) (a .1 .1 .0 .ptr .0) (a .1 .1 .0 .ptr .1) (a .1 .1 .0 .name) (a .1 .1 .0 .now) (are .1 .1 .0 .0 .1) (a .1 .1 .1 .0 .ptr .0) (a .1 .1 .1 .0 .ptr .1) (a .1 .1 .1 .0 .name) (a .1 .1 .1 .0 .now) (are .1 .1 .1 .0 .0 .1) (a .1 .1 .1 .1 .0) (are .1 .1 .1 .1 .0 .1) (a .1 .1 .1 .1 .1 .0) (are .1 .1 .1 .1 .1 .0 .1) (𝓣 .C) (𝓣 .Λ) (fmOf 𝓤 H (W .laws) 𝓣) g-refuse g-find g-row g-call))
+  walks = walked 𝓤 H A own.ended stayed (own.clauses 𝓤 H A mem run) (WpFn 𝓤 H (𝓣 .C) (𝓣 .Λ) code.function) (λ κs. (slice-vals, (uint-vals w32, (slice-vals, (slice-vals, (slice-vals, (uint-vals w32, tt))))))) (λ κs. (shr-slice-tells (named 0) (κs .0) R, (uint-tells w32, (shr-slice-tells (named 1) (κs .1 .0) u8, (shr-slice-tells (named 2) (κs .1 .1 .0) i32, (shr-slice-tells (named 3) (κs .1 .1 .1 .0) i32, (uint-tells w32, tt)))))))
+      (λ κs qs bounds a _ are. via 𝓤 _ (fst∗ 𝓤 _ (emp 𝓤)) (walk 𝓤 H A W mem run (κs .0) (qs .0) (κs .1 .0) (qs .1 .0) (κs .1 .1 .0) (qs .1 .1 .0) (κs .1 .1 .1 .0) (qs .1 .1 .1 .0) (a .0 .ptr .0) (a .0 .ptr .1) (a .0 .name) (a .0 .now) (are .0 .0 .1) (a .1 .0) (are .1 .0 .1) (a .1 .1 .0 .ptr .0) (a .1 .1 .0 .ptr .1) (a .1 .1 .0 .name) (a .1 .1 .0 .now) (are .1 .1 .0 .0 .1) (a .1 .1 .1 .0 .ptr .0) (a .1 .1 .1 .0 .ptr .1) (a .1 .1 .1 .0 .name) (a .1 .1 .1 .0 .now) (are .1 .1 .1 .0 .0 .1) (a .1 .1 .1 .1 .0 .ptr .0) (a .1 .1 .1 .1 .0 .ptr .1) (a .1 .1 .1 .1 .0 .name) (a .1 .1 .1 .1 .0 .now) (are .1 .1 .1 .1 .0 .0 .1) (a .1 .1 .1 .1 .1 .0) (are .1 .1 .1 .1 .1 .0 .1) (𝓣 .C) (𝓣 .Λ) (fmOf 𝓤 H (W .laws) 𝓣) g-refuse g-find g-row g-call))
 
   meets : Meets 𝓤 H A own.signature (WpFn 𝓤 H (𝓣 .C) (𝓣 .Λ) code.function) (own.spec 𝓤 H A mem run)
-  meets = walk-meets 𝓤 H A own.ended stayed W (goes-handed 𝓤 H A W 4 (shrSliceOf (0 ∷ []) tt (plain (λ _. R))) yes, (goes-handed 𝓤 H A W 4 (shrSliceOf (1 ∷ []) tt (plain (λ _. u8))) yes, (goes-handed 𝓤 H A W 4 (shrSliceOf (2 ∷ []) tt (plain (λ _. i32))) yes, (goes-handed 𝓤 H A W 4 (shrSliceOf (3 ∷ []) tt (plain (λ _. i32))) yes, (goes-handed 𝓤 H A W 4 (plain (λ _. u32)) yes, (goes-handed 𝓤 H A W 4 (plain (λ _. u32)) yes, tt)))))) (own.clauses 𝓤 H A mem run)
+  meets = walk-meets 𝓤 H A own.ended stayed W (goes-handed 𝓤 H A W 4 (shrSliceOf (0 ∷ []) tt (plain (λ _. R))) yes, (goes-handed 𝓤 H A W 4 (plain (λ _. u32)) yes, (goes-handed 𝓤 H A W 4 (shrSliceOf (1 ∷ []) tt (plain (λ _. u8))) yes, (goes-handed 𝓤 H A W 4 (shrSliceOf (2 ∷ []) tt (plain (λ _. i32))) yes, (goes-handed 𝓤 H A W 4 (shrSliceOf (3 ∷ []) tt (plain (λ _. i32))) yes, (goes-handed 𝓤 H A W 4 (plain (λ _. u32)) yes, tt)))))) (own.clauses 𝓤 H A mem run)
       (WpFn 𝓤 H (𝓣 .C) (𝓣 .Λ) code.function) (WpFn-mono 𝓤 H (W .laws) 𝓣 code.function) walks
 
 pub stemline-read-spec : {M : Type 1} → stated.statement M

@@ -89,21 +89,21 @@ abbrev ByValue : {M : Type 1} (𝓤 : URA M) (H : Heap 𝓤) (A : Atoms 𝓤) �
 ByValue 𝓤 H A mem run = tripleOf 𝓤 H A call.signature (call.spec 𝓤 H A mem run)
 
 module _ {M : Type 1} (𝓤 : URA M) (H : Heap 𝓤) (A : Atoms 𝓤) (W : Given 𝓤 H A) (mem : Memory → SProp 𝓤) (run : Routine → Fun 𝓤)
-    (κ₀ : Lft) (q₀ : Share) (b₀ o₀ : ℕ) (γ₀ : GName) (ys : List Txn) (room₀ : Room R (length ys)) (counts : Counts) (is-counts : Is N.the-row counts (LL.vals N.the-type N′.the-laws counts)) (ticket : ℕ) (g₂ : ticket < 2 ^ 32) where
+    (κ₀ : Lft) (q₀ : Share) (b₀ o₀ : ℕ) (γ₀ : GName) (ys : List Txn) (room₀ : Room R (length ys)) (ticket : ℕ) (g₁ : ticket < 2 ^ 32) (counts : Counts) (is-counts : Is N.the-row counts (LL.vals N.the-type N′.the-laws counts)) where
   -- what is handed on
-  abbrev rest : Counts × (ℕ × Unit {0})
-  rest = (counts, (ticket, tt))
+  abbrev rest : ℕ × (Counts × Unit {0})
+  rest = (ticket, (counts, tt))
 
   abbrev rest-at : List Val × (List Val × Unit {0})
-  rest-at = (LL.val N.the-type N′.the-laws counts ∷ [], (vint w32 ticket ∷ [], tt))
+  rest-at = (vint w32 ticket ∷ [], (LL.val N.the-type N′.the-laws counts ∷ [], tt))
 
   abbrev Rest : Fml
-  Rest = owns (N.the-row ∷ u32 ∷ []) rest rest-at
+  Rest = owns (u32 ∷ N.the-row ∷ []) rest rest-at
 
   abbrev Toks : Item 𝓤
   Toks = ‵ ftrue
 
-  abbrev a : RefT (List Txn) × (Counts × (ℕ × Unit {0}))
+  abbrev a : RefT (List Txn) × (ℕ × (Counts × Unit {0}))
   a = (record { ptr = (b₀, o₀); name = γ₀; now = ys }, rest)
 
   abbrev at : List Val × (List Val × (List Val × Unit {0}))
@@ -119,13 +119,13 @@ module _ {M : Type 1} (𝓤 : URA M) (H : Heap 𝓤) (A : Atoms 𝓤) (W : Given
   κs₁ = tt
 
   abbrev a₁ : Args call.signature κs₁
-  a₁ = ((rowOf ticket ys), (rowAt ys (rowOf ticket ys), rest))
+  a₁ = ((rowOf ticket ys), (rowAt ys (rowOf ticket ys), rest .1))
 
   abbrev to-call : Val → ByValue 𝓤 H A mem run .Ghost
-  to-call v₂ = ((κs₁, tt, tt, a₁, (vint w64 (rowOf ticket ys) ∷ [], (v₂ ∷ [], rest-at))), tt)
+  to-call v₂ = ((κs₁, tt, tt, a₁, (vint w64 (rowOf ticket ys) ∷ [], (v₂ ∷ [], rest-at .1))), tt)
 
   asks-call : (rowOf ticket ys) < 2 ^ 64 → (v₂ : Val) → Is R (rowAt ys (rowOf ticket ys)) (v₂ ∷ []) → ent 𝓤 (⋆ 𝓤 H A (‵ Rest ∷ Toks ∷ [])) (ByValue 𝓤 H A mem run .pre (to-call v₂))
-  asks-call fits v₂ is₂ = qed W (‵ Rest ∷ Toks ∷ []) ∵ owned ! R (Is R) (makes 𝓤 H A) (rowAt ys (rowOf ticket ys)) (v₂ ∷ []) is₂ $ fjoin ! $ owned ! usize (Is usize) (uint-makes 𝓤 H A W w64) (rowOf ticket ys) _ (refl, fits) $ fjoin ! $ move ! (1 ∷ 0 ∷ []) $ join ! $ frame ! $ done !
+  asks-call fits v₂ is₂ = qed W (‵ Rest ∷ Toks ∷ []) ∵ fsplit ! $ drop ! $ owned ! R (Is R) (makes 𝓤 H A) (rowAt ys (rowOf ticket ys)) (v₂ ∷ []) is₂ $ fjoin ! $ owned ! usize (Is usize) (uint-makes 𝓤 H A W w64) (rowOf ticket ys) _ (refl, fits) $ fjoin ! $ move ! (1 ∷ 0 ∷ []) $ join ! $ frame ! $ done !
 
   abbrev to-refuse : Refuse 𝓤 H A mem run .Ghost
   to-refuse = ((tt, tt, tt, (1, (counts, tt)), (vint w8 1 ∷ [], (LL.val N.the-type N′.the-laws counts ∷ [], tt))), tt)
@@ -134,7 +134,7 @@ module _ {M : Type 1} (𝓤 : URA M) (H : Heap 𝓤) (A : Atoms 𝓤) (W : Given
   asks-refuse = qed W [] ∵ nothing ! $ owned ! N.the-row (Is N.the-row) (LL.makes N.the-type N′.the-plain 𝓤 H A) counts _ is-counts $ fjoin ! $ owned ! u8 (Is u8) (uint-makes 𝓤 H A W w8) 1 _ (refl, omega arith) $ fjoin ! $ nothing ! $ join ! $ frame ! $ done !
 
   -- the end: what is left of table and turn, and what is said of the rest
-  ends : (v : Val) (r : Reply) (ys′ : List Txn) → Is Y.the-row r (v ∷ []) → length ys′ ≡ length ys → WithdrawDid ys counts ticket r ys′
+  ends : (v : Val) (r : Reply) (ys′ : List Txn) → Is Y.the-row r (v ∷ []) → length ys′ ≡ length ys → WithdrawDid ys ticket counts r ys′
       → ent 𝓤 (⋆ 𝓤 H A (‵ (MutAt R b₀ o₀ κ₀ γ₀ (length ys) ys′) ∷ ‵ (flft κ₀ q₀) ∷ ‵ (fsep ftrue (fsep ftrue ftrue)) ∷ Toks ∷ [])) (Post v)
   ends v r ys′ is long did =
       qed W (‵ (MutAt R b₀ o₀ κ₀ γ₀ (length ys) ys′) ∷ ‵ (flft κ₀ q₀) ∷ ‵ (fsep ftrue (fsep ftrue ftrue)) ∷ Toks ∷ []) ∵ suffices ! _ (ends-at 𝓤 H A own.ended stayed (own.clauses 𝓤 H A mem run) W bound v r (ys′, (tt, (tt, tt))) (long, (tt, (tt, tt)))) $ says ! did $
@@ -142,15 +142,15 @@ module _ {M : Type 1} (𝓤 : URA M) (H : Heap 𝓤) (A : Atoms 𝓤) (W : Given
 
   ends-not : (v : Val) → Is Y.the-row (record { number = 1; counts = counts }) (v ∷ []) → (length ys ≡ 6 → ⊥) → ent 𝓤 (⋆ 𝓤 H A (‵ (MutAt R b₀ o₀ κ₀ γ₀ (length ys) ys) ∷ ‵ (flft κ₀ q₀) ∷ ‵ Rest ∷ Toks ∷ [])) (Post v)
   ends-not v is other =
-      qed W (‵ (MutAt R b₀ o₀ κ₀ γ₀ (length ys) ys) ∷ ‵ (flft κ₀ q₀) ∷ ‵ Rest ∷ Toks ∷ []) ∵ updating ! $ move ! (2 ∷ []) $ use1 W (later (‵ (fsep ftrue (fsep ftrue ftrue)))) (go-all 𝓤 H A W 1 ((plain (λ _. N.the-row)) ∷ (plain (λ _. u32)) ∷ []) (yes, (yes, tt)) (stay-none (λ _. N.the-row) yes, (stay-none (λ _. u32) yes, tt)) (goes-none 𝓤 H A W 1 (λ _. N.the-row) yes (λ κs x f. refl), (goes-none 𝓤 H A W 1 (λ _. u32) yes (λ κs x f. refl), tt)) (κ₀, tt) rest (tt, (tt, tt)) rest-at (tt, (tt, tt))) $ await ! tt $ move ! (1 ∷ 2 ∷ 0 ∷ []) $
-      by ! (ends v (record { number = 1; counts = counts }) ys is refl (withdraw-not ys counts ticket other))
+      qed W (‵ (MutAt R b₀ o₀ κ₀ γ₀ (length ys) ys) ∷ ‵ (flft κ₀ q₀) ∷ ‵ Rest ∷ Toks ∷ []) ∵ updating ! $ move ! (2 ∷ []) $ use1 W (later (‵ (fsep ftrue (fsep ftrue ftrue)))) (go-all 𝓤 H A W 1 ((plain (λ _. u32)) ∷ (plain (λ _. N.the-row)) ∷ []) (yes, (yes, tt)) (stay-none (λ _. u32) yes, (stay-none (λ _. N.the-row) yes, tt)) (goes-none 𝓤 H A W 1 (λ _. u32) yes (λ κs x f. refl), (goes-none 𝓤 H A W 1 (λ _. N.the-row) yes (λ κs x f. refl), tt)) (κ₀, tt) rest (tt, (tt, tt)) rest-at (tt, (tt, tt))) $ await ! tt $ move ! (1 ∷ 2 ∷ 0 ∷ []) $
+      by ! (ends v (record { number = 1; counts = counts }) ys is refl (withdraw-not ys ticket counts other))
 
   module _ (C : Calls 𝓤 H) (Λ : Loops 𝓤 H) (fm : FmC 𝓤 H (W .laws) C) (known-refuse : Triple 𝓤 (C #refuse) (Refuse 𝓤 H A mem run)) (known-find : Triple 𝓤 (C #find) (Find 𝓤 H A mem run)) (known-row : Triple 𝓤 (C #row) (Row 𝓤 H A mem run)) (known-end : Triple 𝓤 (C #end) (End 𝓤 H A mem run)) (known-call : Triple 𝓤 (C #call) (ByValue 𝓤 H A mem run)) where
-    walk : ent 𝓤 (onEntry 𝓤 H A own.signature (κ₀, tt) (q₀, tt) a at) (WpFn 𝓤 H C Λ code.function (sliceVal (b₀, o₀) (length ys) ∷ LL.val N.the-type N′.the-laws counts ∷ vint w32 ticket ∷ []) Post)
+    walk : ent 𝓤 (onEntry 𝓤 H A own.signature (κ₀, tt) (q₀, tt) a at) (WpFn 𝓤 H C Λ code.function (sliceVal (b₀, o₀) (length ys) ∷ vint w32 ticket ∷ LL.val N.the-type N′.the-laws counts ∷ []) Post)
     walk =
-        qed W ((‵ (flft κ₀ q₀) ⊛ ‵ ftrue) ∷ ‵ (owns (MutSlice (named 0) κ₀ R ∷ N.the-row ∷ u32 ∷ []) a at) ∷ []) ∵ enter ! C Λ code.function (sliceVal (b₀, o₀) (length ys) ∷ LL.val N.the-type N′.the-laws counts ∷ vint w32 ticket ∷ []) _ $
+        qed W ((‵ (flft κ₀ q₀) ⊛ ‵ ftrue) ∷ ‵ (owns (MutSlice (named 0) κ₀ R ∷ u32 ∷ N.the-row ∷ []) a at) ∷ []) ∵ enter ! C Λ code.function (sliceVal (b₀, o₀) (length ys) ∷ vint w32 ticket ∷ LL.val N.the-type N′.the-laws counts ∷ []) _ $
         alloc1 ! (λ l0. alloc1 ! (λ l1. alloc1 ! (λ l2. alloc1 ! (λ l3. alloc1 ! (λ l4. alloc1 ! (λ l5. alloc1 ! (λ l6. alloc1 ! (λ l7. alloc1 ! (λ l8. alloc1 ! (λ l9. alloc1 ! (λ l10. alloc1 ! (λ l11. alloc1 ! (λ l12. alloc1 ! (λ l13. alloc1 ! (λ l14. alloc1 ! (λ l15. alloc1 ! (λ l16. alloc0 ! $ params1 ! $
-        pass1 ! (init ! 30 refl (tt, (tt, (record { fits = room₀ .0 }, tt)))) $ pass1 ! (init ! 28 refl (LL.lawful N.the-type N′.the-laws 𝓤 H A W .typed counts _ is-counts .0)) $ pass1 ! (init ! 26 refl (tt, record { fits = g₂ })) $ pass0 ! $
+        pass1 ! (init ! 30 refl (tt, (tt, (record { fits = room₀ .0 }, tt)))) $ pass1 ! (init ! 28 refl (tt, record { fits = g₁ })) $ pass1 ! (init ! 26 refl (LL.lawful N.the-type N′.the-laws 𝓤 H A W .typed counts _ is-counts .0)) $ pass0 ! $
         move ! (35 ∷ []) $ fsplit ! $
         move ! (36 ∷ []) $ split ! $
         move ! (2 ∷ 0 ∷ 3 ∷ 1 ∷ []) $
@@ -159,7 +159,7 @@ module _ {M : Type 1} (𝓤 : URA M) (H : Heap 𝓤) (A : Atoms 𝓤) (W : Given
         when ! (load ! (from ! (stop !)) (look ! 18 refl)) (λ other.
         -- another table than six rows
         use0 W (raw (Refuse 𝓤 H A mem run .pre to-refuse)) asks-refuse $
-        calls-at ! fm (Refuse 𝓤 H A mem run) known-refuse to-refuse (and-then ! (lit ! tt) (and-then ! (load ! (from ! (stop !)) (look ! 33 refl)) (no-more !))) (λ u.
+        calls-at ! fm (Refuse 𝓤 H A mem run) known-refuse to-refuse (and-then ! (lit ! tt) (and-then ! (load ! (from ! (stop !)) (look ! 31 refl)) (no-more !))) (λ u.
         use1 W (later (given (Is Y.the-row (record { number = 1; counts = counts }) (u ∷ [])) (‵ ftrue))) (answers 𝓤 H A W refuse.ended (refuse.clauses 𝓤 H A mem run) to-refuse (record { number = 1; counts = counts }) (λ r e. id⊢ 𝓤 _) u) $ await ! tt $ learn ! (λ is. drop ! $
         land ! (from ! (stop !)) (init ! 36 refl (LL.lawful Y.the-type Y′.the-laws 𝓤 H A W .typed (record { number = 1; counts = counts }) _ is .0)) $
         returns-within ! Post refl (look ! 36 refl) $
@@ -168,8 +168,8 @@ module _ {M : Type 1} (𝓤 : URA M) (H : Heap 𝓤) (A : Atoms 𝓤) (W : Given
         (λ six₀. let six = equal (length ys) 6 six₀ in
         assigns ! (addr ! (from ! (fld ! refl (hop ! (look-in ! 34 (sub ! 0 refl (whole !))) (stop !))))) (from ! (stop !)) (init ! 16 refl (tt, tt)) $
         assigns ! (agg ! (and-then ! (load ! (from ! (stop !)) (look ! 16 refl)) (and-then ! (load ! (from ! (fld ! refl (stop !))) (look-in ! 34 (sub ! 1 refl (whole !)))) (no-more !)))) (from ! (stop !)) (init ! 14 refl (tt, (tt, (record { fits = room₀ .0 }, tt)))) $
-        calls-lending ! fm (slice-read R b₀ o₀ κ₀ q₀ γ₀ ys W room₀) (Find 𝓤 H A mem run) known-find (to-find 𝓤 H A W mem run b₀ o₀ ys ticket g₂) (asks-find 𝓤 H A W mem run b₀ o₀ ys ticket g₂) (λ u. Is usize (rowOf ticket ys) (u ∷ [])) (gives-find 𝓤 H A W mem run b₀ o₀ ys ticket g₂)
-        (λ ν δ i j. (and-then ! (load ! (from ! (stop !)) (look ! 14 refl)) (and-then ! (load ! (from ! (stop !)) (look ! 30 refl)) (no-more !)))) (λ v₁ is₁. land ! (from ! (stop !)) (init ! 28 refl (uint-lawful 𝓤 H A W w64 .typed (rowOf ticket ys) _ is₁ .0)) $
+        calls-lending ! fm (slice-read R b₀ o₀ κ₀ q₀ γ₀ ys W room₀) (Find 𝓤 H A mem run) known-find (to-find 𝓤 H A W mem run b₀ o₀ ys ticket g₁) (asks-find 𝓤 H A W mem run b₀ o₀ ys ticket g₁) (λ u. Is usize (rowOf ticket ys) (u ∷ [])) (gives-find 𝓤 H A W mem run b₀ o₀ ys ticket g₁)
+        (λ ν δ i j. (and-then ! (load ! (from ! (stop !)) (look ! 14 refl)) (and-then ! (load ! (from ! (stop !)) (look ! 32 refl)) (no-more !)))) (λ v₁ is₁. land ! (from ! (stop !)) (init ! 28 refl (uint-lawful 𝓤 H A W w64 .typed (rowOf ticket ys) _ is₁ .0)) $
         rewrite ! 28 (λ (w : Val). ‵ (fat fullShare (tyInt w64) l4 0 w)) (ap only (uint-tells w64 (rowOf ticket ys) _ is₁)) refl $
         assigns ! (addr ! (from ! (fld ! refl (hop ! (look-in ! 34 (sub ! 0 refl (whole !))) (stop !))))) (from ! (stop !)) (init ! 12 refl (tt, tt)) $
         assigns ! (agg ! (and-then ! (load ! (from ! (stop !)) (look ! 12 refl)) (and-then ! (load ! (from ! (fld ! refl (stop !))) (look-in ! 34 (sub ! 1 refl (whole !)))) (no-more !)))) (from ! (stop !)) (init ! 10 refl (tt, (tt, (record { fits = room₀ .0 }, tt)))) $
@@ -178,9 +178,9 @@ module _ {M : Type 1} (𝓤 : URA M) (H : Heap 𝓤) (A : Atoms 𝓤) (W : Given
         move ! (2 ∷ 3 ∷ []) $
         -- the call by value
         use2 W (raw (ByValue 𝓤 H A mem run .pre (to-call v₂))) (asks-call (is₁ .1) v₂ is₂) $
-        calls-at ! fm (ByValue 𝓤 H A mem run) known-call (to-call v₂) (and-then ! (load ! (from ! (stop !)) (look ! 27 refl)) (and-then ! (load ! (from ! (stop !)) (look ! 25 refl)) (and-then ! (load ! (from ! (stop !)) (look ! 31 refl)) (and-then ! (load ! (from ! (stop !)) (look ! 29 refl)) (no-more !))))) (λ u.
-        use1 W (later (some (λ (r : Changed). (Toks ⊛ ‵ (D.the-row .own r (u ∷ []))) ⊛ some (λ (ws : Lasts call.ended κs₁ a₁). ‵ (lasts call.ended κs₁ a₁ ws) ⊛ raw (fact 𝓤 (WithdrawOn (rowOf ticket ys) (rowAt ys (rowOf ticket ys)) counts ticket r)))))) (id⊢ 𝓤 _) $ await ! tt $ pick ! (λ r. split ! $ move ! (1 ∷ []) $ pick ! (λ ws.
-        split ! $ move ! (1 ∷ []) $ heard ! (WithdrawOn (rowOf ticket ys) (rowAt ys (rowOf ticket ys)) counts ticket r) (λ said. fsplit ! $ drop ! $ fsplit ! $ drop ! $ move ! (1 ∷ []) $ split ! $ move ! (1 ∷ []) $
+        calls-at ! fm (ByValue 𝓤 H A mem run) known-call (to-call v₂) (and-then ! (load ! (from ! (stop !)) (look ! 27 refl)) (and-then ! (load ! (from ! (stop !)) (look ! 25 refl)) (and-then ! (load ! (from ! (stop !)) (look ! 29 refl)) (no-more !)))) (λ u.
+        use1 W (later (some (λ (r : Changed). (Toks ⊛ ‵ (D.the-row .own r (u ∷ []))) ⊛ some (λ (ws : Lasts call.ended κs₁ a₁). ‵ (lasts call.ended κs₁ a₁ ws) ⊛ raw (fact 𝓤 (WithdrawOn (rowOf ticket ys) (rowAt ys (rowOf ticket ys)) counts r)))))) (id⊢ 𝓤 _) $ await ! tt $ pick ! (λ r. split ! $ move ! (1 ∷ []) $ pick ! (λ ws.
+        split ! $ move ! (1 ∷ []) $ heard ! (WithdrawOn (rowOf ticket ys) (rowAt ys (rowOf ticket ys)) counts r) (λ said. fsplit ! $ drop ! $ fsplit ! $ drop ! $ nothing ! $ fjoin ! $ move ! (1 ∷ []) $ split ! $ move ! (1 ∷ []) $
         peeks ! D.the-row (Is D.the-row) (shows 𝓤 H A D.the-row) r (u ∷ []) (λ is. drop ! $
         land ! (from ! (stop !)) (init ! 24 refl (LL.lawful D.the-type D′.the-laws 𝓤 H A W .typed r _ is .0)) $
         rewrite ! 24 (λ (w : Val). ‵ (fat fullShare D′.mir l6 0 w)) (ap only (LL.tells D.the-type D′.the-laws r _ is)) refl $
@@ -194,7 +194,7 @@ module _ {M : Type 1} (𝓤 : URA M) (H : Heap 𝓤) (A : Atoms 𝓤) (W : Given
         returns-within ! Post refl (look ! 36 refl) $
         frees-cell ! 36 refl refl $ frees-cell ! 34 refl refl $ frees-cell ! 32 refl refl $ frees-cell ! 30 refl refl $ frees-cell ! 28 refl refl $ frees-cell ! 26 refl refl $ frees-cell ! 24 refl refl $ frees-cell ! 22 refl refl $ frees-cell ! 20 refl refl $ frees-cell ! 18 refl refl $ frees-cell ! 16 refl refl $ frees-cell ! 14 refl refl $ frees-cell ! 12 refl refl $ frees-cell ! 10 refl refl $ frees-room ! 8 refl refl $ frees-room ! 6 refl refl $ frees-room ! 4 refl refl $ free0 ! $
         move ! (2 ∷ 3 ∷ 1 ∷ 0 ∷ []) $
-        by ! (ends _ (r .reply) ys is₆ refl (withdraw-kept ys counts ticket r six said (unequal (r .reply .number) 0 refused))))
+        by ! (ends _ (r .reply) ys is₆ refl (withdraw-kept ys ticket counts r six said (unequal (r .reply .number) 0 refused))))
         (λ taken.
         assigns ! (addr ! (from ! (fld ! refl (hop ! (look-in ! 34 (sub ! 0 refl (whole !))) (stop !))))) (from ! (stop !)) (init ! 6 refl (tt, tt)) $
         assigns ! (agg ! (and-then ! (load ! (from ! (stop !)) (look ! 6 refl)) (and-then ! (load ! (from ! (fld ! refl (stop !))) (look-in ! 34 (sub ! 1 refl (whole !)))) (no-more !)))) (from ! (stop !)) (init ! 4 refl (tt, (tt, (record { fits = room₀ .0 }, tt)))) $
@@ -205,16 +205,16 @@ module _ {M : Type 1} (𝓤 : URA M) (H : Heap 𝓤) (A : Atoms 𝓤) (W : Given
         returns ! (look ! 36 refl) $
         frees-cell ! 36 refl refl $ frees-cell ! 34 refl refl $ frees-cell ! 32 refl refl $ frees-cell ! 30 refl refl $ frees-cell ! 28 refl refl $ frees-cell ! 26 refl refl $ frees-cell ! 24 refl refl $ frees-cell ! 22 refl refl $ frees-cell ! 20 refl refl $ frees-cell ! 18 refl refl $ frees-cell ! 16 refl refl $ frees-cell ! 14 refl refl $ frees-cell ! 12 refl refl $ frees-cell ! 10 refl refl $ frees-cell ! 8 refl refl $ frees-cell ! 6 refl refl $ frees-cell ! 4 refl refl $ free0 ! $
         move ! (0 ∷ 1 ∷ 3 ∷ 2 ∷ []) $
-        by ! (ends _ (r .reply) (set ys (rowOf ticket ys) closed) is₆ (length-set ys (rowOf ticket ys) closed) (withdraw-ended ys counts ticket r six said (equal (r .reply .number) 0 taken))))))))))))))))))))))))))))))
+        by ! (ends _ (r .reply) (set ys (rowOf ticket ys) closed) is₆ (length-set ys (rowOf ticket ys) closed) (withdraw-ended ys ticket counts r six said (equal (r .reply .number) 0 taken))))))))))))))))))))))))))))))
 
 module _ {M : Type 1} (𝓤 : URA M) (H : Heap 𝓤) (A : Atoms 𝓤) (W : Given 𝓤 H A) (mem : Memory → SProp 𝓤) (run : Routine → Fun 𝓤) (𝓣 : Tables 𝓤 H)
     (g-refuse : Triple 𝓤 (𝓣 .C #refuse) (Refuse 𝓤 H A mem run)) (g-find : Triple 𝓤 (𝓣 .C #find) (Find 𝓤 H A mem run)) (g-row : Triple 𝓤 (𝓣 .C #row) (Row 𝓤 H A mem run)) (g-end : Triple 𝓤 (𝓣 .C #end) (End 𝓤 H A mem run)) (g-call : Triple 𝓤 (𝓣 .C #call) (ByValue 𝓤 H A mem run)) where
   walks : Walks 𝓤 H A own.ended stayed (WpFn 𝓤 H (𝓣 .C) (𝓣 .Λ) code.function) (own.clauses 𝓤 H A mem run)
-  walks = walked 𝓤 H A own.ended stayed (own.clauses 𝓤 H A mem run) (WpFn 𝓤 H (𝓣 .C) (𝓣 .Λ) code.function) (λ κs. (slice-vals, (LL.vals N.the-type N′.the-laws, (uint-vals w32, tt)))) (λ κs. (mut-slice-tells (named 0) (κs .0) R, (LL.tells N.the-type N′.the-laws, (uint-tells w32, tt))))
-      (λ κs qs bounds a _ are. via 𝓤 _ (fst∗ 𝓤 _ (emp 𝓤)) (walk 𝓤 H A W mem run (κs .0) (qs .0) (a .0 .ptr .0) (a .0 .ptr .1) (a .0 .name) (a .0 .now) (are .0 .0 .1) (a .1 .0) (are .1 .0) (a .1 .1 .0) (are .1 .1 .0 .1) (𝓣 .C) (𝓣 .Λ) (fmOf 𝓤 H (W .laws) 𝓣) g-refuse g-find g-row g-end g-call))
+  walks = walked 𝓤 H A own.ended stayed (own.clauses 𝓤 H A mem run) (WpFn 𝓤 H (𝓣 .C) (𝓣 .Λ) code.function) (λ κs. (slice-vals, (uint-vals w32, (LL.vals N.the-type N′.the-laws, tt)))) (λ κs. (mut-slice-tells (named 0) (κs .0) R, (uint-tells w32, (LL.tells N.the-type N′.the-laws, tt))))
+      (λ κs qs bounds a _ are. via 𝓤 _ (fst∗ 𝓤 _ (emp 𝓤)) (walk 𝓤 H A W mem run (κs .0) (qs .0) (a .0 .ptr .0) (a .0 .ptr .1) (a .0 .name) (a .0 .now) (are .0 .0 .1) (a .1 .0) (are .1 .0 .1) (a .1 .1 .0) (are .1 .1 .0) (𝓣 .C) (𝓣 .Λ) (fmOf 𝓤 H (W .laws) 𝓣) g-refuse g-find g-row g-end g-call))
 
   meets : Meets 𝓤 H A own.signature (WpFn 𝓤 H (𝓣 .C) (𝓣 .Λ) code.function) (own.spec 𝓤 H A mem run)
-  meets = walk-meets 𝓤 H A own.ended stayed W (goes-slice 𝓤 H A W 1 0 tt (plain (λ _. R)), (goes-handed 𝓤 H A W 1 (plain (λ _. N.the-row)) yes, (goes-handed 𝓤 H A W 1 (plain (λ _. u32)) yes, tt))) (own.clauses 𝓤 H A mem run)
+  meets = walk-meets 𝓤 H A own.ended stayed W (goes-slice 𝓤 H A W 1 0 tt (plain (λ _. R)), (goes-handed 𝓤 H A W 1 (plain (λ _. u32)) yes, (goes-handed 𝓤 H A W 1 (plain (λ _. N.the-row)) yes, tt))) (own.clauses 𝓤 H A mem run)
       (WpFn 𝓤 H (𝓣 .C) (𝓣 .Λ) code.function) (WpFn-mono 𝓤 H (W .laws) 𝓣 code.function) walks
 
 pub stemline-withdraw-spec : {M : Type 1} → stated.statement M

@@ -139,7 +139,7 @@ fn withdraw_from_c() {
             stemline_counts counts = {2, 0, 5, 0, 9, 1, 2, 3, 4};
             for (size_t length = 5; length < 8; length++) {
                 for (uint32_t ticket = 7; ticket < 10; ticket++) {
-                    stemline_reply r = stemline_withdraw(table, length, counts, ticket);
+                    stemline_reply r = stemline_withdraw(table, length, ticket, counts);
                     counts = r.counts;
                     printf("%zu %u: %d, %u %u, %u\n", length, (unsigned)ticket, r.number,
                            (unsigned)counts.withdrawn, (unsigned)counts.tickets,

@@ -142,25 +142,25 @@ impl Lent {
             )),
             "read" => said!(calls::read(
                 &l.table,
+                l.ticket,
                 &l.items,
                 &l.writes,
                 &l.snapshots,
-                l.ticket,
                 l.item
             )),
             "write" => said!(calls::write(
                 &mut l.table,
                 &l.turn,
+                l.ticket,
                 l.counts,
                 &mut l.items,
                 &mut l.writes,
                 &l.stamps,
-                l.ticket,
                 l.item,
                 -7
             )),
-            "ask" => said!(calls::ask(&mut l.table, l.counts, &mut l.queue, l.ticket)),
-            "withdraw" => said!(calls::withdraw(&mut l.table, l.counts, l.ticket)),
+            "ask" => said!(calls::ask(&mut l.table, l.ticket, l.counts, &mut l.queue)),
+            "withdraw" => said!(calls::withdraw(&mut l.table, l.ticket, l.counts)),
             "report" => said!(calls::report(&l.table, &l.turn, l.counts)),
             "send" => {
                 let number = calls::send(

@@ -25,24 +25,24 @@ same-length : tie.Need-same-length
 same-length c = search needs
 
 returns : tie.Need-returns
-returns c = λ m table here row.
-    let q = rw (c .enum-told .given .1) at (c .before .before .before .before .before .before .ask-row .ensures m table _ here row) in
+returns c = λ m table here.
+    let q = rw (c .enum-told .given .1) at (c .before .before .before .before .before .before .ask-row .ensures m table here) in
     (ap askReply q, ap memory q)
 
 same-length-2 : tie.Need-same-length-2
 same-length-2 c = search needs
 
 returns-2 : tie.Need-returns-2
-returns-2 c = λ m table here row.
-    let q = rw (c .enum-told2 .given .1) at (c .before .before .before .before .before .before .ask-row .ensures m table _ here row) in
+returns-2 c = λ m table here.
+    let q = rw (c .enum-told2 .given .1) at (c .before .before .before .before .before .before .ask-row .ensures m table here) in
     (ap askReply q, ap memory q)
 
 same-length-3 : tie.Need-same-length-3
 same-length-3 c = search needs
 
 returns-3 : tie.Need-returns-3
-returns-3 c = λ m table here row.
-    let q = rw (c .before .before .answer .given .1) at (c .before .before .before .before .before .before .before .before .ask-row .ensures m table _ here row) in
+returns-3 c = λ m table here.
+    let q = rw (c .before .before .answer .given .1) at (c .before .before .before .before .before .before .before .before .ask-row .ensures m table here) in
     (rw (c .no-ask .ensures) (ap askReply q), rw (c .no-ask .ensures) (ap memory q))
 
 pub ask-on-spec : {M : Type 1} → statement M

@@ -22,16 +22,16 @@ same-length : tie.Need-same-length
 same-length c = search needs
 
 returns : tie.Need-returns
-returns c = λ m table here free.
-    let q = rw (c .before .answer .given .1) at (c .before .before .before .before .before .before .begin-row .ensures m table here free) in
+returns c = λ m table here.
+    let q = rw (c .before .answer .given .1) at (c .before .before .before .before .before .before .begin-row .ensures m table here) in
     (ap beginReply q, ap memory q)
 
 same-length-2 : tie.Need-same-length-2
 same-length-2 c = search needs
 
 returns-2 : tie.Need-returns-2
-returns-2 c = λ m table here free.
-    let q = rw (c .before .before .answer2 .given .1) at (c .before .before .before .before .before .before .before .begin-row .ensures m table here free) in
+returns-2 c = λ m table here.
+    let q = rw (c .before .before .answer2 .given .1) at (c .before .before .before .before .before .before .before .begin-row .ensures m table here) in
     (rw (c .no-begin .ensures) (ap beginReply q), rw (c .no-begin .ensures) (ap memory q))
 
 pub begin-on-spec : {M : Type 1} → statement M

@@ -20,13 +20,13 @@ no-read-requires : tie.Need-no-read-requires
 no-read-requires c κs = search needs
 
 returns : tie.Need-returns
-returns c = λ m table here row.
-    let q = rw (c .before .answer .given .1) at (c .before .before .before .read-row .ensures m table _ here row) in
+returns c = λ m table here.
+    let q = rw (c .before .answer .given .1) at (c .before .before .before .read-row .ensures m table here) in
     (rw (toZ-ofZ (record { sfits = c .known-told .given .0 .1 })) (ap readReply q), ap memory q)
 
 returns-2 : tie.Need-returns-2
-returns-2 c = λ m table here row.
-    let q = rw (c .before .before .answer2 .given .1) at (c .before .before .before .before .read-row .ensures m table _ here row) in
+returns-2 c = λ m table here.
+    let q = rw (c .before .before .answer2 .given .1) at (c .before .before .before .before .read-row .ensures m table here) in
     (rw (c .no-read .ensures) (ap readReply q), ap memory q)
 
 pub read-on-spec : {M : Type 1} → statement M

@@ -20,10 +20,10 @@ replied-requires : tie.Need-replied-requires
 replied-requires c κs = search needs
 
 returns : tie.Need-returns
-returns c = λ m table here row.
+returns c = λ m table here.
     let d = c .before .before .before .before .withdraw-row in
     let a = c .before .before .before .before .before .args in
-    let q = d .ensures m table _ here row in
+    let q = d .ensures m table here in
     (rw (c .replied .ensures) (plain-reply withdrew refl (d .result .answer) (c .before .number-of .result) (c .before .number-of .ensures) (withdrawParts m (d .result .counts) (set table (a .at) (d .result .row))) ∙ ap reply q), rw (c .replied .ensures) (ap memory q))
 
 pub withdraw-on-spec : {M : Type 1} → statement M

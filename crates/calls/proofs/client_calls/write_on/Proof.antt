@@ -26,11 +26,11 @@ same-length-2 : tie.Need-same-length-2
 same-length-2 c = search needs
 
 returns : tie.Need-returns
-returns c = λ m here row.
+returns c = λ m.
     let d = c .before .before .before .before .before .before .before .write-row in
     let s = c .before .before .before .before .before .before .before .before .before .before .before .before in
     let a = s .args in
-    let q = rw (toZ-ofZ (s .fits .value)) at (d .ensures m _ here row) in
+    let q = rw (toZ-ofZ (s .fits .value)) at (d .ensures m) in
     (rw (c .replied .ensures) (plain-reply wrote refl (d .result .answer) (c .before .number-of .result) (c .before .number-of .ensures) (writeParts m (a .turn) (d .result .counts) (a .rows) (a .items .now) (a .writes .now) (a .stamps .now)) ∙ ap reply q), rw (c .replied .ensures) (ap memory q))
 
 pub write-on-spec : {M : Type 1} → statement M

@@ -9,33 +9,33 @@ not-begun-requires : tie.Need-not-begun-requires
 not-begun-requires c κs = search needs
 
 returns : tie.Need-returns
-returns c = λ m table here row.
+returns c = λ m table here.
     let a = c .before .before .args in
-    rw (c .not-begun .ensures, same-row table (a .at) (a .t) here) (begin-values _ (c .before .if1 .taken))
+    rw (c .not-begun .ensures, same-row table (a .at) (a .t) here) (begin-values _ (a .at) (c .before .if1 .taken))
 
 not-begun-requires-2 : tie.Need-not-begun-requires-2
 not-begun-requires-2 c κs = search needs
 
 returns-2 : tie.Need-returns-2
-returns-2 c = λ m table here row.
+returns-2 c = λ m table here.
     let a = c .before .before .before .args in
-    rw (c .not-begun2 .ensures, same-row table (a .at) (a .t) here) (begin-snapshots _ (c .before .before .if1 .left) (c .before .if2 .taken))
+    rw (c .not-begun2 .ensures, same-row table (a .at) (a .t) here) (begin-snapshots _ (a .at) (c .before .before .if1 .left) (c .before .if2 .taken))
 
 not-begun-requires-3 : tie.Need-not-begun-requires-3
 not-begun-requires-3 c κs = search needs
 
 returns-3 : tie.Need-returns-3
-returns-3 c = λ m table here row.
+returns-3 c = λ m table here.
     let a = c .before .before .before .before .args in
-    rw (c .not-begun3 .ensures, same-row table (a .at) (a .t) here) (begin-full _ (c .before .before .before .if1 .left) (c .before .before .if2 .left) (a .at) row (c .before .if3 .taken))
+    rw (c .not-begun3 .ensures, same-row table (a .at) (a .t) here) (begin-full _ (a .at) (c .before .before .before .if1 .left) (c .before .before .if2 .left) (c .before .if3 .taken))
 
 not-begun-requires-4 : tie.Need-not-begun-requires-4
 not-begun-requires-4 c κs = search needs
 
 returns-4 : tie.Need-returns-4
-returns-4 c = λ m table here row.
+returns-4 c = λ m table here.
     let a = c .before .before .before .before .before .before .args in
-    rw (c .not-begun4 .ensures, same-row table (a .at) (a .t) here) (begin-spent _ (c .before .before .before .before .before .if1 .left) (c .before .before .before .before .if2 .left) (a .at) row (c .before .before .before .if3 .left) (c .before .if4 .taken))
+    rw (c .not-begun4 .ensures, same-row table (a .at) (a .t) here) (begin-spent _ (a .at) (c .before .before .before .before .before .if1 .left) (c .before .before .before .before .if2 .left) (c .before .before .before .if3 .left) (c .before .if4 .taken))
 
 add-ticket : tie.Need-add-ticket
 add-ticket c = search needs
@@ -65,10 +65,10 @@ same-length : tie.Need-same-length
 same-length c = search needs
 
 returns-5 : tie.Need-returns-5
-returns-5 c = λ m table here row.
+returns-5 c = λ m table here.
     let a = c .before .before .before .before .before .before .before .before .before .args in
     let v = c .before in
-    begin-taken _ (c .before .before .before .before .before .before .before .before .if1 .left) (c .before .before .before .before .before .before .before .if2 .left) (a .at) row (c .before .before .before .before .before .before .if3 .left) (v .copy-values .last .1 .0) (v .copy-values .ensures) (c .before .before .before .before .if4 .left)
+    begin-taken _ (a .at) (c .before .before .before .before .before .before .before .before .if1 .left) (c .before .before .before .before .before .before .before .if2 .left) (c .before .before .before .before .before .before .if3 .left) (v .copy-values .last .1 .0) (v .copy-values .ensures) (c .before .before .before .before .if4 .left)
 
 pub begin-row-spec : {M : Type 1} → statement M
 begin-row-spec =

@@ -6,22 +6,22 @@ use Rattle.client.proofs.rows.read_row.Statement.{statement}
 use Rattle.client.proofs.rows.read_row.Tie as tie
 
 returns : tie.Need-returns
-returns c = λ m table ticket here row. read-items _ _ _ (c .if1 .taken)
+returns c = λ m table here. read-items _ _ _ (c .if1 .taken)
 
 returns-2 : tie.Need-returns-2
-returns-2 c = λ m table ticket here row. read-writes _ _ _ (c .before .if1 .left) (c .if2 .taken)
+returns-2 c = λ m table here. read-writes _ _ _ (c .before .if1 .left) (c .if2 .taken)
 
 returns-3 : tie.Need-returns-3
-returns-3 c = λ m table ticket here row. read-snapshots _ _ _ (c .before .before .if1 .left) (c .before .if2 .left) (c .if3 .taken)
+returns-3 c = λ m table here. read-snapshots _ _ _ (c .before .before .if1 .left) (c .before .if2 .left) (c .if3 .taken)
 
 returns-4 : tie.Need-returns-4
-returns-4 c = λ m table ticket here row. read-item _ _ _ (c .before .before .before .if1 .left) (c .before .before .if2 .left) (c .before .if3 .left) (c .if4 .taken)
+returns-4 c = λ m table here. read-item _ _ _ (c .before .before .before .if1 .left) (c .before .before .if2 .left) (c .before .if3 .left) (c .if4 .taken)
 
 returns-5 : tie.Need-returns-5
-returns-5 c = λ m table ticket here row. read-absent _ _ _ (c .before .before .before .before .if1 .left) (c .before .before .before .if2 .left) (c .before .before .if3 .left) (c .before .if4 .left) (c .before .before .before .before .before .before .args .at) row (c .if5 .taken)
+returns-5 c = λ m table here. read-absent _ _ _ (c .before .before .before .before .if1 .left) (c .before .before .before .if2 .left) (c .before .before .if3 .left) (c .before .if4 .left) (c .if5 .taken)
 
 returns-6 : tie.Need-returns-6
-returns-6 c = λ m table ticket here row. read-asked _ _ _ (c .before .before .before .before .before .before .if1 .left) (c .before .before .before .before .before .if2 .left) (c .before .before .before .before .if3 .left) (c .before .before .before .if4 .left) (c .before .before .before .before .before .before .before .before .args .at) row (c .before .before .if5 .left) (c .before .before .before .before .before .before .before .before .args .t) here (c .if6 .taken)
+returns-6 c = λ m table here. read-asked _ _ _ (c .before .before .before .before .before .before .if1 .left) (c .before .before .before .before .before .if2 .left) (c .before .before .before .before .if3 .left) (c .before .before .before .if4 .left) (c .before .before .if5 .left) (c .before .before .before .before .before .before .before .before .args .t) here (c .if6 .taken)
 
 write-count-requires : tie.Need-write-count-requires
 write-count-requires c κs = search needs
@@ -57,9 +57,9 @@ shared-slice-copy-out-t20 : tie.Need-shared-slice-copy-out-t20
 shared-slice-copy-out-t20 c = search needs
 
 returns-7 : tie.Need-returns-7
-returns-7 c = λ m table ticket here row.
+returns-7 c = λ m table here.
     let a = c .before .before .before .before .before .before .before .before .before .before .before .before .before .args in
-    read-own _ _ _ (c .before .before .before .before .before .before .before .before .before .before .before .if1 .left) (c .before .before .before .before .before .before .before .before .before .before .if2 .left) (c .before .before .before .before .before .before .before .before .before .if3 .left) (c .before .before .before .before .before .before .before .before .if4 .left) (a .at) row (c .before .before .before .before .before .before .before .if5 .left) (a .t) here (c .before .before .before .before .before .if6 .left)
+    read-own _ _ _ (c .before .before .before .before .before .before .before .before .before .before .before .if1 .left) (c .before .before .before .before .before .before .before .before .before .before .if2 .left) (c .before .before .before .before .before .before .before .before .before .if3 .left) (c .before .before .before .before .before .before .before .before .if4 .left) (c .before .before .before .before .before .before .before .if5 .left) (a .t) here (c .before .before .before .before .before .if6 .left)
     (c .before .before .before .before .write-count .result) (c .before .before .index-of .result) (c .before .before .before .before .write-count .ensures) (c .before .before .index-of .ensures) (c .before .if7 .taken) _ (toZ-ofZ (record { sfits = c .t20 .given }))
 
 mul-t10 : tie.Need-mul-t10
@@ -75,9 +75,9 @@ shared-slice-copy-out-t24 : tie.Need-shared-slice-copy-out-t24
 shared-slice-copy-out-t24 c = search needs
 
 returns-8 : tie.Need-returns-8
-returns-8 c = λ m table ticket here row.
+returns-8 c = λ m table here.
     let a = c .before .before .before .before .before .before .before .before .before .before .before .before .before .args in
-    read-old _ _ _ (c .before .before .before .before .before .before .before .before .before .before .before .if1 .left) (c .before .before .before .before .before .before .before .before .before .before .if2 .left) (c .before .before .before .before .before .before .before .before .before .if3 .left) (c .before .before .before .before .before .before .before .before .if4 .left) (a .at) row (c .before .before .before .before .before .before .before .if5 .left) (a .t) here (c .before .before .before .before .before .if6 .left)
+    read-old _ _ _ (c .before .before .before .before .before .before .before .before .before .before .before .if1 .left) (c .before .before .before .before .before .before .before .before .before .before .if2 .left) (c .before .before .before .before .before .before .before .before .before .if3 .left) (c .before .before .before .before .before .before .before .before .if4 .left) (c .before .before .before .before .before .before .before .if5 .left) (a .t) here (c .before .before .before .before .before .if6 .left)
     (c .before .before .before .before .write-count .result) (c .before .before .index-of .result) (c .before .before .before .before .write-count .ensures) (c .before .before .index-of .ensures) (c .before .if7 .left) _ (toZ-ofZ (record { sfits = c .t24 .given }))
 
 pub read-row-spec : {M : Type 1} → statement M

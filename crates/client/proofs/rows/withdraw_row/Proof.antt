@@ -10,17 +10,17 @@ kept-requires : tie.Need-kept-requires
 kept-requires c κs = search needs
 
 returns : tie.Need-returns
-returns c = λ m table ticket here row.
+returns c = λ m table here.
     let a = c .before .before .args in
-    rw (c .kept .ensures, same-row table (a .at) (a .t) here) (withdraw-absent _ _ (a .at) row (c .before .if1 .taken))
+    rw (c .kept .ensures, same-row table (a .at) (a .t) here) (withdraw-absent _ (a .at) (c .before .if1 .taken))
 
 kept-requires-2 : tie.Need-kept-requires-2
 kept-requires-2 c κs = search needs
 
 returns-2 : tie.Need-returns-2
-returns-2 c = λ m table ticket here row.
+returns-2 c = λ m table here.
     let a = c .before .before .before .before .args in
-    rw (c .kept2 .ensures, same-row table (a .at) (a .t) here) (withdraw-asked _ _ (a .at) row (c .before .before .before .if1 .left) (a .t) here (c .before .if2 .taken))
+    rw (c .kept2 .ensures, same-row table (a .at) (a .t) here) (withdraw-asked _ (a .at) (c .before .before .before .if1 .left) (a .t) here (c .before .if2 .taken))
 
 bump-requires : tie.Need-bump-requires
 bump-requires c κs = search needs
@@ -33,9 +33,9 @@ changed-requires c κs = search needs
 
 returns-3 : tie.Need-returns-3
 unfolding withdrawAt
-returns-3 c = λ m table ticket here row.
+returns-3 c = λ m table here.
     let a = c .before .before .before .before .before .before .args in
-    rw (c .changed .ensures, c .before .free .ensures, c .before .before .bump .ensures) (withdraw-taken _ _ (a .at) row (c .before .before .before .before .before .if1 .left) (a .t) here (c .before .before .before .if2 .left))
+    rw (c .changed .ensures, c .before .free .ensures, c .before .before .bump .ensures) (withdraw-taken _ (a .at) (c .before .before .before .before .before .if1 .left) (a .t) here (c .before .before .before .if2 .left))
 
 pub withdraw-row-spec : {M : Type 1} → statement M
 withdraw-row-spec =

@@ -1,0 +1,2 @@
+-- One law for each answer of a write, over plain variables.
+pub mod WriteLaws
