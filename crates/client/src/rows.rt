@@ -25,14 +25,19 @@ use memory::rows::index_of;
 use memory::rows::queue_end;
 use memory::rows::write_count;
 
-// The record of a row; a free one past the last.
+// The record of a row; a free one past the last. Each row by its own number: an array that is indexed by a variable is first copied to memory.
 pub fn row_at(table: [Txn; 6], at: usize) -> Txn
     ensures { λ r. ⌜ r ≡ rowAt table at ⌝ }
 {
-    if at < 6 {
-        return table[at];
+    match at {
+        0 => table[0],
+        1 => table[1],
+        2 => table[2],
+        3 => table[3],
+        4 => table[4],
+        5 => table[5],
+        _ => free(),
     }
-    free()
 }
 
 fn not_begun(number: u8, t: Txn, counts: Counts) -> RowBegun
