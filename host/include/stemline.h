@@ -75,7 +75,7 @@ typedef struct stemline_txn {
     uint32_t ticket;
     uint32_t stage;
     uint32_t snapshot; /* the commit count at its begin */
-    uint32_t writes;    /* how many items it has written */
+    uint32_t writes;   /* how many items it has written */
 } stemline_txn;
 
 typedef struct stemline_turn {
