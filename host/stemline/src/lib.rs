@@ -67,8 +67,15 @@ impl Work {
 fn accepted<T>(number: u8, value: T) -> Result<T, Refusal> {
     match number {
         0 => Ok(value),
-        _ => Err(Refusal::from_number(number).unwrap_or(Refusal::Unknown(number))),
+        _ => Err(refusal(number)),
     }
+}
+
+// Apart, and cold: an accepted call goes straight on.
+#[cold]
+#[inline(never)]
+fn refusal(number: u8) -> Refusal {
+    Refusal::from_number(number).unwrap_or(Refusal::Unknown(number))
 }
 
 impl Replica {
