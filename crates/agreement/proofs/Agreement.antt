@@ -1,7 +1,7 @@
 -- Agreement: the statement's proof, from what each call owes. Assumes nothing.
 use Prim.Native.Nat.{ℕ, suc, _-_, _<_, _≤_}
 use mathlib.Core.Path.{_≡_, refl, sym, ap, _∙_, subst}
-use mathlib.Core.List.{List, List·Memᴰ·head, List·Memᴰ·tail, List·Memᴰ·not-nil, Memᴰ·append-left, Memᴰ·append-right, [], _∷_}
+use mathlib.Core.List.{List, List·Memᴰ·head, List·Memᴰ·not-nil, Memᴰ·append-left, Memᴰ·append-right, [], _∷_}
 use native.Mathlib.Omega.{arith}
 use lib.IntN.{ℤ}
 use lib.ListN.{length, length-map, take}
@@ -9,7 +9,7 @@ use lib.Seq.{length-take-le}
 use borrow.Author.Tests.{ne-eqb}
 use Rattle.memory.specs.Memory.{Memory}
 use Rattle.engine.specs.Calls.{Answer, Step, Outcome}
-use Rattle.engine.specs.Calls.Answer.{refused, made, began, got, wrote, queued, readOnly, withdrew, reported, sent, kept, worked}
+use Rattle.engine.specs.Calls.Answer.{refused, made, began, got, wrote, queued, readOnly, withdrew, reported, sent, kept, worked, restarted}
 use Rattle.engine.specs.Client.{reportOf}
 use Rattle.engine.specs.Moves.{passNext, commitWriteset}
 use Rattle.engine.specs.Step.{Call, step}
@@ -17,18 +17,17 @@ use Rattle.engine.specs.Step.Call.{read, write, work}
 use Rattle.engine.proofs.Steps.{work-by}
 use Rattle.engine.proofs.ShapeTurn.{working}
 use Rattle.protocol.specs.Lists.{Mem}
+use Rattle.protocol.specs.Journal.{Journal, journal}
 use Rattle.protocol.specs.Observer.{Observed, Placed, Handout, sequence, idOf, noPlaced}
 use Rattle.protocol.specs.Statement.{NotHandedOut, Committed, WorkClaim, WriteClaim, ReadClaim, Agreed}
-use Rattle.protocol.specs.Machine.{MachineSystem, MachineAgreement, CommandClaims, systemOf}
-use Rattle.protocol.proofs.ListLaws.{update-by}
+use Rattle.protocol.specs.Machine.{MachineSystem, MachineAgreement, CommandPremise, CommandClaims, systemOf}
 use Rattle.protocol.proofs.Refinement.{machine-agreement}
 use Rattle.protocol.proofs.SequenceLaws.{mem-at}
-use Rattle.agreement.specs.Group.{heard, Group, CallAt, fresh, run, did, next, Comes, Calls, Premise}
+use Rattle.agreement.specs.Group.{call, heard, Group, CallAt, fresh, run, Comes, Calls}
 use Rattle.agreement.specs.Statement.{PutDown, Agrees, FirstCommitter, groupAfter, Agreement}
 use Rattle.agreement.proofs.View.{setup, Sound, Owed}
-use Rattle.agreement.proofs.Soundness.{sound-each, sound-made}
 use Rattle.agreement.proofs.Replicas.{places-apart}
-use Rattle.agreement.proofs.Runs.{machine, machineOf, commands, runs, premise, Said, said}
+use Rattle.agreement.proofs.Runs.{machine, machineOf, commands, journalsRun, runs, fresh-kept, kept-run, Said, said}
 
 -- ---- places counted from 1, and what was put down
 
@@ -43,16 +42,7 @@ put-down D k t free p =
 first-committer : (F : List (Placed ℤ)) (p : ℕ) → 0 < p → Rattle.protocol.specs.Statement.FirstCommitter F (p - 1) → FirstCommitter F p
 first-committer F p h f = record { before = omega (arith, f .before); apart = λ q a b. f .apart (q - 1) (omega arith) (omega arith) }
 
--- ---- the memory of each replica, before each call
-
-sound-run : (n : ℕ) (cs : List CallAt) → Calls n cs → (g : Group) → ((k : ℕ) → k < n → Sound n (g .memories k)) → (k : ℕ) → k < n → Sound n (run g cs .memories k)
-unfolding run
-sound-run n [] f g s = s
-sound-run n (c ∷ cs) f g s =
-    let h = f c (List·Memᴰ·head refl) in
-    sound-run n cs (λ d q. f d (List·Memᴰ·tail q)) (next g c)
-    (update-by (λ (k : ℕ) (m : Memory). k < n → Sound n m) (g .memories) (c .at) (did g c .memory)
-    (λ l. sound-each n (g .memories (c .at)) (s (c .at) (h .0)) (c .does) (h .1)) (λ j d. s j))
+-- ---- a work
 
 -- the tickets that an answer names as aborted, and its ticket
 abbrev namedBy : Answer → List ℕ
@@ -68,6 +58,7 @@ namedBy (reported r) = []
 namedBy (sent b) = []
 namedBy kept = []
 namedBy (worked s) = s .aborted
+namedBy (restarted c b) = []
 
 abbrev workedOn : Answer → ℕ
 workedOn (refused n) = 0
@@ -82,6 +73,7 @@ workedOn (reported r) = 0
 workedOn (sent b) = 0
 workedOn kept = 0
 workedOn (worked s) = s .ticket
+workedOn (restarted c b) = 0
 
 -- a work on a *next* aborts nobody
 none-named : (n : ℕ) (m : Memory) → Sound n m → (t : ℕ) → workedOn (step m work .answer) ≡ 0 → Mem t (namedBy (step m work .answer)) → ⊥
@@ -96,61 +88,65 @@ none-named n m s t =
 
 module _ (n : ℕ) (start : List ℤ) (least : 2 ≤ n) (most : n ≤ 6) (long : length start ≡ 128)
     (owes : (m : Memory) → Sound n m → (c : Call) → Owed n start m c (step m c))
-    (cs : List CallAt) (f : Calls n cs) (p : Premise n start cs) where
+    (cs : List CallAt) (f : Calls n cs)
+    (p : CommandPremise (setup n start) (machine n start least most long owes) (machineOf n start least most long owes (λ k. journal [] 0) (fresh n start)) (commands n start least most long owes cs f)) where
   abbrev g : Group
-  g = run (fresh n start) cs
+  g = run n start (fresh n start) cs
+
+  abbrev noJournals : ℕ → Journal ℤ
+  noJournals = λ k. journal [] 0
 
   abbrev F : List (Placed ℤ)
-  F = sequence (run (fresh n start) cs .handouts)
+  F = sequence (run n start (fresh n start) cs .handouts)
 
   whole : MachineAgreement (setup n start) (machine n start least most long owes) (commands n start least most long owes cs f)
   whole = machine-agreement (setup n start) (places-apart n start) (machine n start least most long owes) (commands n start least most long owes cs f)
-      (premise n start least most long owes cs f (fresh n start) p)
+      p
 
-  group : Agreed (setup n start) (systemOf (setup n start) (machine n start least most long owes) (machineOf n start least most long owes g))
+  group : Agreed (setup n start) (systemOf (setup n start) (machine n start least most long owes) (machineOf n start least most long owes (journalsRun n start least most long owes noJournals (fresh n start) cs) g))
   group = subst (λ (s : MachineSystem (setup n start) (machine n start least most long owes)). Agreed (setup n start) (systemOf (setup n start) (machine n start least most long owes) s))
-      (runs n start least most long owes cs f (fresh n start)) (whole .group)
+      (runs n start least most long owes cs f noJournals (fresh n start)) (whole .group)
 
-  claims : CommandClaims (setup n start) (machine n start least most long owes) F (machineOf n start least most long owes (fresh n start)) (commands n start least most long owes cs f)
+  claims : CommandClaims (setup n start) (machine n start least most long owes) F (machineOf n start least most long owes noJournals (fresh n start)) (commands n start least most long owes cs f)
   claims = subst (λ (s : MachineSystem (setup n start) (machine n start least most long owes)).
-      CommandClaims (setup n start) (machine n start least most long owes) (sequence (s .handouts)) (machineOf n start least most long owes (fresh n start)) (commands n start least most long owes cs f))
-      (runs n start least most long owes cs f (fresh n start)) (whole .calls)
+      CommandClaims (setup n start) (machine n start least most long owes) (sequence (s .handouts)) (machineOf n start least most long owes noJournals (fresh n start)) (commands n start least most long owes cs f))
+      (runs n start least most long owes cs f noJournals (fresh n start)) (whole .calls)
 
   -- what is claimed of the call c that has `before` in front of it
-  at-call : (before : List CallAt) (c : CallAt) → Comes cs before c → Said n start least most long owes F (run (fresh n start) before) c
-  at-call before c e = said n start least most long owes F cs f (fresh n start) claims before c e
+  at-call : (before : List CallAt) (c : CallAt) → Comes cs before c → Said n start least most long owes F (run n start (fresh n start) before) c
+  at-call before c e = said n start least most long owes F cs f noJournals (fresh n start) claims before c e
 
   -- a call of the list is at a replica of the group, whose memory is sound
-  sound-at : (before : List CallAt) (c : CallAt) → Comes cs before c → Sound n (run (fresh n start) before .memories (c .at))
+  sound-at : (before : List CallAt) (c : CallAt) → Comes cs before c → Sound n (run n start (fresh n start) before .memories (c .at))
   sound-at before c e =
-      sound-run n before (λ d q. f d (subst (Mem d) (sym (e .1)) (Memᴰ·append-left (c ∷ e .0) q))) (fresh n start)
-      (λ k h. sound-made n k start least most h long) (c .at)
-      (f c (subst (Mem c) (sym (e .1)) (Memᴰ·append-right before (List·Memᴰ·head refl))) .0)
+      kept-run n start least most long owes before (λ d q. f d (subst (Mem d) (sym (e .1)) (Memᴰ·append-left (c ∷ e .0) q))) noJournals (fresh n start)
+      (fresh-kept n start least most long owes) .sound (c .at)
+      (f c (subst (Mem c) (sym (e .1)) (Memᴰ·append-right before (List·Memᴰ·head refl))) .0) .sound
 
-  module _ (before : List CallAt) (k : ℕ) (s : Step) (e : Comes cs before (record { at = k; does = work })) (a : step (groupAfter n start cs before .memories k) work .answer ≡ worked s) where
+  module _ (before : List CallAt) (k : ℕ) (s : Step) (e : Comes cs before (record { at = k; does = call work })) (a : step (groupAfter n start cs before .memories k) work .answer ≡ worked s) where
     abbrev seen : Observed ℤ
-    seen = run (fresh n start) before .observed k
+    seen = run n start (fresh n start) before .observed k
 
-    committing : (s .ticket ≡ 0 → ⊥) → Committed F (run (fresh n start) before .handouts) seen k (s .sender) (s .ticket) (s .aborted)
+    committing : (s .ticket ≡ 0 → ⊥) → Committed F (run n start (fresh n start) before .handouts) seen k (s .sender) (s .ticket) (s .aborted)
     unfolding heard
     committing z =
         rw (ne-eqb (s .ticket) 0 z) at
-        (subst (λ (o : Answer). WorkClaim F (run (fresh n start) before .handouts) seen k (heard work o)) a (at-call before (record { at = k; does = work }) e))
+        (subst (λ (o : Answer). WorkClaim F (run n start (fresh n start) before .handouts) seen k (heard work o)) a (at-call before (record { at = k; does = call work }) e))
 
     -- a work that names a ticket as aborted commits a writeset
     naming : (t : ℕ) → Mem t (s .aborted) → s .ticket ≡ 0 → ⊥
-    naming t q z = none-named n _ (sound-at before (record { at = k; does = work }) e) t (ap workedOn a ∙ z) (subst (Mem t) (sym (ap namedBy a)) q)
+    naming t q z = none-named n _ (sound-at before (record { at = k; does = call work }) e) t (ap workedOn a ∙ z) (subst (Mem t) (sym (ap namedBy a)) q)
 
-  reading : (before : List CallAt) (k t i : ℕ) (v : ℤ) → Comes cs before (record { at = k; does = read t i })
-      → step (groupAfter n start cs before .memories k) (read t i) .answer ≡ got v → ReadClaim (setup n start) F (run (fresh n start) before .observed k) t i (Rattle.protocol.specs.Replica.Event.got t i v)
+  reading : (before : List CallAt) (k t i : ℕ) (v : ℤ) → Comes cs before (record { at = k; does = call (read t i) })
+      → step (groupAfter n start cs before .memories k) (read t i) .answer ≡ got v → ReadClaim (setup n start) F (run n start (fresh n start) before .observed k) t i (Rattle.protocol.specs.Replica.Event.got t i v)
   unfolding heard
-  reading before k t i v e a = subst (λ (o : Answer). ReadClaim (setup n start) F (run (fresh n start) before .observed k) t i (heard (read t i) o)) a (at-call before (record { at = k; does = read t i }) e)
+  reading before k t i v e a = subst (λ (o : Answer). ReadClaim (setup n start) F (run n start (fresh n start) before .observed k) t i (heard (read t i) o)) a (at-call before (record { at = k; does = call (read t i) }) e)
 
-  writing : (before : List CallAt) (k t i : ℕ) (v : ℤ) → Comes cs before (record { at = k; does = write t i v })
-      → step (groupAfter n start cs before .memories k) (write t i v) .answer ≡ refused 9 → NotHandedOut (run (fresh n start) before .handouts) k t
+  writing : (before : List CallAt) (k t i : ℕ) (v : ℤ) → Comes cs before (record { at = k; does = call (write t i v) })
+      → step (groupAfter n start cs before .memories k) (write t i v) .answer ≡ refused 9 → NotHandedOut (run n start (fresh n start) before .handouts) k t
   unfolding heard
   writing before k t i v e a =
-      subst (λ (o : Answer). WriteClaim (run (fresh n start) before .handouts) k t (heard (write t i v) o)) a (at-call before (record { at = k; does = write t i v }) e) refl
+      subst (λ (o : Answer). WriteClaim (run n start (fresh n start) before .handouts) k t (heard (write t i v) o)) a (at-call before (record { at = k; does = call (write t i v) }) e) refl
 
   agrees : (k : ℕ) → Agrees start F (g .handouts) (g .observed k) (g .memories k .store .values) (reportOf (g .memories k))
   unfolding reportOf
@@ -168,10 +164,10 @@ module _ (n : ℕ) (start : List ℤ) (least : 2 ≤ n) (most : n ≤ 6) (long :
     replicas = λ k h. agrees k;
     reads = reading;
     first = λ q h u. first-committer F q h (group .first (q - 1) (omega arith));
-    works = λ before k s e a z. rw (next-place (length (run (fresh n start) before .observed k .commits))) (committing before k s e a z .named);
+    works = λ before k s e a z. rw (next-place (length (run n start (fresh n start) before .observed k .commits))) (committing before k s e a z .named);
     aborts = λ before k s e a t q.
         let b = committing before k s e a (naming before k s e a t q) .aborts t q in
-        rw (next-place (length (run (fresh n start) before .observed k .commits))) (b .item, b .written, b .committed);
-    spared = λ before k s e a t q. put-down (run (fresh n start) before .handouts) k t (committing before k s e a (naming before k s e a t q) .aborts t q .free);
-    never-stale = λ before k t i v e a. put-down (run (fresh n start) before .handouts) k t (writing before k t i v e a);
+        rw (next-place (length (run n start (fresh n start) before .observed k .commits))) (b .item, b .written, b .committed);
+    spared = λ before k s e a t q. put-down (run n start (fresh n start) before .handouts) k t (committing before k s e a (naming before k s e a t q) .aborts t q .free);
+    never-stale = λ before k t i v e a. put-down (run n start (fresh n start) before .handouts) k t (writing before k t i v e a);
   }

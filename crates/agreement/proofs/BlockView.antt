@@ -33,7 +33,7 @@ entries-are b j e [] h = refl
 entries-are b j e (x ∷ xs) h =
     rw (rw (add-zero e) at (h 0 (omega arith)), entries-are b j (suc e) xs (λ k u. rw (suc-add e k, ← add-suc e k) (h (suc k) (omega arith))))
 
-counted : (b : List ℕ) → length (messageOf b .records) ≡ getD b 3 0
+pub counted : (b : List ℕ) → length (messageOf b .records) ≡ getD b 3 0
 unfolding messageOf
 counted b = length-recordsOf _ _
 
@@ -45,7 +45,7 @@ module _ (b : List ℕ) (taken : readRefusal b ≡ 0) (j : ℕ) (h : j < getD b 
   within : j < length (messageOf b .records)
   within = rw (counted b) h
 
-  writeset-read : writesetAt b j ≡ this
+  pub writeset-read : writesetAt b j ≡ this
   writeset-read =
       let t = is-taken b taken in
       let f = message-facts (messageOf b) (is-formed b (t .forms) .fields) in

@@ -39,7 +39,7 @@ no-kind : (k n : ℕ) → kindFits k n ≡ true → k ≡ 0 → ⊥
 unfolding kindFits
 no-kind k n h z = false≢true (rw z at h)
 
-kind-some : (b : List ℕ) → readRefusal b ≡ 0 → getD b 0 0 ≡ 0 → ⊥
+pub kind-some : (b : List ℕ) → readRefusal b ≡ 0 → getD b 0 0 ≡ 0 → ⊥
 unfolding messageOf valid
 kind-some b e = no-kind _ _ (both _ _ (is-formed b (is-taken b e .forms) .fields) .left)
 
@@ -48,7 +48,7 @@ sender-owns : (b : List ℕ) → readRefusal b ≡ 0 → headerOf b .sender ≡ 
 unfolding messageOf headerOf
 sender-owns b e = message-facts (messageOf b) (is-formed b (is-taken b e .forms) .fields) .sender
 
-slot-said : (b : List ℕ) → messageIn b .slot ≡ headerOf b .slot
+pub slot-said : (b : List ℕ) → messageIn b .slot ≡ headerOf b .slot
 unfolding messageIn messageOf headerOf
 slot-said b = refl
 

@@ -20,8 +20,13 @@ pub mod Sendable
 pub mod SendStep
 pub mod DeliverStep
 pub mod WorkStep
+pub mod RestartView
+pub mod RestartStep
+-- the journals
+pub mod JournalView
 -- the replicas as a machine of the protocol, its runs, the theorem
 pub mod Replicas
 pub mod Runs
+pub mod FloorLaws
 pub mod Agreement
 pub mod Theorem

@@ -33,7 +33,7 @@ pub with-table : (x : Transactions) (l : List Txn) (r : ℕ) (t : Txn) → txnOf
 unfolding txnOf
 with-table x l r t = refl
 
-module _ (m : Memory) (S : Shape m) (r : ℕ) (h : r < 6) where
+module _ {over : ℕ} (m : Memory) (S : Shape over m) (r : ℕ) (h : r < 6) where
   abbrev x : Transactions
   x = m .txns
 

@@ -90,7 +90,7 @@ pub ticket-of : (x : Transactions) (r : ℕ) (t : Txn) → txnOf x r t .ticket �
 unfolding txnOf
 ticket-of x r t = refl
 
-module _ (m : Memory) (S : Shape m) where
+module _ {over : ℕ} (m : Memory) (S : Shape over m) where
   abbrev x : Transactions
   x = m .txns
 

@@ -54,7 +54,7 @@ map-through : {A B C : Type 0} (d : A) (g : B → C) (f : A → B) (h : A → C)
 map-through d g f h [] e = refl
 map-through d g f h (a ∷ w) e = rw (e 0 (omega arith), map-through d g f h w (λ k l. e (suc k) (omega arith)))
 
-module _ (m : Memory) (S : Shape m) where
+module _ {over : ℕ} (m : Memory) (S : Shape over m) where
   -- the writeset of an open row is that of its transaction
   writeset-is : (t : ℕ) → rowOf t (m .txns .table) < 6
       → group.writesetOf (engine.writesetOf (m .txns) t) ≡ model.writesetOf (openTxns (m .txns)) t

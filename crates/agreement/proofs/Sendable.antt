@@ -94,7 +94,7 @@ module _ (f : ℕ → Record) where
 
 -- ---- the writesets of the tickets that wait
 
-module _ (m : Memory) (S : Shape m) where
+module _ {over : ℕ} (m : Memory) (S : Shape over m) where
   abbrev x : Transactions
   x = m .txns
 

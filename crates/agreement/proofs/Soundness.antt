@@ -52,7 +52,7 @@ fits-insert l at k v room h e i =
     (λ d. less-by (at + k) i (λ b. rw (insert-after at k v l room i (pos 0) b) (h i))
     (λ b. rw (insert-moved at k v l room i (pos 0) (omega (arith, d, a)) b) (h (i - 1)))))
 
-fits-zeros : (k : ℕ) → Fits (replicate k (pos 0))
+pub fits-zeros : (k : ℕ) → Fits (replicate k (pos 0))
 unfolding signed32
 fits-zeros zero i = refl
 fits-zeros (suc k) zero = refl
@@ -146,8 +146,8 @@ rest-each n m s work e = work-by (Rests n m s) m (λ p k. next-rests n m s) (λ 
 pub sound-each : (n : ℕ) (m : Memory) → Sound n m → (c : Call) → signed32 (valueOf c) ≡ true → Sound n (step m c .memory)
 sound-each n m s c e =
     let r = rest-each n m (record { size = s .size; fits = s .fits; ours = s .ours }) c e in
-    record { shape = shapes .each m (s .shape) c; size = r .size; fits = r .fits; ours = r .ours }
+    record { over = s .over; shape = shapes .each m (s .shape) c; size = r .size; fits = r .fits; ours = r .ours }
 
 pub sound-made : (n k : ℕ) (start : List ℤ) → 2 ≤ n → n ≤ 6 → k < n → length start ≡ 128 → Sound n (madeMemory n k start)
 unfolding madeMemory
-sound-made n k start l h o v = record { shape = shapes .made n k start l h o v; size = refl; fits = fits-zeros 48; ours = λ q. clash {b = false} q refl }
+sound-made n k start l h o v = record { over = 0; shape = shapes .made n k start l h o v; size = refl; fits = fits-zeros 48; ours = λ q. clash {b = false} q refl }

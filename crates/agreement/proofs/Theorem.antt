@@ -1,12 +1,17 @@
 -- Agreement, the theorem. Assumes nothing.
 use Prim.Native.Nat.{ℕ}
-use mathlib.Core.List.{List}
+use mathlib.Core.List.{List, []}
+use native.Mathlib.Omega.{arith}
 use lib.IntN.{ℤ}
 use Rattle.memory.specs.Memory.{Memory}
 use Rattle.engine.specs.Step.{Call, step}
 use Rattle.engine.specs.Step.Call.{begin, read, write, ask, withdraw, report, send, deliver, work}
+use Rattle.protocol.specs.Journal.{journal}
+use Rattle.protocol.proofs.Refinement.{fresh-inv}
+use Rattle.agreement.specs.Group.{fresh}
 use Rattle.agreement.specs.Statement.{AgreementTheorem}
-use Rattle.agreement.proofs.View.{Sound, Owed}
+use Rattle.agreement.specs.Floor.{FloorTheorem}
+use Rattle.agreement.proofs.View.{setup, Sound, Owed}
 use Rattle.agreement.proofs.BeginStep.{begin-owes}
 use Rattle.agreement.proofs.ReadStep.{read-owes}
 use Rattle.agreement.proofs.WriteStep.{write-owes}
@@ -15,6 +20,9 @@ use Rattle.agreement.proofs.WithdrawStep.{withdraw-owes, report-owes}
 use Rattle.agreement.proofs.SendStep.{send-owes}
 use Rattle.agreement.proofs.DeliverStep.{deliver-owes}
 use Rattle.agreement.proofs.WorkStep.{work-owes}
+use Rattle.agreement.proofs.Replicas.{places-apart}
+use Rattle.agreement.proofs.Runs.{machine, fresh-kept, premise}
+use Rattle.agreement.proofs.FloorLaws.{floor-premise}
 use Rattle.agreement.proofs.Agreement.{agreement-from}
 
 owes : (n : ℕ) (start : List ℤ) (m : Memory) → Sound n m → (c : Call) → Owed n start m c (step m c)
@@ -29,4 +37,14 @@ owes n start m s (deliver b) = deliver-owes n start m s b
 owes n start m s work = work-owes n start m s
 
 pub agreement : AgreementTheorem
-agreement n start least most long = agreement-from n start least most long (owes n start)
+agreement n start least most long cs f p =
+    agreement-from n start least most long (owes n start) cs f
+    (premise n start least most long (owes n start) cs f (λ k. journal [] 0) (fresh n start) (fresh-kept n start least most long (owes n start))
+    (record { delivered = p .delivered; lent = p .lent }))
+
+-- and with document 02's own words for what a cut leaves
+pub floor-agreement : FloorTheorem
+floor-agreement n start least most long cs f p =
+    agreement-from n start least most long (owes n start) cs f
+    (floor-premise n start least most long (owes n start) cs f (λ k. 0) (λ k. journal [] 0) (fresh n start) (fresh-kept n start least most long (owes n start))
+    (fresh-inv (setup n start) (machine n start least most long (owes n start)) (places-apart n start)) (λ k. omega arith) p)

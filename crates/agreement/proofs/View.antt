@@ -74,7 +74,8 @@ view m = replica (m .counts .own) (cursorOf m) (storeOf m) (transactions (m .cou
 
 -- what holds of a replica's memory after every call: its shape; its group's size; each value written is a signed 32-bit number; the sent mark is on at its own slots alone
 pub record Sound (n : ℕ) (m : Memory) : Type 0 where
-  pub shape : Shape m
+  pub over : ℕ
+  pub shape : Shape over m
   pub size : m .counts .replicas ≡ n
   pub fits : (i : ℕ) → signed32 (getD (m .txns .writes) i (pos 0)) ≡ true
   pub ours : m .turn .sent ≡ true → ownerOf n (m .turn .slot) ≡ m .counts .own

@@ -102,7 +102,7 @@ owed-by n start m o q e a b = follows (rw e a) (rw e b)
 
 -- ---- the block at the turn
 
-module _ (start : List ℤ) (m : Memory) (S : Shape m) (k : Working m) where
+module _ (start : List ℤ) {over : ℕ} (m : Memory) (S : Shape over m) (k : Working m) where
   abbrev n : ℕ
   n = m .counts .replicas
 
@@ -246,7 +246,7 @@ never-nine : (m : Memory) → workRefusal m ≡ 9 → ⊥
 unfolding workRefusal
 never-nine m = not-first 9 _ refl
 
-owes-here : (start : List ℤ) (m : Memory) → Shape m → Owed (m .counts .replicas) start m work (Rattle.engine.specs.Step.step m work)
+owes-here : (start : List ℤ) {over : ℕ} (m : Memory) → Shape over m → Owed (m .counts .replicas) start m work (Rattle.engine.specs.Step.step m work)
 unfolding heard
 owes-here start m S =
     work-by (Owed (m .counts .replicas) start m work) m (λ z h. next-owes start m S (working m S z) h) (λ z h. by-sender start m S (working m S z) h _ refl)

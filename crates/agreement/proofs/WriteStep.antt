@@ -131,7 +131,7 @@ items m k = itemsOf k (row m k) (m .txns .items)
 abbrev values : Memory → ℕ → List ℤ
 values m k = slice (8 * k) (8 * k + writeCount (row m k)) (m .txns .writes)
 
-module _ (m : Memory) (S : Shape m) where
+module _ {over : ℕ} (m : Memory) (S : Shape over m) where
   abbrev x : Transactions
   x = m .txns
 
@@ -177,7 +177,7 @@ module _ (m : Memory) (S : Shape m) where
 with-other : (t i : ℕ) (v : ℤ) (u : Transaction ℤ) → (u .ticket ≡ t → ⊥) → withWrite t i v u ≡ u
 with-other t i v u d = rw (ne-eqb (u .ticket) t d)
 
-module _ (m : Memory) (S : Shape m) (t i : ℕ) (v : ℤ) (h : rowNo m t < 6) where
+module _ {over : ℕ} (m : Memory) (S : Shape over m) (t i : ℕ) (v : ℤ) (h : rowNo m t < 6) where
   abbrev r : ℕ
   r = rowNo m t
 
@@ -303,7 +303,7 @@ module _ (m : Memory) (S : Shape m) (t i : ℕ) (v : ℤ) (h : rowNo m t < 6) wh
 
 -- ---- what a write owes
 
-module _ (n : ℕ) (start : List ℤ) (m : Memory) (S : Shape m) (t i : ℕ) (v : ℤ) where
+module _ (n : ℕ) (start : List ℤ) {over : ℕ} (m : Memory) (S : Shape over m) (t i : ℕ) (v : ℤ) where
   abbrev own : ℕ
   own = rowNo m t
 

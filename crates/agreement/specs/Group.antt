@@ -1,20 +1,23 @@
--- A group of replicas with its observer, and lists of calls.
-use Prim.Native.Nat.{ℕ, _<_}
+-- A group of replicas with its observer and their journals, and lists of calls.
+use Prim.Native.Nat.{ℕ, suc, _*_, _≤_, _<_, max}
 use mathlib.Core.Path.{_≡_}
 use mathlib.Core.Bool.{true, cond}
+use mathlib.Core.Option.{Option, none, some}
 use mathlib.Core.List.{List, [], _∷_, _++_, map}
 use lib.Dec.{eqb}
 use lib.IntN.{ℤ, pos}
+use lib.ListN.{length, getD, take}
 use Rattle.block.specs.declared.Entry.{Entry}
 use Rattle.block.specs.Message.{Record, signed32}
 use Rattle.block.specs.Form.{messageOf}
 use Rattle.memory.specs.Memory.{Memory}
 use Rattle.engine.specs.Calls.{Answer, Outcome}
-use Rattle.engine.specs.Calls.Answer.{refused, made, began, got, wrote, queued, readOnly, withdrew, reported, sent, kept, worked}
+use Rattle.engine.specs.Calls.Answer.{refused, made, began, got, wrote, queued, readOnly, withdrew, reported, sent, kept, worked, restarted}
 use Rattle.engine.specs.Make.{madeMemory}
 use Rattle.engine.specs.Step.{Call, step}
 use Rattle.engine.specs.Step.Call.{begin, read, write, ask, withdraw, report, send, deliver, work}
-use Rattle.protocol.specs.Lists.{update, Mem}
+use Rattle.engine.specs.Restart.{firstBlocks, restartStep}
+use Rattle.protocol.specs.Lists.{opt, update, Mem}
 use Rattle.protocol.specs.Writesets.{Write, newWrite, Writeset, Message}
 use Rattle.protocol.specs.Replica.{Event}
 use Rattle.protocol.specs.Replica.Event.{passed, committed, requested, handedOut, accepted}
@@ -76,7 +79,31 @@ bytesOf (send b) = []
 bytesOf (deliver b) = b
 bytesOf work = []
 
--- a work that committed nothing names ticket 0; no call of a list answers `made`
+-- ---- the calls
+
+-- one of document 01, or a restart, which is lent a journal and a block, and N, its own number and the starting values as at Make
+pub data GroupCall : Type 0 where
+  call : Call → GroupCall
+  restart : (journal block : List ℕ) → GroupCall
+
+abbrev pub valueIn : GroupCall → ℤ
+valueIn (call c) = valueOf c
+valueIn (restart journal block) = pos 0
+
+abbrev pub journalIn : GroupCall → List ℕ
+journalIn (call c) = []
+journalIn (restart journal block) = journal
+
+-- at replica k, on the memory that the last call there left
+abbrev pub performed : ℕ → List ℤ → ℕ → Memory → GroupCall → Outcome
+performed n start k m (call c) = step m c
+performed n start k m (restart journal block) = restartStep m n k start journal block
+
+-- the block that a restart gives back, none where it is zeros
+abbrev pub givenIn : List ℕ → Option (Message ℤ)
+givenIn b = cond (eqb (getD b 0 0) 0) none (some (messageIn b))
+
+-- a work that committed nothing names ticket 0; no call but these answers `made` or `restarted`
 unfoldable pub heard : Call → Answer → Event ℤ
 heard c (refused n) = Event.refused n
 heard c made = Event.refused 0
@@ -90,27 +117,83 @@ heard c (reported r) = Event.reported (r .turn) (r .commits)
 heard c (sent b) = handedOut (messageIn b)
 heard c kept = accepted (messageIn (bytesOf c))
 heard c (worked s) = cond (eqb (s .ticket) 0) (passed (s .sender)) (committed (s .sender) (s .ticket) (s .aborted))
+heard c (restarted k b) = Event.restarted [] (givenIn b)
+
+-- of a restart: the messages of the lent journal's blocks before the one at which it stops, and the one that it gives back
+unfoldable pub heardRestart : List ℕ → Answer → Event ℤ
+heardRestart journal (refused n) = Event.refused n
+heardRestart journal made = Event.refused 0
+heardRestart journal (began t) = Event.refused 0
+heardRestart journal (got v) = Event.refused 0
+heardRestart journal wrote = Event.refused 0
+heardRestart journal queued = Event.refused 0
+heardRestart journal readOnly = Event.refused 0
+heardRestart journal withdrew = Event.refused 0
+heardRestart journal (reported r) = Event.refused 0
+heardRestart journal (sent b) = Event.refused 0
+heardRestart journal kept = Event.refused 0
+heardRestart journal (worked s) = Event.refused 0
+heardRestart journal (restarted c b) = Event.restarted (map messageIn (firstBlocks c journal)) (givenIn b)
+
+abbrev pub told : GroupCall → Answer → Event ℤ
+told (call c) a = heard c a
+told (restart journal block) a = heardRestart journal a
+
+-- ---- the journals, from what calls answer
+
+-- what a replica's disk has: all bytes appended, and how many of its blocks a cut leaves at least, up to the last own one handed out
+pub record Disk : Type 0 where
+  pub journal : List ℕ
+  pub safe : ℕ
+
+abbrev pub disk : List ℕ → ℕ → Disk
+disk l n = record { journal = l; safe = n }
+
+-- the bytes that a call appends: a send's block; another's, where the turn leaves its slot
+abbrev pub appendedIn : Answer → List ℕ
+appendedIn (refused n) = []
+appendedIn made = []
+appendedIn (began t) = []
+appendedIn (got v) = []
+appendedIn wrote = []
+appendedIn queued = []
+appendedIn readOnly = []
+appendedIn withdrew = []
+appendedIn (reported r) = []
+appendedIn (sent b) = b
+appendedIn kept = []
+appendedIn (worked s) = s .append
+appendedIn (restarted c b) = []
+
+-- a restart's journal goes on behind the last block committed
+abbrev pub diskAfter : Disk → GroupCall → Answer → Disk
+diskAfter d c (refused n) = d
+diskAfter d c made = d
+diskAfter d c (began t) = d
+diskAfter d c (got v) = d
+diskAfter d c wrote = d
+diskAfter d c queued = d
+diskAfter d c readOnly = d
+diskAfter d c withdrew = d
+diskAfter d c (reported r) = d
+diskAfter d c (sent b) = disk (d .journal ++ b) (suc (messageIn b .slot))
+diskAfter d c kept = d
+diskAfter d c (worked s) = disk (d .journal ++ s .append) (d .safe)
+diskAfter d c (restarted k b) = disk (take (512 * k) (journalIn c)) (opt (givenIn b) (d .safe) (λ m. max (d .safe) (suc (m .slot))))
 
 -- ---- the group
 
--- blocks: those handed out, in order
+-- blocks: those handed out, in order, also by a restart
 pub record Group : Type 0 where
   pub memories : ℕ → Memory
+  pub disks : ℕ → Disk
   pub observed : ℕ → Observed ℤ
   pub handouts : List (Handout ℤ)
   pub blocks : List (List ℕ)
 
 pub record CallAt : Type 0 where
   pub at : ℕ
-  pub does : Call
-
--- n replicas just made, numbers 0 to n − 1, the same values
-abbrev pub fresh : ℕ → List ℤ → Group
-fresh n start = record { memories = λ k. madeMemory n k start; observed = λ k. observing (λ t. noting 0 []) [] []; handouts = []; blocks = [] }
-
--- a call acts on the memory that the last call at its replica left
-abbrev pub did : Group → CallAt → Outcome
-did g c = step (g .memories (c .at)) (c .does)
+  pub does : GroupCall
 
 abbrev pub blocksAfter : List (List ℕ) → Answer → List (List ℕ)
 blocksAfter B (refused n) = B
@@ -125,18 +208,35 @@ blocksAfter B (reported r) = B
 blocksAfter B (sent b) = B ++ (b ∷ [])
 blocksAfter B kept = B
 blocksAfter B (worked s) = B
+blocksAfter B (restarted c b) = cond (eqb (getD b 0 0) 0) B (B ++ (b ∷ []))
 
-abbrev pub next : Group → CallAt → Group
-next g c = record {
-  memories = update (g .memories) (c .at) (did g c .memory);
-  observed = update (g .observed) (c .at) (observedAfter (g .observed (c .at)) (heard (c .does) (did g c .answer)));
-  handouts = handoutsAfter (g .handouts) (c .at) (g .observed (c .at)) (heard (c .does) (did g c .answer));
-  blocks = blocksAfter (g .blocks) (did g c .answer);
-}
+module _ (n : ℕ) (start : List ℤ) where
+  -- n replicas just made, numbers 0 to n − 1, the same values
+  abbrev pub fresh : Group
+  fresh = record {
+    memories = λ k. madeMemory n k start;
+    disks = λ k. disk [] 0;
+    observed = λ k. observing (λ t. noting 0 []) [] [];
+    handouts = [];
+    blocks = [];
+  }
 
-unfoldable pub run : Group → List CallAt → Group
-run g [] = g
-run g (c ∷ cs) = run (next g c) cs
+  -- a call acts on the memory that the last call at its replica left
+  abbrev pub did : Group → CallAt → Outcome
+  did g c = performed n start (c .at) (g .memories (c .at)) (c .does)
+
+  abbrev pub next : Group → CallAt → Group
+  next g c = record {
+    memories = update (g .memories) (c .at) (did g c .memory);
+    disks = update (g .disks) (c .at) (diskAfter (g .disks (c .at)) (c .does) (did g c .answer));
+    observed = update (g .observed) (c .at) (observedAfter (g .observed (c .at)) (told (c .does) (did g c .answer)));
+    handouts = handoutsAfter (g .handouts) (c .at) (g .observed (c .at)) (told (c .does) (did g c .answer));
+    blocks = blocksAfter (g .blocks) (did g c .answer);
+  }
+
+  unfoldable pub run : Group → List CallAt → Group
+  run g [] = g
+  run g (c ∷ cs) = run (next g c) cs
 
 -- ---- lists of calls
 
@@ -146,9 +246,24 @@ Comes cs before c = (after : List CallAt) × (cs ≡ before ++ (c ∷ after))
 
 -- each call is at a replica of the group, and a value written is a signed 32-bit number, as the calls' types have it; all else is any
 abbrev pub Calls : ℕ → List CallAt → Type 0
-Calls n cs = (c : CallAt) → Mem c cs → (c .at < n) × (signed32 (valueOf (c .does)) ≡ true)
+Calls n cs = (c : CallAt) → Mem c cs → (c .at < n) × (signed32 (valueIn (c .does)) ≡ true)
 
--- the premise: bytes that a deliver accepts equal a block handed out earlier in the list
-abbrev pub Premise : ℕ → List ℤ → List CallAt → Type 0
-Premise n start cs = (before : List CallAt) (k : ℕ) (bytes : List ℕ) → Comes cs before (record { at = k; does = deliver bytes })
-    → step (run (fresh n start) before .memories k) (deliver bytes) .answer ≡ kept → Mem bytes (run (fresh n start) before .blocks)
+-- the journal is what a cut leaves of the bytes appended and of those that one more call appended: a first part with every own block handed out
+pub record Cut (d : Disk) (more journal : List ℕ) : Type 0 where
+  pub count : ℕ
+  pub part : journal ≡ take count (d .journal ++ more)
+  pub enough : 512 * d .safe ≤ length journal
+
+-- the call there that the cut ended, of any kind
+pub record Lent (m : Memory) (d : Disk) (journal : List ℕ) : Type 0 where
+  pub ended : Call
+  pub value : signed32 (valueOf ended) ≡ true
+  pub cut : Cut d (appendedIn (step m ended .answer)) journal
+
+pub record Premise (n : ℕ) (start : List ℤ) (cs : List CallAt) : Type 0 where
+  -- bytes that a deliver accepts equal a block handed out earlier in the list
+  pub delivered : (before : List CallAt) (k : ℕ) (bytes : List ℕ) → Comes cs before (record { at = k; does = call (deliver bytes) })
+      → step (run n start (fresh n start) before .memories k) (deliver bytes) .answer ≡ kept → Mem bytes (run n start (fresh n start) before .blocks)
+  -- a restart is lent what a cut leaves
+  pub lent : (before : List CallAt) (k : ℕ) (journal block : List ℕ) → Comes cs before (record { at = k; does = restart journal block })
+      → Lent (run n start (fresh n start) before .memories k) (run n start (fresh n start) before .disks k) journal

@@ -2,3 +2,4 @@
 -- `protocol/specs/Observer.antt`.
 pub mod Group
 pub mod Statement
+pub mod Floor

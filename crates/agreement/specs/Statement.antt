@@ -13,8 +13,9 @@ use Rattle.engine.specs.Step.{Call, step}
 use Rattle.engine.specs.Step.Call.{read, write, work}
 use Rattle.protocol.specs.Lists.{Mem}
 use Rattle.protocol.specs.Writesets.{Write, has, lookup, Disjoint}
-use Rattle.protocol.specs.Observer.{Observed, Placed, Handout, sequence, idOf, applyAll, messageOf, noPlaced, noHandout}
-use Rattle.agreement.specs.Group.{messageIn, Group, CallAt, fresh, run, Comes, Calls, Premise}
+use Rattle.protocol.specs.Observer.{Observed, Placed, Handout, sequence, idOf, applyAll, noPlaced, noHandout}
+use Rattle.protocol.specs.Statement.{SameMessages}
+use Rattle.agreement.specs.Group.{messageIn, Group, call, CallAt, fresh, run, Comes, Calls, Premise}
 
 -- the writeset at a place of the sequence, counted from 1
 abbrev pub placed : List (Placed ℤ) → ℕ → Placed ℤ
@@ -47,7 +48,7 @@ pub record FirstCommitter (F : List (Placed ℤ)) (p : ℕ) : Type 0 where
 module _ (n : ℕ) (start : List ℤ) (cs : List CallAt) where
   -- the group after some of the calls, and after all
   abbrev pub groupAfter : List CallAt → Group
-  groupAfter before = run (fresh n start) before
+  groupAfter before = run n start (fresh n start) before
 
   abbrev pub handouts : List (Handout ℤ)
   handouts = groupAfter cs .handouts
@@ -65,26 +66,26 @@ module _ (n : ℕ) (start : List ℤ) (cs : List CallAt) where
     -- no slot was put down twice, and the sequence is by rising slot
     pub slots : (i j : ℕ) → i < j → j < length handouts → getD handouts i noHandout .slot < getD handouts j noHandout .slot
     -- the records of each block handed out are the tickets and writes put down under its slot, in order
-    pub blocks : map messageIn (groupAfter cs .blocks) ≡ map messageOf handouts
+    pub blocks : SameMessages handouts (map messageIn (groupAfter cs .blocks))
     -- each replica has committed a beginning of the sequence and holds its values
     pub replicas : (k : ℕ) → k < n → Agrees start F handouts (groupAfter cs .observed k) (groupAfter cs .memories k .store .values) (reportOf (groupAfter cs .memories k))
     -- each accepted read gave the value then noted, else the item's value after the first *start* writesets of the sequence
-    pub reads : (before : List CallAt) (k t i : ℕ) (v : ℤ) → Comes cs before (record { at = k; does = read t i }) → answer before k (read t i) ≡ got v
+    pub reads : (before : List CallAt) (k t i : ℕ) (v : ℤ) → Comes cs before (record { at = k; does = call (read t i) }) → answer before k (read t i) ≡ got v
         → let note = groupAfter before .observed k .noted t in v ≡ lookup i (getD (applyAll start (take (note .start) F)) i (pos 0)) (note .writes)
     -- the first committer wins
     pub first : (p : ℕ) → 0 < p → p ≤ length F → FirstCommitter F p
     -- a work that commits names the next writeset of the sequence
-    pub works : (before : List CallAt) (k : ℕ) (s : Step) → Comes cs before (record { at = k; does = work }) → answer before k work ≡ worked s → (s .ticket ≡ 0 → ⊥)
+    pub works : (before : List CallAt) (k : ℕ) (s : Step) → Comes cs before (record { at = k; does = call work }) → answer before k work ≡ worked s → (s .ticket ≡ 0 → ⊥)
         → idOf (placed F (suc (length (groupAfter before .observed k .commits)))) ≡ record { sender = s .sender; ticket = s .ticket }
     -- a ticket that a work names as aborted has noted an item of the writeset which that work committed
-    pub aborts : (before : List CallAt) (k : ℕ) (s : Step) → Comes cs before (record { at = k; does = work }) → answer before k work ≡ worked s
+    pub aborts : (before : List CallAt) (k : ℕ) (s : Step) → Comes cs before (record { at = k; does = call work }) → answer before k work ≡ worked s
         → (t : ℕ) → Mem t (s .aborted)
         → Share (groupAfter before .observed k .noted t .writes) (placed F (suc (length (groupAfter before .observed k .commits))) .writes)
     -- once a ticket is put down, no work at its replica names it as aborted
-    pub spared : (before : List CallAt) (k : ℕ) (s : Step) → Comes cs before (record { at = k; does = work }) → answer before k work ≡ worked s
+    pub spared : (before : List CallAt) (k : ℕ) (s : Step) → Comes cs before (record { at = k; does = call work }) → answer before k work ≡ worked s
         → (t : ℕ) → Mem t (s .aborted) → PutDown (groupAfter before .handouts) k t → ⊥
     -- and no write under it gives 9
-    pub never-stale : (before : List CallAt) (k t i : ℕ) (v : ℤ) → Comes cs before (record { at = k; does = write t i v }) → answer before k (write t i v) ≡ refused 9
+    pub never-stale : (before : List CallAt) (k t i : ℕ) (v : ℤ) → Comes cs before (record { at = k; does = call (write t i v) }) → answer before k (write t i v) ≡ refused 9
         → PutDown (groupAfter before .handouts) k t → ⊥
 
 -- for every group, starting values and list with the premise

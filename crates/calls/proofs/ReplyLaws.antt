@@ -17,7 +17,7 @@ use Rattle.memory.specs.Turns.{markApplying, advance}
 use Rattle.engine.specs.declared.Report.{Report}
 use Rattle.engine.specs.Calls.{Answer, numberOf, Outcome, outcome, unless}
 use Rattle.engine.specs.Calls.Outcome.{memory}
-use Rattle.engine.specs.Calls.Answer.{refused, made, began, got, wrote, queued, readOnly, withdrew, reported, sent, kept, worked}
+use Rattle.engine.specs.Calls.Answer.{refused, made, began, got, wrote, queued, readOnly, withdrew, reported, sent, kept, worked, restarted}
 use Rattle.engine.specs.Moves.{sendNow, sendStep, blockAtTurn, isLast, passNext, commitWriteset, workStep}
 use Rattle.engine.specs.Step.{step}
 use Rattle.engine.specs.Make.{madeMemory, partsFit, makeRefusal, makeStep}
@@ -56,6 +56,7 @@ changeIn own readOnly = 0
 changeIn own withdrew = 0
 changeIn own (reported r) = 0
 changeIn own kept = 0
+changeIn own (restarted c b) = 0
 
 pub turn-stays : (t : Turn) → moved 0 t ≡ t
 unfolding moved
@@ -96,10 +97,10 @@ send-did m block p e = (ap number e, ap memory e, rw (← e) at (send-turn m blo
 -- ---- a work
 
 -- what a worked step hands back: the first n tickets are those aborted
-pub work-reply : (n : ℕ) (tickets : List ℕ) → Trimmed n tickets → length tickets ≡ 6 → (sender ticket : ℕ) (moves : Bool) (m : Memory)
+pub work-reply : (n : ℕ) (tickets : List ℕ) → Trimmed n tickets → length tickets ≡ 6 → (sender ticket : ℕ) (moves : Bool) (append : List ℕ) (m : Memory)
     → _≡_ {A = WorkReply} (record { number = 0; sender = sender; moved = moves; count = n; ticket = ticket; aborted = tickets; counts = m .counts })
-    (workReply (outcome (worked (record { sender = sender; ticket = ticket; moved = moves; aborted = take n tickets })) m))
-work-reply n tickets t six sender ticket moves m =
+    (workReply (outcome (worked (record { sender = sender; ticket = ticket; moved = moves; aborted = take n tickets; append = append })) m))
+work-reply n tickets t six sender ticket moves append m =
     let l : length (take n tickets) ≡ n = length-take-le n tickets (omega (arith, t .few)) in
     rw (← six-of n tickets (t .few) six (t .zeros), l)
 
@@ -126,6 +127,7 @@ isRefused (reported r) = false
 isRefused (sent b) = false
 isRefused kept = false
 isRefused (worked s) = false
+isRefused (restarted c b) = false
 
 module _ (n own : ℕ) (start : List ℤ) (m : Memory) where
   -- a make that is accepted on one memory is accepted on any with the same slices; its turn is the first

@@ -7,7 +7,7 @@ use lib.IntN.{ℤ, pos}
 use lib.ListN.{length, replicate}
 use Rattle.engine.specs.declared.Report.{Report}
 use Rattle.engine.specs.Calls.{Step, Answer, numberOf, Outcome}
-use Rattle.engine.specs.Calls.Answer.{refused, made, began, got, wrote, queued, readOnly, withdrew, reported, sent, kept, worked}
+use Rattle.engine.specs.Calls.Answer.{refused, made, began, got, wrote, queued, readOnly, withdrew, reported, sent, kept, worked, restarted}
 use Rattle.client.specs.declared.Answered.{Answered}
 use Rattle.client.specs.declared.Answered.the-variants as done
 use Rattle.calls.specs.declared.Reply.{Reply}
@@ -32,6 +32,7 @@ ticketIn (reported r) = 0
 ticketIn (sent b) = 0
 ticketIn kept = 0
 ticketIn (worked s) = 0
+ticketIn (restarted c b) = 0
 
 abbrev pub valueIn : Answer → ℤ
 valueIn (got v) = v
@@ -46,6 +47,7 @@ valueIn (reported r) = pos 0
 valueIn (sent b) = pos 0
 valueIn kept = pos 0
 valueIn (worked s) = pos 0
+valueIn (restarted c b) = pos 0
 
 abbrev pub isReadOnly : Answer → Bool
 isReadOnly readOnly = true
@@ -60,6 +62,7 @@ isReadOnly (reported r) = false
 isReadOnly (sent b) = false
 isReadOnly kept = false
 isReadOnly (worked s) = false
+isReadOnly (restarted c b) = false
 
 abbrev pub noReport : Report
 noReport = record { turn = 0; commits = 0; tickets = 0; active = 0; committed = 0; «read_only» = 0; aborted = 0; withdrawn = 0 }
@@ -77,9 +80,10 @@ reportIn withdrew = noReport
 reportIn (sent b) = noReport
 reportIn kept = noReport
 reportIn (worked s) = noReport
+reportIn (restarted c b) = noReport
 
 abbrev pub noStep : Step
-noStep = record { sender = 0; ticket = 0; moved = false; aborted = [] }
+noStep = record { sender = 0; ticket = 0; moved = false; aborted = []; append = [] }
 
 abbrev pub stepIn : Answer → Step
 stepIn (worked s) = s
@@ -94,6 +98,7 @@ stepIn withdrew = noStep
 stepIn (reported r) = noStep
 stepIn (sent b) = noStep
 stepIn kept = noStep
+stepIn (restarted c b) = noStep
 
 -- ---- the replies
 

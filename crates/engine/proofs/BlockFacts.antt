@@ -1,6 +1,6 @@
 -- A block that the reader takes: its slot and replicas, a message's kind and count, and no ticket is 0. Assumes nothing.
 use Prim.Native.Nat.{ℕ, _+_, _*_, _≤_, _<_}
-use mathlib.Core.Path.{_≡_, refl}
+use mathlib.Core.Path.{_≡_, refl, ap, _∙_}
 use mathlib.Core.Bool.{Bool, true, false, cond, _&&_}
 use mathlib.Core.List.{List}
 use native.Mathlib.Omega.{arith}
@@ -8,7 +8,7 @@ use lib.Dec.{eqb}
 use lib.ListN.{length, getD, take, drop}
 use lib.Seq.{slice, take-take}
 use borrow.Author.Tests.{eqb-true, eqb-false, eq-eqb, lt-ltb}
-use Rattle.block.specs.Message.{Message, within, kindFits, valid}
+use Rattle.block.specs.Message.{Record, Message, within, kindFits, valid}
 use Rattle.block.specs.Form.{recordOf, recordsOf, messageOf}
 use Rattle.block.specs.Answers.{readRefusal, headerOf, recordAt}
 use Rattle.block.specs.Theorems.{noRecord}
@@ -50,7 +50,7 @@ pub record TakenBlock (b : List ℕ) : Type 0 where
   pub count : getD b 3 0 ≤ 6
   pub next : getD b 0 0 ≡ 1 → getD b 3 0 ≡ 0
   pub some : (getD b 0 0 ≡ 1 → ⊥) → 0 < getD b 3 0
-  pub ticket : (j : ℕ) → j < getD b 3 0 → 1 ≤ recordAt b j .ticket
+  pub ticket : (j : ℕ) → j < getD b 3 0 → (1 ≤ recordAt b j .ticket) × (recordAt b j .ticket ≤ 100_000_000)
 
 pub taken-block : (b : List ℕ) → readRefusal b ≡ 0 → TakenBlock b
 unfolding messageOf headerOf
@@ -68,6 +68,7 @@ taken-block b e =
       next = k .0;
       some = k .1;
       ticket = λ j h.
-          let r = record-facts-at (recordsOf (getD b 3 0) l) j noRecord (f .records) (omega arith) .ticket .above in
-          rw (record-at (getD b 3 0) j l noRecord h, ticket-read b j (t .long) (omega (arith, k .2))) at r;
+          let r = record-facts-at (recordsOf (getD b 3 0) l) j noRecord (f .records) (omega arith) .ticket in
+          let same = ap (λ (x : Record). x .ticket) (record-at (getD b 3 0) j l noRecord h) ∙ ticket-read b j (t .long) (omega (arith, k .2)) in
+          (rw same at (r .above), rw same at (r .below));
     }

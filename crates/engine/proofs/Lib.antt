@@ -25,6 +25,9 @@ pub mod ShapeDeliver
 pub mod ShapeTurn
 pub mod ShapeWriteset
 pub mod ShapeWork
+-- a restart
+pub mod RestartLaws
+pub mod ShapeRestart
 -- the theorems
 pub mod Refusals
 pub mod Frames
@@ -32,3 +35,4 @@ pub mod Shapes
 pub mod Reports
 pub mod Queues
 pub mod Worked
+pub mod Restarts

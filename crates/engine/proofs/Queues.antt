@@ -36,21 +36,21 @@ unfolding without has
 without-none [] = refl
 without-none (x ∷ xs) = ap (λ (l : List ℕ). x ∷ l) (without-none xs)
 
-committed : (m : Memory) → Shape m → (mine : Bool) (w : Record) → Ordered m work (commitWriteset m mine w)
+committed : {over : ℕ} (m : Memory) → Shape over m → (mine : Bool) (w : Record) → Ordered m work (commitWriteset m mine w)
 unfolding Ordered commitWriteset pendingAfter
 committed m s true w = sym (without-none (waiting (m .txns .queue)))
 committed m s false w =
     front-is (hitTickets (w .entries) (m .txns .items) 0 (m .txns .table)) (m .txns .queue) _ (no-zero (w .entries) (m .txns .items) 0 (m .txns .table)) (s .lengths .queue)
     (let a = length-waiting (m .txns .queue) in omega (arith, s .lengths .queue)) (s .queue .zeros) (s .queue .once) refl
 
-joined : (m : Memory) → Shape m → (t : ℕ) → RowPassed m t → Ordered m (ask t) (queueAt m (rowNo m t) (rowAt (m .txns .table) (rowNo m t)))
+joined : {over : ℕ} (m : Memory) → Shape over m → (t : ℕ) → RowPassed m t → Ordered m (ask t) (queueAt m (rowNo m t) (rowAt (m .txns .table) (rowNo m t)))
 unfolding Ordered pendingAfter
 joined m s t p =
     let f = row-found t (m .txns .table) (s .lengths .table) (p .row) in
     queued-last m s (rowNo m t) (p .row) (p .active) (f .live)
     ∙ unfold queueAt in ap (λ (x : ℕ). waiting (m .txns .queue) ++ (x ∷ [])) (f .is)
 
-ordered : (m : Memory) → Shape m → (c : Call) → Ordered m c (step m c)
+ordered : {over : ℕ} (m : Memory) → Shape over m → (c : Call) → Ordered m c (step m c)
 unfolding Ordered pendingAfter
 ordered m s begin = begin-by (Ordered m begin) m (λ e. unfold beginAt in refl) (λ e. refl)
 ordered m s (read t i) = read-by (Ordered m (read t i)) m t i (λ e. refl) (λ e. refl)
@@ -63,7 +63,7 @@ ordered m s (send b) = send-by (Ordered m (send b)) m b (λ e. unfold sendNow wa
 ordered m s (deliver b) = deliver-by (Ordered m (deliver b)) m b (λ e. unfold deliverNow in refl) (λ e. refl)
 ordered m s work = work-by (Ordered m work) m (λ e k. unfold passNext in sym (without-none (waiting (m .txns .queue)))) (λ e k. committed m s _ _) (λ e. refl)
 
-listed : (m : Memory) → Shape m → (cs : List Call) → waiting (after m cs .txns .queue) ≡ pending (waiting (m .txns .queue)) m cs
+listed : {over : ℕ} (m : Memory) → Shape over m → (cs : List Call) → waiting (after m cs .txns .queue) ≡ pending (waiting (m .txns .queue)) m cs
 unfolding after pending Ordered
 listed m s [] = refl
 listed m s (c ∷ cs) =

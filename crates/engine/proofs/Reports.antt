@@ -1,9 +1,9 @@
 -- Report's numbers are those counted from the answers. Assumes nothing.
-use Prim.Native.Nat.{ℕ, suc, _+_, _-_, _≤_, min}
-use mathlib.Core.Path.{_≡_, refl, ap, _∙_}
+use Prim.Native.Nat.{ℕ, suc, _+_, _-_, _/_, _≤_, min}
+use mathlib.Core.Path.{_≡_, refl, sym, ap, _∙_}
 use mathlib.Core.Bool.{Bool, true, false, cond}
 use mathlib.Core.List.{List, [], _∷_}
-use native.Mathlib.Nat.{add-zero}
+use native.Mathlib.Nat.{add-zero, zero-add}
 use native.Mathlib.Numerals.{add-one}
 use native.Mathlib.Omega.{arith}
 use lib.Dec.{eqb}
@@ -23,16 +23,19 @@ use Rattle.engine.specs.Client.{rowNo, beginAt, rewriteAt, insertWrite, 
 use Rattle.engine.specs.Moves.{sendNow, deliverNow, blockAtTurn, writesetAt, hitTickets, isLast, passNext, commitWriteset}
 use Rattle.engine.specs.Step.{Call, step, refusalOf, after}
 use Rattle.engine.specs.Step.Call.{begin, read, write, ask, withdraw, report, send, deliver, work}
+use Rattle.engine.specs.Restart.{blocksIn, startReplay, repeated, restartedMemory}
 use Rattle.engine.specs.Shape.{Shape}
 use Rattle.engine.specs.Frames.{isWrite}
-use Rattle.engine.specs.History.{Tally, noCalls, counted, tally, reportFrom, Reports}
+use Rattle.engine.specs.History.{Tally, noCalls, counted, tally, writesetCount, restartTally, reportFrom, Reports}
 use Rattle.engine.proofs.Tests.{clash}
 use Rattle.engine.proofs.Steps.{begin-by, read-by, write-by, ask-by, withdraw-by, send-by, deliver-by, work-by}
 use Rattle.engine.proofs.Refusals.{refusals}
 use Rattle.engine.proofs.HitLaws.{spared-open}
 use Rattle.engine.proofs.Shaping.{Bumps, bumps}
 use Rattle.engine.proofs.ShapeTurn.{Working, working}
-use Rattle.engine.proofs.Shapes.{shapes}
+use Rattle.engine.proofs.RestartLaws.{reads-good, reads-few, count-few, blocks-counted}
+use Rattle.engine.proofs.ShapeRestart.{shape-restarted}
+use Rattle.engine.proofs.Shapes.{shape-after, shapes}
 
 -- the numbers that a memory keeps
 unfoldable pub kept : Memory → Tally
@@ -86,12 +89,12 @@ slot-after t false true h = refl
 slot-after t false false h = refl
 
 -- at most the open ones are aborted
-few-gone : (m : Memory) → Shape m → (mine : Bool) (es : List Entry)
+few-gone : {over : ℕ} (m : Memory) → Shape over m → (mine : Bool) (es : List Entry)
     → let n = m .counts .aborted + length (cond mine [] (hitTickets es (m .txns .items) 0 (m .txns .table))) in min n 4_294_967_295 ≡ n
-few-gone m s true es = omega (arith, s .ranges .endings, s .ranges .tickets)
-few-gone m s false es = omega (arith, s .ranges .endings, s .ranges .tickets, spared-open es (m .txns .items) 0 (m .txns .table))
+few-gone m s true es = omega (arith, s .ranges .endings, s .ranges .repeats, s .ranges .tickets)
+few-gone m s false es = omega (arith, s .ranges .endings, s .ranges .repeats, s .ranges .tickets, spared-open es (m .txns .items) 0 (m .txns .table))
 
-commit-counted : (m : Memory) → Shape m → Working m → (w : Record) → 1 ≤ w .ticket
+commit-counted : {over : ℕ} (m : Memory) → Shape over m → Working m → (w : Record) → 1 ≤ w .ticket
     → Counted m (commitWriteset m (eqb (getD (blockAtTurn m) 1 0) (m .counts .own)) w)
 unfolding kept counted commitWriteset
 commit-counted m s k w h =
@@ -113,7 +116,7 @@ commit-counted m s k w h =
 not-nine : (m : Memory) (c : Call) → isWrite c ≡ false → refusalOf m c ≡ 9 → ⊥
 not-nine m c h e = clash (refusals .nine m c e) h
 
-step-counted : (m : Memory) → Shape m → (c : Call) → Counted m (step m c)
+pub step-counted : {over : ℕ} (m : Memory) → Shape over m → (c : Call) → Counted m (step m c)
 unfolding refusalOf
 step-counted m s begin = begin-by (Counted m) m (λ e. begin-counted m _) (λ e. refused-counted m _ (not-nine m begin refl))
 step-counted m s (read t i) =
@@ -152,15 +155,15 @@ step-counted m s work =
 
 -- ---- a list of calls
 
-report-from : (m : Memory) → Shape m → reportOf m ≡ reportFrom (kept m)
+report-from : {over : ℕ} (m : Memory) → Shape over m → reportOf m ≡ reportFrom over (kept m)
 unfolding reportOf kept
-report-from m s =
+report-from {over} m s =
     let e = s .ranges .endings in
     let a = m .counts .committed + m .counts .«read_only» + m .counts .aborted + m .counts .withdrawn in
-    let active : openCount (m .txns .table) ≡ m .counts .tickets - a = omega arith in
+    let active : openCount (m .txns .table) ≡ m .counts .tickets + over - a = omega arith in
     rw active
 
-made-own : (n own : ℕ) (values : List ℤ) → madeMemory n own values .counts .own ≡ own
+pub made-own : (n own : ℕ) (values : List ℤ) → madeMemory n own values .counts .own ≡ own
 unfolding madeMemory
 made-own n own values = refl
 
@@ -168,7 +171,7 @@ made-kept : (n own : ℕ) (values : List ℤ) → kept (madeMemory n own values)
 unfolding madeMemory kept
 made-kept n own values = refl
 
-tally-kept : (own : ℕ) (m : Memory) → Shape m → m .counts .own ≡ own → (cs : List Call) → kept (after m cs) ≡ tally own (kept m) m cs
+tally-kept : (own : ℕ) {over : ℕ} (m : Memory) → Shape over m → m .counts .own ≡ own → (cs : List Call) → kept (after m cs) ≡ tally own (kept m) m cs
 unfolding after tally
 tally-kept own m s e [] = refl
 tally-kept own m s e (c ∷ cs) =
@@ -176,12 +179,30 @@ tally-kept own m s e (c ∷ cs) =
     tally-kept own (step m c .memory) (shapes .each m s c) (k .own ∙ e) cs
     ∙ ap (λ (t : Tally). tally own t (step m c .memory) cs) (k .numbers ∙ ap (λ (n : ℕ). counted n (kept m) (step m c .answer)) e)
 
+pub restarted-own : (n own : ℕ) (values : List ℤ) (bs : List (List ℕ)) → restartedMemory n own values bs .counts .own ≡ own
+unfolding restartedMemory
+restarted-own n own values bs = refl
+
+restarted-kept : (n own : ℕ) (values : List ℤ) (journal : List ℕ) → kept (restartedMemory n own values (blocksIn n journal)) ≡ restartTally own (blocksIn n journal)
+unfolding restartedMemory kept
+restarted-kept n own values journal =
+    let bs = blocksIn n journal in
+    let c = count-few n bs (reads-good n 0 _ journal) in
+    let f = reads-few n 0 (length journal / 512) journal (omega arith) in
+    rw (blocks-counted bs (startReplay values) (omega arith), zero-add (writesetCount bs))
+
 pub reports : Reports
 reports = record {
   report = λ n own values l h o v cs.
       let m = madeMemory n own values in
       report-from (after m cs) (shapes .all n own values l h o v cs)
-      ∙ ap reportFrom (tally-kept own m (shapes .made n own values l h o v) (made-own n own values) cs
+      ∙ ap (reportFrom 0) (tally-kept own m (shapes .made n own values l h o v) (made-own n own values) cs
       ∙ ap (λ (t : Tally). tally own t m cs) (made-kept n own values));
-  sum = λ n own values l h o v cs. unfold reportOf in shapes .all n own values l h o v cs .ranges .endings;
+  sum = λ n own values l h o v cs. unfold reportOf in sym (add-zero _) ∙ shapes .all n own values l h o v cs .ranges .endings;
+  restarted = λ n own values l h o v journal cs.
+      let bs = blocksIn n journal in
+      let m = restartedMemory n own values bs in
+      let s = shape-restarted n own values l h o v journal in
+      report-from (after m cs) (shape-after m s cs)
+      ∙ ap (reportFrom (repeated own bs)) (tally-kept own m s (restarted-own n own values bs) cs ∙ ap (λ (t : Tally). tally own t m cs) (restarted-kept n own values journal));
 }

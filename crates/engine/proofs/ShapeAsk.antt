@@ -18,7 +18,7 @@ use Rattle.engine.proofs.QueueLaws.{Room, waiting-joined, joined-length
 use Rattle.engine.proofs.Shaping.{fits-of, alone}
 use Rattle.engine.proofs.ShapeRow.{Parts, changed, Apart, partsWith, Change, at-row, apart-own, each-row, still-asked, shape-changed}
 
-module _ (m : Memory) (s : Shape m) (r : ℕ) (h : r < 6) (active : rowAt (m .txns .table) r .stage ≡ 0) (some : rowAt (m .txns .table) r .ticket ≡ 0 → ⊥) where
+module _ {over : ℕ} (m : Memory) (s : Shape over m) (r : ℕ) (h : r < 6) (active : rowAt (m .txns .table) r .stage ≡ 0) (some : rowAt (m .txns .table) r .ticket ≡ 0 → ⊥) where
   -- an asked row is another one
   not-asked : (k : ℕ) → k < length (waiting (m .txns .queue)) → rowOf (getD (m .txns .queue) k 0) (m .txns .table) ≡ r → ⊥
   not-asked k u e = let z : _≡_ {A = ℕ} 0 1 = sym active ∙ ap (λ (i : ℕ). rowAt (m .txns .table) i .stage) (sym e) ∙ s .queue .asked k u .1 in omega arith
@@ -90,7 +90,7 @@ module _ (m : Memory) (s : Shape m) (r : ℕ) (h : r < 6) (active : rowAt (m .tx
         not-asked j b (ap (λ (x : ℕ). rowOf x (m .txns .table)) q ∙ own-row));
   }
 
-  change : 0 < rowAt (m .txns .table) r .writes → Change m r row parts
+  change : 0 < rowAt (m .txns .table) r .writes → Change over m r row parts
   change wrote = record {
     queue = length-set (m .txns .queue) (indexOf 0 (m .txns .queue)) (rowAt (m .txns .table) r .ticket) ∙ s .lengths .queue;
     items = s .lengths .items;
@@ -118,6 +118,6 @@ module _ (m : Memory) (s : Shape m) (r : ℕ) (h : r < 6) (active : rowAt (m .tx
   unfolding queueAt
   queued-last = waiting-joined (m .txns .queue) (rowAt (m .txns .table) r .ticket) room some
 
-  pub shape-queued : 0 < rowAt (m .txns .table) r .writes → Shape (queueAt m r (rowAt (m .txns .table) r) .memory)
+  pub shape-queued : 0 < rowAt (m .txns .table) r .writes → Shape over (queueAt m r (rowAt (m .txns .table) r) .memory)
   unfolding queueAt
   shape-queued wrote = shape-changed m s r h row active apart parts (change wrote) queue-joined

@@ -14,7 +14,7 @@ use Rattle.engine.proofs.Passed.{BeginPassed}
 use Rattle.engine.proofs.Shaping.{fits-empty}
 use Rattle.engine.proofs.ShapeRow.{Parts, Apart, Change, queue-same, shape-changed}
 
-module _ (m : Memory) (s : Shape m) (r : ℕ) (h : r < 6) (isFree : rowAt (m .txns .table) r .ticket ≡ 0) (spare : m .counts .tickets < maxTickets) where
+module _ {over : ℕ} (m : Memory) (s : Shape over m) (r : ℕ) (h : r < 6) (isFree : rowAt (m .txns .table) r .ticket ≡ 0) (spare : m .counts .tickets < maxTickets) where
   abbrev row : Txn
   row = record { ticket = m .counts .tickets + 1; stage = 0; snapshot = m .counts .commits; writes = 0 }
 
@@ -40,7 +40,7 @@ module _ (m : Memory) (s : Shape m) (r : ℕ) (h : r < 6) (isFree : rowAt (m .tx
   one-more : openCount (set (m .txns .table) r row) ≡ openCount (m .txns .table) + 1
   one-more = omega (arith, open-set (m .txns .table) r row (omega (arith, s .lengths .table)), free-is (rowAt (m .txns .table) r) isFree, open-is row (omega arith))
 
-  change : Change m r row parts
+  change : Change over m r row parts
   change = record {
     queue = s .lengths .queue;
     items = s .lengths .items;
@@ -54,9 +54,9 @@ module _ (m : Memory) (s : Shape m) (r : ℕ) (h : r < 6) (isFree : rowAt (m .tx
     alone = λ i u d x y v. absurd (let z : ⊥ = omega arith in z);
   }
 
-  shape-begun : Shape (beginAt m r .memory)
+  shape-begun : Shape over (beginAt m r .memory)
   unfolding beginAt
   shape-begun = shape-changed m s r h row active apart parts change (queue-same m s r h row active apart refl parts refl)
 
-pub shape-begin : (m : Memory) → Shape m → BeginPassed m → Shape (beginAt m (freeNo m) .memory)
+pub shape-begin : {over : ℕ} (m : Memory) → Shape over m → BeginPassed m → Shape over (beginAt m (freeNo m) .memory)
 shape-begin m s p = shape-begun m s (freeRow (m .txns .table)) (p .row) (free-found (m .txns .table) (s .lengths .table) (p .row)) (p .tickets)

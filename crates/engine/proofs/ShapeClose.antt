@@ -22,7 +22,7 @@ pub record Closing (m n : Memory) (hit : ℕ → Bool) : Type 0 where
   pub tickets : n .counts .tickets ≡ m .counts .tickets
   pub later : m .counts .commits ≤ n .counts .commits
 
-module _ (m n : Memory) (S : Shape m) (hit : ℕ → Bool) (c : Closing m n hit) where
+module _ {over : ℕ} (m n : Memory) (S : Shape over m) (hit : ℕ → Bool) (c : Closing m n hit) where
   shut : (r : ℕ) → r < 6 → hit r ≡ true → rowAt (n .txns .table) r ≡ closed
   shut r h e = c .row r h ∙ rw e
 

@@ -16,7 +16,7 @@ use Rattle.engine.proofs.Passed.{DeliverPassed}
 use Rattle.engine.proofs.Shaping.{shape-besides}
 use Rattle.engine.proofs.PlaceLaws.{place-fits, empty-same, block-kept, block-beside}
 
-module _ (m : Memory) (bytes : List ℕ) (S : Shape m) (k : DeliverPassed m bytes) where
+module _ {over : ℕ} (m : Memory) (bytes : List ℕ) (S : Shape over m) (k : DeliverPassed m bytes) where
   abbrev n : ℕ
   n = m .counts .replicas
 
@@ -52,7 +52,7 @@ module _ (m : Memory) (bytes : List ℕ) (S : Shape m) (k : DeliverPassed m byte
           (λ d. let b = beside (m .turn .slot) (omega arith) (omega (arith, S .ranges .least)) d in
           (empty-same n (m .turn .slot) new old b ∙ w .0, rw b (w .1)))
 
-  pub shape-delivered : Shape (deliverNow m bytes .memory)
+  pub shape-delivered : Shape over (deliverNow m bytes .memory)
   unfolding deliverNow
   shape-delivered =
       let f = place-fits n (headerOf bytes .slot) (omega (arith, S .ranges .least)) in

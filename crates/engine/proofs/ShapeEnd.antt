@@ -10,7 +10,7 @@ use Rattle.engine.proofs.RowLaws.{open-close}
 use Rattle.engine.proofs.Shaping.{itemAt, fits-closed, bumps}
 use Rattle.engine.proofs.ShapeRow.{Parts, changed, Apart, Change, queue-same, shape-changed}
 
-module _ (m : Memory) (s : Shape m) (r : ℕ) (h : r < 6) (active : rowAt (m .txns .table) r .stage ≡ 0) (isOpen : rowAt (m .txns .table) r .ticket ≡ 0 → ⊥) where
+module _ {over : ℕ} (m : Memory) (s : Shape over m) (r : ℕ) (h : r < 6) (active : rowAt (m .txns .table) r .stage ≡ 0) (isOpen : rowAt (m .txns .table) r .ticket ≡ 0 → ⊥) where
   abbrev parts : ℕ → ℕ → ℕ → Parts
   parts o a w = record {
     tickets = m .counts .tickets;
@@ -24,13 +24,13 @@ module _ (m : Memory) (s : Shape m) (r : ℕ) (h : r < 6) (active : rowAt (m .tx
   }
 
   -- one less is open, and one more has ended
-  shape-closed : (o a w : ℕ) → o + a + w ≡ m .counts .«read_only» + m .counts .aborted + m .counts .withdrawn + 1 → Shape (changed m r closed (parts o a w))
+  shape-closed : (o a w : ℕ) → o + a + w ≡ m .counts .«read_only» + m .counts .aborted + m .counts .withdrawn + 1 → Shape over (changed m r closed (parts o a w))
   shape-closed o a w e = shape-changed m s r h closed active apart (parts o a w) change (queue-same m s r h closed active apart refl (parts o a w) refl)
     where
       apart : Apart m r closed
       apart j u d some = absurd (some refl)
 
-      change : Change m r closed (parts o a w)
+      change : Change over m r closed (parts o a w)
       change = record {
         queue = s .lengths .queue;
         items = s .lengths .items;
@@ -44,17 +44,17 @@ module _ (m : Memory) (s : Shape m) (r : ℕ) (h : r < 6) (active : rowAt (m .tx
         alone = λ i u d x y v. absurd (let z : ⊥ = omega arith in z);
       }
 
-  pub shape-stale : Shape (staleAt m r .memory)
+  pub shape-stale : Shape over (staleAt m r .memory)
   unfolding staleAt
   shape-stale = shape-closed (m .counts .«read_only») (bump (m .counts .aborted)) (m .counts .withdrawn)
       (omega (arith, bumps m s .aborted))
 
-  pub shape-read-only : Shape (readOnlyAt m r .memory)
+  pub shape-read-only : Shape over (readOnlyAt m r .memory)
   unfolding readOnlyAt
   shape-read-only = shape-closed (bump (m .counts .«read_only»)) (m .counts .aborted) (m .counts .withdrawn)
       (omega (arith, bumps m s .read-only))
 
-  pub shape-withdrawn : Shape (withdrawAt m r .memory)
+  pub shape-withdrawn : Shape over (withdrawAt m r .memory)
   unfolding withdrawAt
   shape-withdrawn = shape-closed (m .counts .«read_only») (m .counts .aborted) (bump (m .counts .withdrawn))
       (omega (arith, bumps m s .withdrawn))

@@ -19,7 +19,7 @@ use Rattle.engine.proofs.Shaping.{row-of-fits, fits-closed, single-of}
 pub getD-zeros : (n i : ℕ) → _≡_ {A = ℕ} (getD (replicate n 0) i 0) 0
 getD-zeros n i = less-by i n (λ h. getD-replicate {A = ℕ} n i 0 0 h) (λ h. List·getD-eq-default {A = ℕ} (replicate n 0) 0 (rw length-replicate h))
 
-pub shape-made : (n own : ℕ) (values : List ℤ) → 2 ≤ n → n ≤ 6 → own < n → length values ≡ 128 → Shape (madeMemory n own values)
+pub shape-made : (n own : ℕ) (values : List ℤ) → 2 ≤ n → n ≤ 6 → own < n → length values ≡ 128 → Shape 0 (madeMemory n own values)
 unfolding madeMemory openCount waiting
 shape-made n own values least most among long = record {
   lengths = record {
@@ -33,7 +33,7 @@ shape-made n own values least most among long = record {
     places = length-replicate {A = ℕ} (512 * n) 0;
     outbox = length-replicate {A = ℕ} 512 0;
   };
-  ranges = record { least = least; most = most; own = among; slot = omega arith; tickets = omega arith; commits = omega arith; endings = refl };
+  ranges = record { least = least; most = most; own = among; slot = omega arith; tickets = omega arith; commits = omega arith; repeats = omega arith; endings = refl };
   rows = λ r h. row-of-fits (madeMemory n own values) r (rw (is-closed r h) (fits-closed 0 0 _));
   distinct = λ i j h u d some. absurd (some (ap (λ (t : Txn). t .ticket) (is-closed i h)));
   queue = record {

@@ -64,21 +64,21 @@ partsWith m queue items writes = record {
   snapshots = m .txns .snapshots;
 }
 
-pub record Change (m : Memory) (r : ℕ) (t : Txn) (p : Parts) : Type 0 where
+pub record Change (over : ℕ) (m : Memory) (r : ℕ) (t : Txn) (p : Parts) : Type 0 where
   pub queue : length (p .queue) ≡ 6
   pub items : length (p .items) ≡ 48
   pub writes : length (p .writes) ≡ 48
   pub snapshots : length (p .snapshots) ≡ 768
   pub more : m .counts .tickets ≤ p .tickets
   pub most : p .tickets ≤ maxTickets
-  pub endings : p .tickets ≡ openCount (set (m .txns .table) r t) + m .counts .committed + p .readOnly + p .aborted + p .withdrawn
+  pub endings : p .tickets + over ≡ openCount (set (m .txns .table) r t) + m .counts .committed + p .readOnly + p .aborted + p .withdrawn
   pub fits : RowFits t (p .tickets) (m .counts .commits) (itemAt (p .items) r)
   -- the other rows' items stay
   pub others : (i : ℕ) → i < 6 → (i ≡ r → ⊥) → (j : ℕ) → j < 8 → itemAt (p .items) i j ≡ itemAt (m .txns .items) i j
   -- and none of them is t's
   pub alone : (i : ℕ) → i < 6 → (i ≡ r → ⊥) → (a b : ℕ) → a < t .writes → b < rowAt (m .txns .table) i .writes → itemAt (p .items) r a ≡ itemAt (m .txns .items) i b → ⊥
 
-module _ (m : Memory) (s : Shape m) (r : ℕ) (h : r < 6) (t : Txn) where
+module _ {over : ℕ} (m : Memory) (s : Shape over m) (r : ℕ) (h : r < 6) (t : Txn) where
   pub at-row : rowAt (set (m .txns .table) r t) r ≡ t
   at-row = getD-set-same (m .txns .table) r t closed (omega (arith, s .lengths .table))
 
@@ -128,7 +128,7 @@ module _ (m : Memory) (s : Shape m) (r : ℕ) (h : r < 6) (t : Txn) where
       once = s .queue .once;
     })
 
-    module _ (p : Parts) (c : Change m r t p) where
+    module _ (p : Parts) (c : Change over m r t p) where
       lengths-changed : Lengths (changed m r t p)
       lengths-changed = record {
         table = length-set (m .txns .table) r t ∙ s .lengths .table;
@@ -142,7 +142,7 @@ module _ (m : Memory) (s : Shape m) (r : ℕ) (h : r < 6) (t : Txn) where
         outbox = s .lengths .outbox;
       }
 
-      ranges-changed : Ranges (changed m r t p)
+      ranges-changed : Ranges over (changed m r t p)
       ranges-changed = record {
         least = s .ranges .least;
         most = s .ranges .most;
@@ -150,6 +150,7 @@ module _ (m : Memory) (s : Shape m) (r : ℕ) (h : r < 6) (t : Txn) where
         slot = s .ranges .slot;
         tickets = c .most;
         commits = s .ranges .commits;
+        repeats = s .ranges .repeats;
         endings = c .endings;
       }
 
@@ -169,7 +170,7 @@ module _ (m : Memory) (s : Shape m) (r : ℕ) (h : r < 6) (t : Txn) where
           old-alone i j u v d x y u′ v′
           (sym (c .others i u a x (omega (arith, s .rows i u .few))) ∙ e ∙ c .others j v b y (omega (arith, s .rows j v .few))))
 
-      pub shape-changed : QueueShape (changed m r t p) → Shape (changed m r t p)
+      pub shape-changed : QueueShape (changed m r t p) → Shape over (changed m r t p)
       shape-changed q = record {
         lengths = lengths-changed;
         ranges = ranges-changed;

@@ -65,7 +65,7 @@ unfolding openCount
 sent-open [] = refl
 sent-open (t ∷ ts) = rw (sent-open ts)
 
-module _ (m : Memory) (S : Shape m) where
+module _ {over : ℕ} (m : Memory) (S : Shape over m) where
   abbrev table : List Txn
   table = m .txns .table
 
@@ -97,7 +97,7 @@ module _ (m : Memory) (S : Shape m) where
     once = λ j k h l e. omega arith;
   }
 
-  pub shape-sent : Shape (sendNow m .memory)
+  pub shape-sent : Shape over (sendNow m .memory)
   unfolding sendNow
   shape-sent = record {
     lengths = record {
@@ -118,6 +118,7 @@ module _ (m : Memory) (S : Shape m) where
       slot = S .ranges .slot;
       tickets = S .ranges .tickets;
       commits = S .ranges .commits;
+      repeats = S .ranges .repeats;
       endings = rw (sent-open table) (S .ranges .endings);
     };
     rows = row-shape;

@@ -31,7 +31,7 @@ pub record Working (m : Memory) : Type 0 where
       → isSent m (recordAt (blockAtTurn m) (m .counts .done) .ticket) ≡ true
   pub commits : bump (m .counts .commits) ≡ suc (m .counts .commits)
 
-pub working : (m : Memory) → Shape m → workRefusal m ≡ 0 → Working m
+pub working : {over : ℕ} (m : Memory) → Shape over m → workRefusal m ≡ 0 → Working m
 working m S e =
     let p = work-passed m e in
     let w = S .places .waits (m .turn .slot) (omega arith) (omega (arith, S .ranges .least)) (p .waits) in
@@ -46,14 +46,14 @@ working m S e =
       few = k .count;
       next = λ h. same-by n 0 (λ q. q) (λ d. absurd (omega (arith, begun d, k .next h)));
       more = more;
-      ticket = λ h. k .ticket n (more h);
+      ticket = λ h. k .ticket n (more h) .0;
       sent = p .sent;
       commits = bump-is (m .counts .commits) (omega (arith, S .ranges .commits, S .ranges .slot));
     }
 
 -- ---- the places after
 
-module _ (m : Memory) (S : Shape m) (w : Working m) where
+module _ {over : ℕ} (m : Memory) (S : Shape over m) (w : Working m) where
   abbrev n : ℕ
   n = m .counts .replicas
 
@@ -94,7 +94,7 @@ module _ (m : Memory) (S : Shape m) (w : Working m) where
   length-emptied = length-set old (placeStart n turn) 0 ∙ S .lengths .places
 
   -- ---- a *next*
-  pub shape-next : m .counts .done ≡ 0 → Shape (passNext m .memory)
+  pub shape-next : m .counts .done ≡ 0 → Shape over (passNext m .memory)
   unfolding passNext
   shape-next z =
       let l = w .slot in

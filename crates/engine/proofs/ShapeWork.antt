@@ -25,7 +25,7 @@ use Rattle.engine.proofs.ShapeWriteset.{committed, TxnShape, shape-writ
 
 -- ---- the replica's own: the row is open as sent
 
-module _ (m : Memory) (S : Shape m) (k : Working m) (last : Bool) (w : Record) (sent : isSent m (w .ticket) ≡ true) where
+module _ {over : ℕ} (m : Memory) (S : Shape over m) (k : Working m) (last : Bool) (w : Record) (sent : isSent m (w .ticket) ≡ true) where
   abbrev mine : Memory
   mine = committed m true last w
 
@@ -47,7 +47,7 @@ module _ (m : Memory) (S : Shape m) (k : Working m) (last : Bool) (w : Record) (
     later = let a = k .commits in omega arith;
   }
 
-  own-shape : TxnShape mine
+  own-shape : TxnShape over mine
   own-shape = record {
     table = own-closing .six;
     waiting = S .lengths .queue;
@@ -57,6 +57,7 @@ module _ (m : Memory) (S : Shape m) (k : Working m) (last : Bool) (w : Record) (
         let a = bumps m S .committed in
         let e = S .ranges .endings in
         let t = S .ranges .tickets in
+        let p = S .ranges .repeats in
         omega arith;
     rows = closing-rows m mine S (λ r. eqb r row) own-closing;
     distinct = closing-distinct m mine S (λ r. eqb r row) own-closing;
@@ -71,7 +72,7 @@ module _ (m : Memory) (S : Shape m) (k : Working m) (last : Bool) (w : Record) (
 
 -- ---- another's: the rows hit are aborted
 
-module _ (m : Memory) (S : Shape m) (k : Working m) (last : Bool) (w : Record) where
+module _ {over : ℕ} (m : Memory) (S : Shape over m) (k : Working m) (last : Bool) (w : Record) where
   abbrev other : Memory
   other = committed m false last w
 
@@ -114,7 +115,7 @@ module _ (m : Memory) (S : Shape m) (k : Working m) (last : Bool) (w : Record) w
           (λ d. S .distinct (f .0) r (let l = f .1 in omega (arith, S .lengths .table)) h d
           (eqb-false _ 0 (not-true _ (hit-open (w .entries) (m .txns .items) (f .0) (rowAt (m .txns .table) (f .0)) hit))) (f .3))
 
-  other-shape : TxnShape other
+  other-shape : TxnShape over other
   other-shape = record {
     table = other-closing .six;
     waiting = length-queueWithout gone (m .txns .queue) ∙ S .lengths .queue;
@@ -122,6 +123,7 @@ module _ (m : Memory) (S : Shape m) (k : Working m) (last : Bool) (w : Record) w
         let o = spared-open (w .entries) (m .txns .items) 0 (m .txns .table) in
         let e = S .ranges .endings in
         let t = S .ranges .tickets in
+        let p = S .ranges .repeats in
         omega arith;
     rows = closing-rows m other S rowHit other-closing;
     distinct = closing-distinct m other S rowHit other-closing;
@@ -136,11 +138,11 @@ module _ (m : Memory) (S : Shape m) (k : Working m) (last : Bool) (w : Record) w
 
 -- ---- the step
 
-by-sender : (m : Memory) → Shape m → Working m → m .counts .done < getD (blockAtTurn m) 3 0 → (w : Record) (mine : Bool)
-    → (mine ≡ true → isSent m (w .ticket) ≡ true) → Shape (commitWriteset m mine w .memory)
+by-sender : {over : ℕ} (m : Memory) → Shape over m → Working m → m .counts .done < getD (blockAtTurn m) 3 0 → (w : Record) (mine : Bool)
+    → (mine ≡ true → isSent m (w .ticket) ≡ true) → Shape over (commitWriteset m mine w .memory)
 by-sender m S k d w true s = shape-writeset m S k d true w (own-shape m S k (isLast m) w (s refl))
 by-sender m S k d w false s = shape-writeset m S k d false w (other-shape m S k (isLast m) w)
 
-pub shape-committed : (m : Memory) → Shape m → Working m → (getD (blockAtTurn m) 0 0 ≡ 1 → ⊥)
-    → Shape (commitWriteset m (eqb (getD (blockAtTurn m) 1 0) (m .counts .own)) (writesetAt (blockAtTurn m) (m .counts .done)) .memory)
+pub shape-committed : {over : ℕ} (m : Memory) → Shape over m → Working m → (getD (blockAtTurn m) 0 0 ≡ 1 → ⊥)
+    → Shape over (commitWriteset m (eqb (getD (blockAtTurn m) 1 0) (m .counts .own)) (writesetAt (blockAtTurn m) (m .counts .done)) .memory)
 shape-committed m S k d = by-sender m S k (k .more d) _ _ (λ q. k .sent d (eqb-true (getD (blockAtTurn m) 1 0) (m .counts .own) q))

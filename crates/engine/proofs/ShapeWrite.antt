@@ -24,7 +24,7 @@ use Rattle.engine.proofs.ShapeRow.{Parts, Apart, partsWith, Change, apa
 
 -- ---- an item written again
 
-pub shape-rewritten : (m : Memory) (r k : ℕ) (v : ℤ) → Shape m → Shape (rewriteAt m r k v .memory)
+pub shape-rewritten : {over : ℕ} (m : Memory) (r k : ℕ) (v : ℤ) → Shape over m → Shape over (rewriteAt m r k v .memory)
 unfolding rewriteAt
 shape-rewritten m r k v s =
     shape-besides m s (m .turn) (m .counts .done) (m .blocks .places) _ (s .lengths .places)
@@ -81,7 +81,7 @@ module _ (items : List ℕ) (r n x : ℕ) (h : r < 6) (long : length items ≡ 4
       same-by at k (λ e. rw e at low) (λ e. omega (arith, rises at k (omega (arith, e)) v)))
 
 -- row r with one more item
-module _ (m : Memory) (s : Shape m) (r x : ℕ) (v : ℤ) (h : r < 6) (small : x < 128) (active : rowAt (m .txns .table) r .stage ≡ 0) (some : rowAt (m .txns .table) r .ticket ≡ 0 → ⊥)
+module _ {over : ℕ} (m : Memory) (s : Shape over m) (r x : ℕ) (v : ℤ) (h : r < 6) (small : x < 128) (active : rowAt (m .txns .table) r .stage ≡ 0) (some : rowAt (m .txns .table) r .ticket ≡ 0 → ⊥)
     (room : writeCount (rowAt (m .txns .table) r) < 8)
     (new : writeCount (rowAt (m .txns .table) r) ≤ indexOf x (itemsOf r (rowAt (m .txns .table) r) (m .txns .items)))
     (unheld : isHeld (holderOf (m .txns .table) (m .txns .items) r x) ≡ false) where
@@ -125,7 +125,7 @@ module _ (m : Memory) (s : Shape m) (r x : ℕ) (v : ℤ) (h : r < 6) (small : x
   inserted : Inserted (itemAt (m .txns .items) r) (itemAt items′ r) n p x
   inserted = grown-inserted (m .txns .items) r n x h (s .lengths .items) room
 
-  change : Change m r row parts
+  change : Change over m r row parts
   change = record {
     queue = s .lengths .queue;
     items = length-insert (8 * r + p) (n - p) x (m .txns .items) (omega (arith, p-fits, s .lengths .items)) ∙ s .lengths .items;
@@ -151,12 +151,12 @@ module _ (m : Memory) (s : Shape m) (r x : ℕ) (v : ℤ) (h : r < 6) (small : x
         a w;
   }
 
-  shape-inserted : Shape (insertWrite m r (rowAt (m .txns .table) r) x v .memory)
+  shape-inserted : Shape over (insertWrite m r (rowAt (m .txns .table) r) x v .memory)
   unfolding insertWrite
   shape-inserted = shape-changed m s r h row active apart parts change (queue-same m s r h row active apart active parts refl)
 
-pub shape-insert : (m : Memory) (t i : ℕ) (v : ℤ) → Shape m → WritePassed m t i → isOwn m (rowNo m t) i ≡ false
-    → Shape (insertWrite m (rowNo m t) (rowIn m (rowNo m t)) i v .memory)
+pub shape-insert : {over : ℕ} (m : Memory) (t i : ℕ) (v : ℤ) → Shape over m → WritePassed m t i → isOwn m (rowNo m t) i ≡ false
+    → Shape over (insertWrite m (rowNo m t) (rowIn m (rowNo m t)) i v .memory)
 shape-insert m t i v s p o =
     shape-inserted m s (rowNo m t) i v (p .own .row) (p .item) (p .own .active) (row-found t (m .txns .table) (s .lengths .table) (p .own .row) .live) (p .room o)
     (ltb-false (ownIndex m (rowNo m t) i) (writeCount (rowIn m (rowNo m t))) o) (p .unheld o)

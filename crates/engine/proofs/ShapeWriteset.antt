@@ -39,10 +39,10 @@ committed m mine last w =
     }
 
 -- the transactions' part of the shape
-pub record TxnShape (k : Memory) : Type 0 where
+pub record TxnShape (over : ℕ) (k : Memory) : Type 0 where
   pub table : length (k .txns .table) ≡ 6
   pub waiting : length (k .txns .queue) ≡ 6
-  pub endings : k .counts .tickets
+  pub endings : k .counts .tickets + over
       ≡ openCount (k .txns .table) + k .counts .committed + k .counts .«read_only» + k .counts .aborted + k .counts .withdrawn
   pub rows : (r : ℕ) → r < 6 → RowShape k r
   pub distinct : (i j : ℕ) → i < 6 → j < 6 → (i ≡ j → ⊥) → (rowAt (k .txns .table) i .ticket ≡ 0 → ⊥)
@@ -51,18 +51,18 @@ pub record TxnShape (k : Memory) : Type 0 where
   pub single : (i j : ℕ) → i < 6 → j < 6 → (i ≡ j → ⊥) → (x : ℕ) → has x (itemsOf i (rowAt (k .txns .table) i) (k .txns .items)) ≡ true
       → has x (itemsOf j (rowAt (k .txns .table) j) (k .txns .items)) ≡ true → ⊥
 
-length-applied : (es : List Entry) (l : List ℤ) → length (applied es l) ≡ length l
+pub length-applied : (es : List Entry) (l : List ℤ) → length (applied es l) ≡ length l
 unfolding applied
 length-applied [] l = refl
 length-applied (e ∷ es) l = length-applied es (set l (e .item) (e .value)) ∙ length-set l (e .item) (e .value)
 
-length-stamped : (n : ℕ) (es : List Entry) (l : List ℕ) → length (stamped n es l) ≡ length l
+pub length-stamped : (n : ℕ) (es : List Entry) (l : List ℕ) → length (stamped n es l) ≡ length l
 unfolding stamped
 length-stamped n [] l = refl
 length-stamped n (e ∷ es) l = length-stamped n es (set l (e .item) n) ∙ length-set l (e .item) n
 
-module _ (m : Memory) (S : Shape m) (k : Working m) (more : m .counts .done < getD (blockAtTurn m) 3 0) where
-  lengths-of : (mine last : Bool) (w : Record) → TxnShape (committed m mine last w) → length (committed m mine last w .blocks .places) ≡ 512 * m .counts .replicas
+module _ {over : ℕ} (m : Memory) (S : Shape over m) (k : Working m) (more : m .counts .done < getD (blockAtTurn m) 3 0) where
+  lengths-of : (mine last : Bool) (w : Record) → TxnShape over (committed m mine last w) → length (committed m mine last w .blocks .places) ≡ 512 * m .counts .replicas
       → length (committed m mine last w .blocks .outbox) ≡ 512 → Lengths (committed m mine last w)
   lengths-of mine last w t p o = record {
     table = t .table;
@@ -76,10 +76,10 @@ module _ (m : Memory) (S : Shape m) (k : Working m) (more : m .counts .done < ge
     outbox = o;
   }
 
-  shape-of : (mine last : Bool) (w : Record) → TxnShape (committed m mine last w) → Lengths (committed m mine last w)
+  shape-of : (mine last : Bool) (w : Record) → TxnShape over (committed m mine last w) → Lengths (committed m mine last w)
       → committed m mine last w .turn .slot ≤ 100_000_000
       → bump (m .counts .commits) ≤ 6 * committed m mine last w .turn .slot + committed m mine last w .counts .done
-      → PlaceShape (committed m mine last w) → Shape (committed m mine last w)
+      → PlaceShape (committed m mine last w) → Shape over (committed m mine last w)
   shape-of mine last w t l s c p = record {
     lengths = l;
     ranges = record {
@@ -89,6 +89,7 @@ module _ (m : Memory) (S : Shape m) (k : Working m) (more : m .counts .done < ge
       slot = s;
       tickets = S .ranges .tickets;
       commits = c;
+      repeats = S .ranges .repeats;
       endings = t .endings;
     };
     rows = t .rows;
@@ -102,7 +103,7 @@ module _ (m : Memory) (S : Shape m) (k : Working m) (more : m .counts .done < ge
   slot-stays true w = refl
   slot-stays false w = refl
 
-  by-last : (mine last : Bool) (w : Record) → isLast m ≡ last → TxnShape (committed m mine last w) → Shape (committed m mine last w)
+  by-last : (mine last : Bool) (w : Record) → isLast m ≡ last → TxnShape over (committed m mine last w) → Shape over (committed m mine last w)
   by-last mine true w e t =
       let u = bumps m S .slot in
       let a = S .ranges .commits in
@@ -120,6 +121,6 @@ module _ (m : Memory) (S : Shape m) (k : Working m) (more : m .counts .done < ge
       shape-of mine false w t (lengths-of mine false w t (S .lengths .places) (S .lengths .outbox)) (omega arith) (omega arith)
       (places-done m S k (committed m mine false w) refl u refl refl l)
 
-  pub shape-writeset : (mine : Bool) (w : Record) → TxnShape (committed m mine (isLast m) w) → Shape (commitWriteset m mine w .memory)
+  pub shape-writeset : (mine : Bool) (w : Record) → TxnShape over (committed m mine (isLast m) w) → Shape over (commitWriteset m mine w .memory)
   unfolding commitWriteset
   shape-writeset mine w t = by-last mine (isLast m) w refl t

@@ -23,42 +23,43 @@ use Rattle.engine.proofs.ShapeSend.{shape-sent}
 use Rattle.engine.proofs.ShapeDeliver.{shape-delivered}
 use Rattle.engine.proofs.ShapeTurn.{working, shape-next}
 use Rattle.engine.proofs.ShapeWork.{shape-committed}
+use Rattle.engine.proofs.ShapeRestart.{shape-restarted}
 
-abbrev Shaped : Outcome → Type 0
-Shaped o = Shape (o .memory)
+abbrev Shaped : ℕ → Outcome → Type 0
+Shaped over o = Shape over (o .memory)
 
 -- the row that a call passed for has a ticket
-live : (m : Memory) → Shape m → (t : ℕ) → RowPassed m t → rowAt (m .txns .table) (rowNo m t) .ticket ≡ 0 → ⊥
+live : {over : ℕ} (m : Memory) → Shape over m → (t : ℕ) → RowPassed m t → rowAt (m .txns .table) (rowNo m t) .ticket ≡ 0 → ⊥
 live m s t p = row-found t (m .txns .table) (s .lengths .table) (p .row) .live
 
-shape-each : (m : Memory) → Shape m → (c : Call) → Shape (step m c .memory)
-shape-each m s begin = begin-by Shaped m (λ e. shape-begin m s (begin-passed m e)) (λ e. s)
-shape-each m s (read t i) = read-by Shaped m t i (λ e. s) (λ e. s)
-shape-each m s (write t i v) =
-    write-by Shaped m t i v
+shape-each : {over : ℕ} (m : Memory) → Shape over m → (c : Call) → Shape over (step m c .memory)
+shape-each {over} m s begin = begin-by (Shaped over) m (λ e. shape-begin m s (begin-passed m e)) (λ e. s)
+shape-each {over} m s (read t i) = read-by (Shaped over) m t i (λ e. s) (λ e. s)
+shape-each {over} m s (write t i v) =
+    write-by (Shaped over) m t i v
     (λ e. let p = stale-passed m t i e in shape-stale m s (rowNo m t) (p .row) (p .active) (live m s t p))
     (λ e o. shape-rewritten m (rowNo m t) (ownIndex m (rowNo m t) i) v s)
     (λ e o. shape-insert m t i v s (write-passed m t i e) o)
     (λ k e. s)
-shape-each m s (ask t) =
-    ask-by Shaped m t
+shape-each {over} m s (ask t) =
+    ask-by (Shaped over) m t
     (λ e. let p = ask-passed m t e in shape-read-only m s (rowNo m t) (p .row) (p .active) (live m s t p))
     (λ e n. let p = ask-passed m t e in shape-queued m s (rowNo m t) (p .row) (p .active) (live m s t p) (omega (arith, n)))
     (λ e. s)
-shape-each m s (withdraw t) =
-    withdraw-by Shaped m t
+shape-each {over} m s (withdraw t) =
+    withdraw-by (Shaped over) m t
     (λ e. let p = withdraw-passed m t e in shape-withdrawn m s (rowNo m t) (p .row) (p .active) (live m s t p))
     (λ e. s)
-shape-each m s report = unfold step reportStep in s
-shape-each m s (send b) = send-by Shaped m b (λ e. shape-sent m s) (λ e. s)
-shape-each m s (deliver b) = deliver-by Shaped m b (λ e. shape-delivered m b s (deliver-passed m b e)) (λ e. s)
-shape-each m s work =
-    work-by Shaped m
+shape-each {over} m s report = unfold step reportStep in s
+shape-each {over} m s (send b) = send-by (Shaped over) m b (λ e. shape-sent m s) (λ e. s)
+shape-each {over} m s (deliver b) = deliver-by (Shaped over) m b (λ e. shape-delivered m b s (deliver-passed m b e)) (λ e. s)
+shape-each {over} m s work =
+    work-by (Shaped over) m
     (λ e k. let w = working m s e in shape-next m s w (w .next k))
     (λ e k. shape-committed m s (working m s e) k)
     (λ e. s)
 
-shape-after : (m : Memory) → Shape m → (cs : List Call) → Shape (after m cs)
+pub shape-after : {over : ℕ} (m : Memory) → Shape over m → (cs : List Call) → Shape over (after m cs)
 unfolding after
 shape-after m s [] = s
 shape-after m s (c ∷ cs) = shape-after (step m c .memory) (shape-each m s c) cs
@@ -68,4 +69,5 @@ shapes = record {
   made = shape-made;
   each = shape-each;
   all = λ n own values l h o v cs. shape-after (madeMemory n own values) (shape-made n own values l h o v) cs;
+  restarted = shape-restarted;
 }

@@ -97,8 +97,8 @@ besides m t d places writes = record {
   blocks = record { places = places; outbox = m .blocks .outbox };
 }
 
-pub shape-besides : (m : Memory) → Shape m → (t : Turn) (d : ℕ) (places : List ℕ) (writes : List ℤ)
-    → length places ≡ 512 * m .counts .replicas → length writes ≡ 48 → t .slot ≤ maxSlots → m .counts .commits ≤ 6 * t .slot + d → PlaceShape (besides m t d places writes) → Shape (besides m t d places writes)
+pub shape-besides : {over : ℕ} (m : Memory) → Shape over m → (t : Turn) (d : ℕ) (places : List ℕ) (writes : List ℤ)
+    → length places ≡ 512 * m .counts .replicas → length writes ≡ 48 → t .slot ≤ maxSlots → m .counts .commits ≤ 6 * t .slot + d → PlaceShape (besides m t d places writes) → Shape over (besides m t d places writes)
 shape-besides m s t d places writes p w slot commits waits = record {
   lengths = record {
     table = s .lengths .table;
@@ -118,6 +118,7 @@ shape-besides m s t d places writes p w slot commits waits = record {
     slot = slot;
     tickets = s .ranges .tickets;
     commits = commits;
+    repeats = s .ranges .repeats;
     endings = s .ranges .endings;
   };
   rows = λ r h. row-of-fits (besides m t d places writes) r (fits-of m r (s .rows r h));
@@ -136,11 +137,12 @@ pub record Bumps (m : Memory) : Type 0 where
   pub aborted : bump (m .counts .aborted) ≡ suc (m .counts .aborted)
   pub withdrawn : bump (m .counts .withdrawn) ≡ suc (m .counts .withdrawn)
 
-pub bumps : (m : Memory) → Shape m → Bumps m
+pub bumps : {over : ℕ} (m : Memory) → Shape over m → Bumps m
 bumps m s =
     let e = s .ranges .endings in
     let t = s .ranges .tickets in
     let q = s .ranges .slot in
+    let r = s .ranges .repeats in
     record {
       slot = bump-is (m .turn .slot) (omega arith);
       committed = bump-is (m .counts .committed) (omega arith);

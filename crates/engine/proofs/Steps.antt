@@ -5,14 +5,15 @@ use mathlib.Core.Bool.{true, false}
 use mathlib.Core.List.{List}
 use lib.Dec.{eqb}
 use lib.IntN.{ℤ}
-use lib.ListN.{getD}
+use lib.ListN.{length, getD, replicate}
 use borrow.Author.Tests.{eqb-true, eqb-false}
 use Rattle.memory.specs.Memory.{Memory}
 use Rattle.memory.specs.Rows.{writeCount}
 use Rattle.engine.specs.Calls.{Outcome, outcome}
-use Rattle.engine.specs.Calls.Answer.{refused, got}
+use Rattle.engine.specs.Calls.Answer.{refused, got, restarted}
 use Rattle.engine.specs.Client.{freeNo, rowNo, rowIn, ownIndex, isOwn, beginRefusal, beginAt, beginRow, readRefusal, valueFor, readRow, writeRefusal, rewriteAt, insertWrite, staleAt, writeRow, askRefusal, readOnlyAt, queueAt, askRow, withdrawRefusal, withdrawAt, withdrawRow}
 use Rattle.engine.specs.Moves.{sendRefusal, sendNow, sendStep, deliverRefusal, deliverNow, deliverStep, blockAtTurn, writesetAt, workRefusal, passNext, commitWriteset, workStep}
+use Rattle.engine.specs.Restart.{blocksIn, lastOwn, restartedMemory, restartRefusal, restartStep}
 use Rattle.engine.specs.Step.{step}
 use Rattle.engine.specs.Step.Call.{begin, read, write, ask, withdraw, send, deliver, work}
 use Rattle.engine.proofs.Tests.{cond-by, unless-by}
@@ -72,3 +73,12 @@ module _ (P : Outcome → Type 0) (m : Memory) where
   work-by f g r =
       let k = getD (blockAtTurn m) 0 0 in
       unless-by P _ m (λ z. cond-by P (eqb k 1) (λ e. f z (eqb-true k 1 e)) (λ e. g z (eqb-false k 1 e))) r
+
+  -- a restart is refused, with the memory as it was, or commits the blocks read
+  pub restart-by : (n k : ℕ) (start : List ℤ) (journal block : List ℕ)
+      → (restartRefusal m n k start block ≡ 0
+      → P (outcome (restarted (length (blocksIn n journal)) (lastOwn k (replicate 512 0) (blocksIn n journal))) (restartedMemory n k start (blocksIn n journal))))
+      → ((restartRefusal m n k start block ≡ 0 → ⊥) → P (outcome (refused (restartRefusal m n k start block)) m))
+      → P (restartStep m n k start journal block)
+  unfolding restartStep
+  restart-by n k start journal block f g = unless-by P _ m f g

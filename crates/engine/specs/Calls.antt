@@ -7,12 +7,14 @@ use lib.IntN.{ℤ}
 use Rattle.engine.specs.declared.Report.{Report}
 use Rattle.memory.specs.Memory.{Memory}
 
--- what a work did: whose writeset it committed (ticket 0 for a *next*), whether the turn moved, and the tickets it aborted, rising
+-- what a work did: whose writeset it committed (ticket 0 for a *next*), whether the turn moved, the tickets it aborted, rising, and the block to append to
+-- the journal: another's, where the turn leaves its slot; else no byte
 pub record Step : Type 0 where
   pub sender : ℕ
   pub ticket : ℕ
   pub moved : Bool
   pub aborted : List ℕ
+  pub append : List ℕ
 
 -- a refusal's number of document 01's table, or what an accepted call gives
 pub data Answer : Type 0 where
@@ -28,6 +30,8 @@ pub data Answer : Type 0 where
   sent : List ℕ → Answer
   kept : Answer
   worked : Step → Answer
+  -- how many blocks were committed, and the last own one of them, 512 zeros where there is none
+  restarted : ℕ → List ℕ → Answer
 
 -- document 01's number: 0 where the call is accepted
 abbrev pub numberOf : Answer → ℕ
@@ -43,6 +47,7 @@ numberOf (reported r) = 0
 numberOf (sent b) = 0
 numberOf kept = 0
 numberOf (worked s) = 0
+numberOf (restarted c b) = 0
 
 pub record Outcome : Type 0 where
   pub answer : Answer

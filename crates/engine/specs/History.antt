@@ -5,15 +5,16 @@ use mathlib.Core.Bool.{cond, not, _&&_}
 use mathlib.Core.List.{List, [], _∷_, _++_}
 use lib.Dec.{eqb}
 use lib.IntN.{ℤ}
-use lib.ListN.{length}
+use lib.ListN.{length, getD}
 use Rattle.memory.specs.Memory.{Memory}
 use Rattle.engine.specs.declared.Report.{Report}
 use Rattle.engine.specs.Calls.{Answer, Step}
-use Rattle.engine.specs.Calls.Answer.{refused, made, began, got, wrote, queued, readOnly, withdrew, reported, sent, kept, worked}
+use Rattle.engine.specs.Calls.Answer.{refused, made, began, got, wrote, queued, readOnly, withdrew, reported, sent, kept, worked, restarted}
 use Rattle.engine.specs.Make.{madeMemory}
 use Rattle.engine.specs.Client.{reportOf}
 use Rattle.engine.specs.Moves.{waiting, without}
 use Rattle.engine.specs.Step.{Call, step, after}
+use Rattle.engine.specs.Restart.{blocksIn, highestOwn, ownWritesets, repeated, restartedMemory}
 use Rattle.engine.specs.Step.Call.{begin, read, write, ask, withdraw, report, send, deliver, work}
 
 pub record Tally : Type 0 where
@@ -83,21 +84,39 @@ counted own t (worked s) = record {
   aborted = t .aborted + length (s .aborted);
   withdrawn = t .withdrawn;
 }
+counted own t (restarted c b) = t
 
 unfoldable pub tally : ℕ → Tally → Memory → List Call → Tally
 tally own t m [] = t
 tally own t m (c ∷ cs) = tally own (counted own t (step m c .answer)) (step m c .memory) cs
 
+-- what a restart's blocks count as: every writeset of them is committed; the own ones are, and all other tickets up to the highest of these are aborted
+unfoldable pub writesetCount : List (List ℕ) → ℕ
+writesetCount [] = 0
+writesetCount (b ∷ bs) = getD b 3 0 + writesetCount bs
+
+abbrev pub restartTally : ℕ → List (List ℕ) → Tally
+restartTally own bs = record {
+  turn = length bs;
+  commits = writesetCount bs;
+  tickets = highestOwn own bs;
+  committed = ownWritesets own bs;
+  readOnlies = 0;
+  aborted = highestOwn own bs - ownWritesets own bs;
+  withdrawn = 0;
+}
+
 -- all endings of the replica's own transactions
 abbrev pub endings : Tally → ℕ
 endings t = t .committed + t .readOnlies + t .aborted + t .withdrawn
 
-abbrev pub reportFrom : Tally → Report
-reportFrom t = record {
+-- over: the restart's repeated own writesets, 0 where there are none
+abbrev pub reportFrom : ℕ → Tally → Report
+reportFrom over t = record {
   turn = t .turn;
   commits = t .commits;
   tickets = t .tickets;
-  active = t .tickets - endings t;
+  active = t .tickets + over - endings t;
   committed = t .committed;
   «read_only» = t .readOnlies;
   aborted = t .aborted;
@@ -106,10 +125,14 @@ reportFrom t = record {
 
 pub record Reports : Type 0 where
   pub report : (n own : ℕ) (values : List ℤ) → 2 ≤ n → n ≤ 6 → own < n → length values ≡ 128 → (cs : List Call)
-      → reportOf (after (madeMemory n own values) cs) ≡ reportFrom (tally own noCalls (madeMemory n own values) cs)
+      → reportOf (after (madeMemory n own values) cs) ≡ reportFrom 0 (tally own noCalls (madeMemory n own values) cs)
   -- tickets given equal open plus all endings
   pub sum : (n own : ℕ) (values : List ℤ) → 2 ≤ n → n ≤ 6 → own < n → length values ≡ 128 → (cs : List Call)
       → let r = reportOf (after (madeMemory n own values) cs) in r .tickets ≡ r .active + r .committed + r .«read_only» + r .aborted + r .withdrawn
+  -- after a restart from any journal, and calls since then
+  pub restarted : (n own : ℕ) (values : List ℤ) → 2 ≤ n → n ≤ 6 → own < n → length values ≡ 128 → (journal : List ℕ) (cs : List Call)
+      → let bs = blocksIn n journal in reportOf (after (restartedMemory n own values bs) cs)
+      ≡ reportFrom (repeated own bs) (tally own (restartTally own bs) (restartedMemory n own values bs) cs)
 
 -- ---- the queue
 
@@ -139,6 +162,7 @@ pendingAfter l c (reported r) = l
 pendingAfter l c (sent b) = []
 pendingAfter l c kept = l
 pendingAfter l c (worked s) = without (s .aborted) l
+pendingAfter l c (restarted k b) = []
 
 unfoldable pub pending : List ℕ → Memory → List Call → List ℕ
 pending l m [] = l

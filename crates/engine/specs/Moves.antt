@@ -227,9 +227,13 @@ workRefusal m = firstOf (refuse 1 (not (workLent m)) ∷ refuse 21 (nothingWaits
 abbrev pub turnBlocks : Memory → Blocks
 turnBlocks m = record { places = emptied (m .counts .replicas) (m .turn .slot) (m .blocks .places); outbox = m .blocks .outbox }
 
+-- the block to append to the journal: that at the turn, where the turn leaves another's slot
+abbrev pub appending : Memory → Bool → List ℕ
+appending m moved = cond moved (cond (eqb (getD (blockAtTurn m) 1 0) (m .counts .own)) [] (blockAtTurn m)) []
+
 unfoldable pub passNext : Memory → Outcome
 passNext m =
-    outcome (worked (record { sender = getD (blockAtTurn m) 1 0; ticket = 0; moved = true; aborted = [] }))
+    outcome (worked (record { sender = getD (blockAtTurn m) 1 0; ticket = 0; moved = true; aborted = []; append = appending m true }))
     (withTurn m (advance (m .turn)) (withDone (m .counts) 0) (turnBlocks m))
 
 -- whether the writeset is the block's last
@@ -246,7 +250,7 @@ commitWriteset m mine w =
     let c = withCommit (m .counts) n
     (cond mine (bump (m .counts .committed)) (m .counts .committed))
     (min (m .counts .aborted + length gone) 4_294_967_295) in
-    outcome (worked (record { sender = getD (blockAtTurn m) 1 0; ticket = w .ticket; moved = isLast m; aborted = gone }))
+    outcome (worked (record { sender = getD (blockAtTurn m) 1 0; ticket = w .ticket; moved = isLast m; aborted = gone; append = appending m (isLast m) }))
     (record {
       turn = cond (isLast m) (advance (m .turn)) (cond mine (m .turn) (markApplying (m .turn)));
       counts = withDone c (cond (isLast m) 0 (m .counts .done + 1));

@@ -12,6 +12,7 @@ use Rattle.memory.specs.Turns.{blockIn, isEmpty}
 use Rattle.engine.specs.Make.{madeMemory}
 use Rattle.engine.specs.Moves.{waiting, blockAtTurn}
 use Rattle.engine.specs.Step.{Call, step, after}
+use Rattle.engine.specs.Restart.{blocksIn, repeated, restartedMemory}
 
 pub record Lengths (m : Memory) : Type 0 where
   pub table : length (m .txns .table) ≡ 6
@@ -24,15 +25,17 @@ pub record Lengths (m : Memory) : Type 0 where
   pub places : length (m .blocks .places) ≡ 512 * m .counts .replicas
   pub outbox : length (m .blocks .outbox) ≡ 512
 
-pub record Ranges (m : Memory) : Type 0 where
+-- over: own writesets that a restart committed above the highest ticket of its own blocks; 0 but where a ticket stands in two of them
+pub record Ranges (over : ℕ) (m : Memory) : Type 0 where
   pub least : 2 ≤ m .counts .replicas
   pub most : m .counts .replicas ≤ 6
   pub own : m .counts .own < m .counts .replicas
   pub slot : m .turn .slot ≤ maxSlots
   pub tickets : m .counts .tickets ≤ maxTickets
   pub commits : m .counts .commits ≤ 6 * m .turn .slot + m .counts .done
+  pub repeats : over ≤ 6 * maxSlots
   -- tickets given equal open plus all endings
-  pub endings : m .counts .tickets
+  pub endings : m .counts .tickets + over
       ≡ openCount (m .txns .table) + m .counts .committed + m .counts .«read_only» + m .counts .aborted + m .counts .withdrawn
 
 -- row r
@@ -68,9 +71,9 @@ pub record PlaceShape (m : Memory) : Type 0 where
   pub done : 0 < m .counts .done
       → (isEmpty (m .counts .replicas) (m .turn .slot) (m .blocks .places) ≡ false) × (m .counts .done < getD (blockAtTurn m) 3 0)
 
-pub record Shape (m : Memory) : Type 0 where
+pub record Shape (over : ℕ) (m : Memory) : Type 0 where
   pub lengths : Lengths m
-  pub ranges : Ranges m
+  pub ranges : Ranges over m
   pub rows : (r : ℕ) → r < 6 → RowShape m r
   pub distinct : (i j : ℕ) → i < 6 → j < 6 → (i ≡ j → ⊥) → (rowAt (m .txns .table) i .ticket ≡ 0 → ⊥)
       → rowAt (m .txns .table) i .ticket ≡ rowAt (m .txns .table) j .ticket → ⊥
@@ -81,6 +84,9 @@ pub record Shape (m : Memory) : Type 0 where
       → has x (itemsOf j (rowAt (m .txns .table) j) (m .txns .items)) ≡ true → ⊥
 
 pub record Shapes : Type 0 where
-  pub made : (n own : ℕ) (values : List ℤ) → 2 ≤ n → n ≤ 6 → own < n → length values ≡ 128 → Shape (madeMemory n own values)
-  pub each : (m : Memory) → Shape m → (c : Call) → Shape (step m c .memory)
-  pub all : (n own : ℕ) (values : List ℤ) → 2 ≤ n → n ≤ 6 → own < n → length values ≡ 128 → (cs : List Call) → Shape (after (madeMemory n own values) cs)
+  pub made : (n own : ℕ) (values : List ℤ) → 2 ≤ n → n ≤ 6 → own < n → length values ≡ 128 → Shape 0 (madeMemory n own values)
+  pub each : {over : ℕ} (m : Memory) → Shape over m → (c : Call) → Shape over (step m c .memory)
+  pub all : (n own : ℕ) (values : List ℤ) → 2 ≤ n → n ≤ 6 → own < n → length values ≡ 128 → (cs : List Call) → Shape 0 (after (madeMemory n own values) cs)
+  -- from any journal
+  pub restarted : (n own : ℕ) (values : List ℤ) → 2 ≤ n → n ≤ 6 → own < n → length values ≡ 128 → (journal : List ℕ)
+      → Shape (repeated own (blocksIn n journal)) (restartedMemory n own values (blocksIn n journal))

@@ -67,6 +67,6 @@ pub record WorkedCases : Type 0 where
   pub twice : numbers (fresh 2 1) (deliver (nextBlock 2 0 0) ∷ deliver (nextBlock 2 0 0) ∷ work ∷ deliver (nextBlock 2 0 0) ∷ []) ≡ 0 ∷ 20 ∷ 0 ∷ 17 ∷ []
   pub own-early : numbers (fresh 2 0) (deliver (nextBlock 2 0 0) ∷ []) ≡ 19 ∷ []
   pub aborted : drop 6 (answers (fresh 2 0) (firstTurn ++ (begin ∷ write 1 5 (pos 9) ∷ ask 1 ∷ deliver (blockOf exampleCommit) ∷ work ∷ send (replicate 512 0) ∷ [])))
-      ≡ kept ∷ worked (record { sender = 1; ticket = 1; moved = true; aborted = 1 ∷ [] }) ∷ sent (nextBlock 2 0 2) ∷ []
+      ≡ kept ∷ worked (record { sender = 1; ticket = 1; moved = true; aborted = 1 ∷ []; append = blockOf exampleCommit }) ∷ sent (nextBlock 2 0 2) ∷ []
   pub stale : numbers (fresh 2 0) (firstTurn ++ (begin ∷ deliver (blockOf exampleCommit) ∷ work ∷ write 1 5 (pos 9) ∷ write 1 5 (pos 9) ∷ []))
       ≡ replicate 6 0 ++ (9 ∷ 3 ∷ [])

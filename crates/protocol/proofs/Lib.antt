@@ -5,10 +5,15 @@ pub mod SequenceLaws
 pub mod Tracking
 pub mod OpenLaws
 pub mod SendLaws
+pub mod RestartLaws
+pub mod JournalLaws
 pub mod Invariant
 pub mod KeepClient
 pub mod KeepMoves
+pub mod KeepRestart
 pub mod Keep
 pub mod ClaimLaws
 pub mod Agreement
 pub mod Refinement
+pub mod BlockLaws
+pub mod Example

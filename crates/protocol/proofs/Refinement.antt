@@ -1,5 +1,5 @@
 -- From a machine to the model: a machine that refines the model agrees. Assumes nothing.
-use Prim.Native.Nat.{_<_, ℕ}
+use Prim.Native.Nat.{ℕ}
 use mathlib.Core.Path.{_∙_, _≡_, ap, refl, subst, sym}
 use mathlib.Core.Bool.{Bool, false, true}
 use mathlib.Core.Option.{Option, none, some}
@@ -8,14 +8,16 @@ use lib.Dec.{eqb}
 use borrow.Author.Tests.{eqb-false, eqb-true}
 use Rattle.protocol.specs.Lists.{pick}
 use Rattle.protocol.specs.Writesets.{Message}
-use Rattle.protocol.specs.Replica.{Setup, Replica, Event, refused, Outcome}
+use Rattle.protocol.specs.Replica.{Setup, Cursor, Replica, Event, refused, Outcome}
+use Rattle.protocol.specs.Journal.{Journal, Cut, journalAfter, appended}
 use Rattle.protocol.specs.Observer.{Observed, Placed, Handout, observedAfter, handoutsAfter, sequence}
-use Rattle.protocol.specs.System.{Call, begin, read, write, ask, withdraw, report, send, deliver, work, HandedOut, step, made, PlacesApart}
-use Rattle.protocol.specs.Machine.{Alike, Performed, Refines, refuses, follows, Machine, CommandClaim, MachineSystem, CommandAt, freshSystem, afterCommand, runCommands, CommandPremise, systemOf, CommandClaims, MachineTheorem}
+use Rattle.protocol.specs.System.{Call, begin, read, write, ask, withdraw, report, send, deliver, work, restart, HandedOut, step, appends, Lent, made, PlacesApart}
+use Rattle.protocol.specs.Machine.{Alike, Performed, Refines, refuses, follows, Machine, CommandClaim, MachineSystem, CommandAt, freshSystem, appendedBy, afterCommand, runCommands, CommandLent, CommandPremise, systemOf, CommandClaims, MachineTheorem}
 use Rattle.protocol.proofs.Tracking.{Tracked}
 use Rattle.protocol.proofs.OpenLaws.{open-sub, queue-same}
+use Rattle.protocol.proofs.JournalLaws.{Journaled, journal-others}
 use Rattle.protocol.proofs.Invariant.{ReplicaInv, SystemInv, Kept, refuse}
-use Rattle.protocol.proofs.Keep.{step-keeps, inv-fresh}
+use Rattle.protocol.proofs.Keep.{step-keeps, step-journal, inv-fresh}
 use Rattle.protocol.proofs.ClaimLaws.{grows-call, step-claim}
 use Rattle.protocol.proofs.Agreement.{agreed}
 
@@ -50,7 +52,7 @@ module _ {X : Type 0} (S : Setup X) where
   }
 
   module _ (M : Machine S) where
-    open Machine M using (Memory, Command, perform, meaning, view, Sound, make, refines, stays, made-sound, made-alike)
+    open Machine M using (Memory, Command, perform, meaning, Member, view, Sound, make, refines, stays, made-sound, made-alike)
 
     -- a refusal other than 9 says nothing
     refusal-claim : (F : List (Placed X)) (D : List (Handout X)) (p : Observed X) (k : ℕ) (o : Option (Call X)) (c : ℕ) → (c ≡ 9 → ⊥) → CommandClaim S F D p k o (refused c)
@@ -64,13 +66,15 @@ module _ {X : Type 0} (S : Setup X) where
     refusal-claim F D p k (some send) c n = tt
     refusal-claim F D p k (some (deliver m)) c n = tt
     refusal-claim F D p k (some work) c n = tt
+    refusal-claim F D p k (some (restart l)) c n = tt
 
     module _ (A : PlacesApart S) where
       pub record MachineInv (g : MachineSystem S M) : Type 0 where
         pub inv : SystemInv S (systemOf S M g)
-        pub sound : (k : ℕ) → k < S .size → Sound (g .memories k)
+        pub sound : (k : ℕ) → Member k → Sound k (g .memories k)
 
-      module _ (g : MachineSystem S M) (H : MachineInv g) (a : CommandAt S M) (h : HandedOut (g .messages) (perform (g .memories (a .at)) (a .command) .event)) where
+      module _ (g : MachineSystem S M) (H : MachineInv g) (a : CommandAt S M) (h : HandedOut (g .messages) (perform (a .at) (g .memories (a .at)) (a .command) .event))
+          (lent : CommandLent S M (g .journals (a .at)) (a .at) (g .memories (a .at)) (meaning (a .command))) where
         abbrev k : ℕ
         k = a .at
 
@@ -78,7 +82,7 @@ module _ {X : Type 0} (S : Setup X) where
         m = g .memories (a .at)
 
         abbrev r : Replica X
-        r = view (g .memories (a .at))
+        r = view (a .at) (g .memories (a .at))
 
         abbrev D : List (Handout X)
         D = g .handouts
@@ -89,29 +93,71 @@ module _ {X : Type 0} (S : Setup X) where
         abbrev p : Observed X
         p = g .observed (a .at)
 
-        abbrev did : Performed X Memory
-        did = perform (g .memories (a .at)) (a .command)
+        abbrev J : Journal X
+        J = g .journals (a .at)
 
-        kept : Kept S D B p k (record { replica = view (did .memory); event = did .event })
-        kept = go (refines m (a .command) (H .sound k (a .here)))
+        abbrev did : Performed X Memory
+        did = perform (a .at) (g .memories (a .at)) (a .command)
+
+        -- what a command appends is what some call does
+        appends-as : (b : Command) (l : List (Message X)) → Cut J (appendedBy S M k m b) l → (c : Call X) × Cut J (appends S r (step S r c)) l
+        appends-as b l C = go (refines k m b (H .sound k (a .here)))
           where
-            go : Refines S perform meaning view m (a .command) → Kept S D B p k (record { replica = view (did .memory); event = did .event })
+            go : Refines S (perform k) meaning (view k) m b → (c : Call X) × Cut J (appends S r (step S r c)) l
+            go (refuses c n e L) = unfold step appended in (report, subst (λ (v : Event X). Cut J (appended S r (view k (perform k m b .memory) .cursor .turn) v) l) e C)
+            go (follows c q e L) = (
+              c,
+              subst (λ (n : ℕ). Cut J (appended S r n (step S r c .event)) l) (ap (λ (x : Cursor). x .turn) (L .cursor))
+                  (subst (λ (v : Event X). Cut J (appended S r (view k (perform k m b .memory) .cursor .turn) v) l) e C),
+            )
+
+        lent-as : (c : Call X) → CommandLent S M J k m (some c) → Lent S J r c
+        lent-as begin g = tt
+        lent-as (read t i) g = tt
+        lent-as (write t i x) g = tt
+        lent-as (ask t) g = tt
+        lent-as (withdraw t) g = tt
+        lent-as report g = tt
+        lent-as send g = tt
+        lent-as (deliver x) g = tt
+        lent-as work g = tt
+        lent-as (restart l) g = appends-as (g .0) l (g .1)
+
+        lent-of : (c : Call X) → meaning (a .command) ≡ some c → Lent S J r c
+        lent-of c q = lent-as c (subst (CommandLent S M J k m) q lent)
+
+        kept : Kept S D B p k (record { replica = view k (did .memory); event = did .event })
+        kept = go (refines k m (a .command) (H .sound k (a .here)))
+          where
+            go : Refines S (perform k) meaning (view k) m (a .command) → Kept S D B p k (record { replica = view k (did .memory); event = did .event })
             go (refuses c n e L) = kept-alike D B p k (record { replica = r; event = refused c }) _ _ e L
                 (refuse S D B p k r (H .inv .whole) (H .inv .each k) c)
             go (follows c q e L) = kept-alike D B p k (step S r c) _ _ e L
-                (step-keeps S A D B p k r (H .inv .whole) (H .inv .each k) c (rw e at h))
+                (step-keeps S A D B p k r (H .inv .whole) (H .inv .each k) J (H .inv .journals k) c (rw e at h) (lent-of c q))
+
+        journaled : Journaled S (handoutsAfter D k p (did .event)) k (view k (did .memory) .cursor .turn) (journalAfter J (appendedBy S M k m (a .command)) (did .event))
+        journaled = go (refines k m (a .command) (H .sound k (a .here)))
+          where
+            After : ℕ → Event X → Type 0
+            After n v = Journaled S (handoutsAfter D k p v) k n (journalAfter J (appended S r n v) v)
+
+            go : Refines S (perform k) meaning (view k) m (a .command) → After (view k (did .memory) .cursor .turn) (did .event)
+            go (refuses c n e L) = subst (After (view k (did .memory) .cursor .turn)) (sym e)
+                (subst (λ (n : ℕ). After n (refused c)) (ap (λ (x : Cursor). x .turn) (sym (L .cursor))) (unfold handoutsAfter journalAfter appended in H .inv .journals k))
+            go (follows c q e L) = subst (After (view k (did .memory) .cursor .turn)) (sym e)
+                (subst (λ (n : ℕ). After n (step S r c .event)) (ap (λ (x : Cursor). x .turn) (sym (L .cursor))) (step-journal S A D B p k r (H .inv .whole) (H .inv .each k) J (H .inv .journals k) c (lent-of c q)))
 
         said : (E : List (Placed X)) → CommandClaim S (sequence D ++ E) D p k (meaning (a .command)) (did .event)
-        said E = go (refines m (a .command) (H .sound k (a .here)))
+        said E = go (refines k m (a .command) (H .sound k (a .here)))
           where
-            go : Refines S perform meaning view m (a .command) → CommandClaim S (sequence D ++ E) D p k (meaning (a .command)) (did .event)
+            go : Refines S (perform k) meaning (view k) m (a .command) → CommandClaim S (sequence D ++ E) D p k (meaning (a .command)) (did .event)
             go (refuses c n e L) = subst (λ (v : Event X). CommandClaim S (sequence D ++ E) D p k (meaning (a .command)) v) (sym e) (refusal-claim (sequence D ++ E) D p k (meaning (a .command)) c n)
             go (follows c q e L) = subst (λ (v : Event X). CommandClaim S (sequence D ++ E) D p k (meaning (a .command)) v) (sym e)
                 (subst (λ (o : Option (Call X)). CommandClaim S (sequence D ++ E) D p k o (step S r c .event)) (sym q)
                 (step-claim S A D B p k r (H .inv .whole) (H .inv .each k) E c))
 
         inv-next : MachineInv (afterCommand S M g a)
-        inv-next = record { inv = record { whole = kept .whole; each = λ j. one j (eqb j k) refl }; sound = λ j h. two j h (eqb j k) refl }
+        inv-next = record { inv = record { whole = kept .whole; each = λ j. one j (eqb j k) refl; journals = λ j. three j (eqb j k) refl }; sound = λ j h. two j h (eqb j k) refl }
           where
             D′ : List (Handout X)
             D′ = handoutsAfter D k p (did .event)
@@ -122,41 +168,48 @@ module _ {X : Type 0} (S : Setup X) where
             m′ : Memory
             m′ = did .memory
 
-            one : (j : ℕ) (b : Bool) → eqb j k ≡ b → ReplicaInv S D′ (pick b p′ (g .observed j)) j (view (pick b m′ (g .memories j)))
-            one j true e = subst (λ (i : ℕ). ReplicaInv S D′ p′ i (view m′)) (sym (eqb-true j k e)) (kept .mine)
-            one j false e = kept .others j (eqb-false j k e) (g .observed j) (view (g .memories j)) (H .inv .each j)
+            one : (j : ℕ) (b : Bool) → eqb j k ≡ b → ReplicaInv S D′ (pick b p′ (g .observed j)) j (view j (pick b m′ (g .memories j)))
+            one j true e = subst (λ (i : ℕ). ReplicaInv S D′ p′ i (view i m′)) (sym (eqb-true j k e)) (kept .mine)
+            one j false e = kept .others j (eqb-false j k e) (g .observed j) (view j (g .memories j)) (H .inv .each j)
 
-            two : (j : ℕ) → j < S .size → (b : Bool) → eqb j k ≡ b → Sound (pick b m′ (g .memories j))
-            two j h true e = stays m (a .command) (H .sound k (a .here))
+            two : (j : ℕ) → Member j → (b : Bool) → eqb j k ≡ b → Sound j (pick b m′ (g .memories j))
+            two j h true e = subst (λ (i : ℕ). Sound i m′) (sym (eqb-true j k e)) (stays k m (a .command) (H .sound k (a .here)))
             two j h false e = H .sound j h
+
+            J′ : Journal X
+            J′ = journalAfter J (appendedBy S M k m (a .command)) (did .event)
+
+            three : (j : ℕ) (b : Bool) → eqb j k ≡ b → Journaled S D′ j (view j (pick b m′ (g .memories j)) .cursor .turn) (pick b J′ (g .journals j))
+            three j true e = subst (λ (i : ℕ). Journaled S D′ i (view i m′ .cursor .turn) J′) (sym (eqb-true j k e)) journaled
+            three j false e = journal-others S D k p (did .event) (kept .whole .inOrder) j (eqb-false j k e) (view j (g .memories j) .cursor .turn) (g .journals j) (H .inv .journals j)
 
       commands-grow : (cs : List (CommandAt S M)) (g : MachineSystem S M) → (E : List (Placed X)) × (sequence (runCommands S M g cs .handouts) ≡ sequence (g .handouts) ++ E)
       unfolding runCommands
       commands-grow [] g = ([], sym (append-nil (sequence (g .handouts))))
       commands-grow (a ∷ cs) g =
-          let u = grows-call S (g .handouts) (a .at) (g .observed (a .at)) (perform (g .memories (a .at)) (a .command) .event) in
+          let u = grows-call S (g .handouts) (a .at) (g .observed (a .at)) (perform (a .at) (g .memories (a .at)) (a .command) .event) in
           let v = commands-grow cs (afterCommand S M g a) in
           (u .0 ++ v .0, v .1 ∙ ap (λ (l : List (Placed X)). l ++ v .0) (u .1) ∙ append-assoc (sequence (g .handouts)) (u .0) (v .0))
 
       pub inv-commands : (cs : List (CommandAt S M)) (g : MachineSystem S M) → MachineInv g → CommandPremise S M g cs → MachineInv (runCommands S M g cs)
       unfolding runCommands CommandPremise
       inv-commands [] g H f = H
-      inv-commands (a ∷ cs) g H f = inv-commands cs (afterCommand S M g a) (inv-next g H a (f .0)) (f .1)
+      inv-commands (a ∷ cs) g H f = inv-commands cs (afterCommand S M g a) (inv-next g H a (f .0 .0) (f .0 .1)) (f .1)
 
       pub command-claims-hold : (cs : List (CommandAt S M)) (g : MachineSystem S M) → MachineInv g → CommandPremise S M g cs → CommandClaims S M (sequence (runCommands S M g cs .handouts)) g cs
       unfolding runCommands CommandPremise CommandClaims
       command-claims-hold [] g H f = tt
-      command-claims-hold (a ∷ cs) g H f = let E = commands-grow (a ∷ cs) g in (rw (E .1) (said g H a (f .0) (E .0)), command-claims-hold cs (afterCommand S M g a) (inv-next g H a (f .0)) (f .1))
+      command-claims-hold (a ∷ cs) g H f = let E = commands-grow (a ∷ cs) g in (rw (E .1) (said g H a (f .0 .0) (f .0 .1) (E .0)), command-claims-hold cs (afterCommand S M g a) (inv-next g H a (f .0 .0) (f .0 .1)) (f .1))
+
+  pub fresh-inv : (M : Machine S) (A : PlacesApart S) → MachineInv M A (freshSystem S M)
+  fresh-inv M A = record {
+    inv = record { whole = inv-fresh S .whole; each = λ k. replica-alike [] _ k (made S k) (M .view k (M .make k)) (M .made-alike k) (inv-fresh S .each k); journals = λ k. rw (M .made-alike k .cursor) (inv-fresh S .journals k) };
+    sound = M .made-sound;
+  }
 
   pub machine-agreement : MachineTheorem S
   machine-agreement A M cs f = record {
     group = agreed S (systemOf S M (runCommands S M (freshSystem S M) cs))
-        (inv-commands M A cs (freshSystem S M) H f .inv);
-    calls = command-claims-hold M A cs (freshSystem S M) H f;
+        (inv-commands M A cs (freshSystem S M) (fresh-inv M A) f .inv);
+    calls = command-claims-hold M A cs (freshSystem S M) (fresh-inv M A) f;
   }
-    where
-      H : MachineInv M A (freshSystem S M)
-      H = record {
-        inv = record { whole = inv-fresh S .whole; each = λ k. replica-alike [] _ k (made S k) (M .view (M .make k)) (M .made-alike k) (inv-fresh S .each k) };
-        sound = M .made-sound;
-      }

@@ -4,6 +4,8 @@ pub mod Writesets
 pub mod Replica
 pub mod Client
 pub mod Moves
+pub mod Journal
+pub mod Blocks
 pub mod Observer
 pub mod System
 pub mod Statement

@@ -1,13 +1,14 @@
 -- A machine with a view of its memory as a replica's state, what each of its calls owes the model, and agreement stated of the machine.
-use Prim.Native.Nat.{_<_, ℕ}
+use Prim.Native.Nat.{ℕ}
 use mathlib.Core.Path.{_≡_}
 use mathlib.Core.Option.{Option, none, some}
 use mathlib.Core.List.{List, [], _∷_}
 use Rattle.protocol.specs.Lists.{update, Mem}
 use Rattle.protocol.specs.Writesets.{Message}
 use Rattle.protocol.specs.Replica.{Setup, Transaction, Replica, Event, refused}
+use Rattle.protocol.specs.Journal.{Journal, journal, Cut, journalAfter, appended}
 use Rattle.protocol.specs.Observer.{noting, Observed, observing, Placed, Handout, observedAfter, handoutsAfter, messagesAfter, sequence}
-use Rattle.protocol.specs.System.{Call, System, HandedOut, step, made, PlacesApart}
+use Rattle.protocol.specs.System.{Call, begin, read, write, ask, withdraw, report, send, deliver, work, restart, System, HandedOut, step, made, PlacesApart}
 use Rattle.protocol.specs.Statement.{Claim, Agreed}
 
 module _ {X : Type 0} where
@@ -36,19 +37,21 @@ module _ {X : Type 0} (S : Setup X) where
       refuses : (c : ℕ) → (c ≡ 9 → ⊥) → perform m a .event ≡ refused c → Alike (view m) (view (perform m a .memory)) → Refines m a
       follows : (c : Call X) → meaning a ≡ some c → perform m a .event ≡ step S (view m) c .event → Alike (step S (view m) c .replica) (view (perform m a .memory)) → Refines m a
 
-  -- perform: what a command does and how the observer sees it; meaning: the call it is, if it is well formed; Sound: what the memory meets after every call
+  -- perform k: what a command at member k does and how the observer sees it; meaning: the call it is, if it is well formed; Member k: the group has a replica or station k;
+  -- view k, Sound k: the memory of member k as a replica's state, and what it meets after every call
   pub record Machine : Type 1 where
     pub Memory : Type 0
     pub Command : Type 0
-    pub perform : Memory → Command → Performed X Memory
+    pub perform : ℕ → Memory → Command → Performed X Memory
     pub meaning : Command → Option (Call X)
-    pub view : Memory → Replica X
-    pub Sound : Memory → Type 0
+    pub Member : ℕ → Type 0
+    pub view : ℕ → Memory → Replica X
+    pub Sound : ℕ → Memory → Type 0
     pub make : ℕ → Memory
-    pub refines : (m : Memory) (a : Command) → Sound m → Refines perform meaning view m a
-    pub stays : (m : Memory) (a : Command) → Sound m → Sound (perform m a .memory)
-    pub made-sound : (k : ℕ) → k < S .size → Sound (make k)
-    pub made-alike : (k : ℕ) → Alike (made S k) (view (make k))
+    pub refines : (k : ℕ) (m : Memory) (a : Command) → Sound k m → Refines (perform k) meaning (view k) m a
+    pub stays : (k : ℕ) (m : Memory) (a : Command) → Sound k m → Sound k (perform k m a .memory)
+    pub made-sound : (k : ℕ) → Member k → Sound k (make k)
+    pub made-alike : (k : ℕ) → Alike (made S k) (view k (make k))
 
   -- of one command
   abbrev pub CommandClaim : List (Placed X) → List (Handout X) → Observed X → ℕ → Option (Call X) → Event X → Type 0
@@ -56,47 +59,69 @@ module _ {X : Type 0} (S : Setup X) where
   CommandClaim F D p k (some c) e = Claim S F D p k c e
 
   module _ (M : Machine) where
-    open Machine M using (Memory, Command, perform, meaning, view, make)
+    open Machine M using (Memory, Command, perform, meaning, Member, view, make)
 
     pub record MachineSystem : Type 0 where
       pub memories : ℕ → Memory
+      pub journals : ℕ → Journal X
       pub observed : ℕ → Observed X
       pub handouts : List (Handout X)
       pub messages : List (Message X)
 
-    -- a command at a replica of the group
+    -- a command at a member of the group
     pub record CommandAt : Type 0 where
       pub at : ℕ
-      pub here : at < S .size
+      pub here : Member at
       pub command : Command
 
     abbrev pub freshSystem : MachineSystem
-    freshSystem = record { memories = make; observed = λ k. observing (λ t. noting 0 []) [] []; handouts = []; messages = [] }
+    freshSystem = record { memories = make; journals = λ k. journal [] 0; observed = λ k. observing (λ t. noting 0 []) [] []; handouts = []; messages = [] }
+
+    -- what a command at member k appends to the journal, as its messages
+    abbrev pub appendedBy : ℕ → Memory → Command → Option (Message X)
+    appendedBy k m a = appended S (view k m) (view k (perform k m a .memory) .cursor .turn) (perform k m a .event)
 
     abbrev pub afterCommand : MachineSystem → CommandAt → MachineSystem
     afterCommand g a = record {
-      memories = update (g .memories) (a .at) (perform (g .memories (a .at)) (a .command) .memory);
-      observed = update (g .observed) (a .at) (observedAfter (g .observed (a .at)) (perform (g .memories (a .at)) (a .command) .event));
-      handouts = handoutsAfter (g .handouts) (a .at) (g .observed (a .at)) (perform (g .memories (a .at)) (a .command) .event);
-      messages = messagesAfter (g .messages) (perform (g .memories (a .at)) (a .command) .event);
+      memories = update (g .memories) (a .at) (perform (a .at) (g .memories (a .at)) (a .command) .memory);
+      journals = update (g .journals) (a .at) (journalAfter (g .journals (a .at)) (appendedBy (a .at) (g .memories (a .at)) (a .command)) (perform (a .at) (g .memories (a .at)) (a .command) .event));
+      observed = update (g .observed) (a .at) (observedAfter (g .observed (a .at)) (perform (a .at) (g .memories (a .at)) (a .command) .event));
+      handouts = handoutsAfter (g .handouts) (a .at) (g .observed (a .at)) (perform (a .at) (g .memories (a .at)) (a .command) .event);
+      messages = messagesAfter (g .messages) (perform (a .at) (g .memories (a .at)) (a .command) .event);
     }
 
     unfoldable pub runCommands : MachineSystem → List CommandAt → MachineSystem
     runCommands g [] = g
     runCommands g (a ∷ cs) = runCommands (afterCommand g a) cs
 
+    -- what a restart is lent is left by a cut, in which one command of any kind may have ended
+    abbrev pub CommandLent : Journal X → ℕ → Memory → Option (Call X) → Type 0
+    CommandLent J k m none = Unit
+    CommandLent J k m (some begin) = Unit
+    CommandLent J k m (some (read t i)) = Unit
+    CommandLent J k m (some (write t i x)) = Unit
+    CommandLent J k m (some (ask t)) = Unit
+    CommandLent J k m (some (withdraw t)) = Unit
+    CommandLent J k m (some report) = Unit
+    CommandLent J k m (some send) = Unit
+    CommandLent J k m (some (deliver x)) = Unit
+    CommandLent J k m (some work) = Unit
+    CommandLent J k m (some (restart lent)) = (b : Command) × Cut J (appendedBy k m b) lent
+
     -- the premise on a list of commands
     unfoldable pub CommandPremise : MachineSystem → List CommandAt → Type 0
     CommandPremise g [] = Unit
-    CommandPremise g (a ∷ cs) = HandedOut (g .messages) (perform (g .memories (a .at)) (a .command) .event) × CommandPremise (afterCommand g a) cs
+    CommandPremise g (a ∷ cs) =
+        (HandedOut (g .messages) (perform (a .at) (g .memories (a .at)) (a .command) .event) × CommandLent (g .journals (a .at)) (a .at) (g .memories (a .at)) (meaning (a .command)))
+        × CommandPremise (afterCommand g a) cs
 
     -- the group as the model sees it
     abbrev pub systemOf : MachineSystem → System X
-    systemOf g = record { replicas = λ k. view (g .memories k); observed = g .observed; handouts = g .handouts; messages = g .messages }
+    systemOf g = record { replicas = λ k. view k (g .memories k); journals = g .journals; observed = g .observed; handouts = g .handouts; messages = g .messages }
 
     unfoldable pub CommandClaims : List (Placed X) → MachineSystem → List CommandAt → Type 0
     CommandClaims F g [] = Unit
-    CommandClaims F g (a ∷ cs) = CommandClaim F (g .handouts) (g .observed (a .at)) (a .at) (meaning (a .command)) (perform (g .memories (a .at)) (a .command) .event)
+    CommandClaims F g (a ∷ cs) = CommandClaim F (g .handouts) (g .observed (a .at)) (a .at) (meaning (a .command)) (perform (a .at) (g .memories (a .at)) (a .command) .event)
         × CommandClaims F (afterCommand g a) cs
 
     -- agreement of the machine

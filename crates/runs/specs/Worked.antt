@@ -1,20 +1,21 @@
--- Two runs of a group of three: one that meets the premise, so that the theorem speaks of something; and one with a forged block, so that the premise is seen to be needed.
+-- Runs of a group of three: one that meets the premise, so that the theorem speaks of something; one with a forged block, so that the premise is seen to be
+-- needed; and one with power cuts and restarts.
 use Prim.Native.Nat.{ℕ}
 use mathlib.Core.Path.{_≡_}
 use mathlib.Core.List.{List, [], _∷_, _++_}
 use lib.IntN.{ℤ, pos}
-use lib.ListN.{replicate, set}
+use lib.ListN.{replicate, set, take}
 use Rattle.block.specs.Bytes.{blockOf}
 use Rattle.engine.specs.Client.{reportOf}
 use Rattle.engine.specs.Step.{Call}
 use Rattle.engine.specs.Step.Call.{begin, write, ask, send, deliver, work}
-use Rattle.agreement.specs.Group.{Group, CallAt, fresh, run, Calls, Premise}
+use Rattle.agreement.specs.Group.{Group, call, restart, CallAt, fresh, run, Calls, Premise}
 
 abbrev pub zeros : List ℤ
 zeros = replicate 128 (pos 0)
 
 abbrev pub at : ℕ → Call → CallAt
-at k c = record { at = k; does = c }
+at k c = record { at = k; does = call c }
 
 -- the block of slot s, from its owner, with one transaction that wrote one item
 abbrev pub commitBlock : ℕ → ℕ → ℕ → ℕ → ℤ → List ℕ
@@ -64,10 +65,36 @@ forgery =
     ++ (sending 0 ∷ taking 0 (commitBlock 0 0 1 5 (pos 84)))
     ++ taking 1 (commitBlock 0 0 1 5 (pos 86))
 
+-- ---- and power cuts
+
+abbrev pub restarting : ℕ → List ℕ → CallAt
+restarting k journal = record { at = k; does = restart journal (replicate 512 0) }
+
+-- replica 0 asks, and a cut ends its send when the block is on its disk: the restart hands the block out. Replica 1 takes it and works; a cut tears the block it
+-- then sends after 100 bytes, so it restarts with slot 0 alone, and sends for slot 1 anew: a *next*, its transaction is gone. Replica 0 loses power once more
+abbrev pub first : List ℕ
+first = commitBlock 0 0 1 10 (pos 80)
+
+abbrev pub second : List ℕ
+second = blockOf (record { kind = 1; sender = 1; replicas = 3; slot = 1; records = [] })
+
+abbrev pub torn : List ℕ
+torn = first ++ take 100 (commitBlock 1 1 1 20 (pos 70))
+
+abbrev pub outages : List CallAt
+outages =
+    setting 0 1 10 (pos 80)
+    ++ (restarting 0 first ∷ setting 1 1 20 (pos 70))
+    ++ taking 1 first
+    ++ (restarting 1 torn ∷ sending 1 ∷ taking 1 second)
+    ++ taking 0 second
+    ++ (restarting 0 (first ++ second) ∷ taking 2 first)
+    ++ taking 2 second
+
 -- ---- what the runs leave
 
 abbrev pub after : List CallAt → Group
-after cs = run (fresh 3 zeros) cs
+after cs = run 3 zeros (fresh 3 zeros) cs
 
 -- what replica k holds after a run: its values and its commit count
 pub record Held : Type 0 where
@@ -98,6 +125,15 @@ pub record ForgedRun : Type 0 where
   pub replica-0 : held forgery 0 ≡ holding (set zeros 5 (pos 84)) 1
   pub replica-1 : held forgery 1 ≡ holding (set zeros 5 (pos 86)) 1
 
+-- the cuts and restarts meet the premise; all three replicas commit the one writeset whose block was on a disk
+pub record OutageRun : Type 0 where
+  pub calls : Calls 3 outages
+  pub premise : Premise 3 zeros outages
+  pub replica-0 : held outages 0 ≡ holding (set zeros 10 (pos 80)) 1
+  pub replica-1 : held outages 1 ≡ holding (set zeros 10 (pos 80)) 1
+  pub replica-2 : held outages 2 ≡ holding (set zeros 10 (pos 80)) 1
+
 pub record WorkedRuns : Type 0 where
   pub story-runs : WorkedRun
   pub forgery-runs : ForgedRun
+  pub outage-runs : OutageRun

@@ -13,7 +13,7 @@ use Rattle.memory.specs.Memory.{Memory}
 use Rattle.sending.specs.declared.SendAnswer.{SendAnswer}
 use Rattle.sending.specs.declared.SendAnswer.the-variants.{Sent, Refused}
 use Rattle.engine.specs.Calls.{Answer}
-use Rattle.engine.specs.Calls.Answer.{refused, made, began, got, wrote, queued, readOnly, withdrew, reported, sent, kept, worked}
+use Rattle.engine.specs.Calls.Answer.{refused, made, began, got, wrote, queued, readOnly, withdrew, reported, sent, kept, worked, restarted}
 use Rattle.engine.specs.Moves.{writesetOf}
 
 -- the block sent is what the lent bytes hold
@@ -44,6 +44,7 @@ blockLeft withdrew old = old
 blockLeft (reported r) old = old
 blockLeft kept old = old
 blockLeft (worked s) old = old
+blockLeft (restarted c b) old = old
 
 -- ---- what is written into the block
 

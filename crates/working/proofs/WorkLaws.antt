@@ -25,8 +25,8 @@ use Rattle.engine.proofs.PlaceLaws.{place-fits}
 use Rattle.engine.proofs.ShapeWriteset.{committed}
 use Rattle.engine.specs.Calls.{Outcome, outcome}
 use Rattle.engine.specs.Calls.Answer.{refused, worked}
-use Rattle.engine.specs.Moves.{workLent, workRefusal, isSent, writesetAt, applied, stamped, spared, hitTickets, queueWithout, isLast, passNext, commitWriteset, workStep}
-use Rattle.working.specs.Lent.{Trimmed, workParts, Ending, endingOf}
+use Rattle.engine.specs.Moves.{workLent, workRefusal, isSent, blockAtTurn, writesetAt, applied, stamped, spared, hitTickets, queueWithout, isLast, passNext, commitWriteset, workStep}
+use Rattle.working.specs.Lent.{Trimmed, appendOf, workParts, Ending, endingOf}
 
 -- ---- lengths
 
@@ -64,7 +64,7 @@ module _ (m : Memory) where
       second = at-turn 1 (omega arith) ∙ sym from
 
       pub work-next : k ≡ 1
-          → outcome (worked (record { sender = sender; ticket = 0; moved = true; aborted = [] }))
+          → outcome (worked (record { sender = sender; ticket = 0; moved = true; aborted = []; append = appendOf true sender (m .counts .own) (blockAtTurn m) }))
           (withTurn m (advance (m .turn)) (withDone (m .counts) 0) (record { places = set (m .blocks .places) at 0; outbox = m .blocks .outbox }))
           ≡ workStep m
       unfolding workStep workRefusal passNext firstOf
@@ -120,7 +120,7 @@ module _ (m : Memory) (turn : Turn) (counts : Counts) (table : List Txn) (queue 
   -- the ending, with values and stamps, by the writeset's place in the block
   abbrev left : Ending → Bool → Record → ℕ → ℕ → Outcome
   left e last w sender at =
-      outcome (worked (record { sender = sender; ticket = w .ticket; moved = last; aborted = e .gone }))
+      outcome (worked (record { sender = sender; ticket = w .ticket; moved = last; aborted = e .gone; append = appendOf last sender (counts .own) (blockAtTurn before) }))
       (workParts m (cond last (advance (e .turn)) (e .turn)) (withDone (e .counts) (cond last 0 (e .counts .done + 1))) (e .table) (e .queue) items
       (applied (w .entries) values)
       (stamped (e .counts .commits) (w .entries) stamps)
@@ -128,7 +128,7 @@ module _ (m : Memory) (turn : Turn) (counts : Counts) (table : List Txn) (queue 
 
   by-cases : (mine last : Bool) (w : Record) (sender : ℕ)
       → left (endingOf mine w turn counts table queue items) last w sender (placeStart (counts .replicas) (turn .slot))
-      ≡ outcome (worked (record { sender = sender; ticket = w .ticket; moved = last; aborted = endingOf mine w turn counts table queue items .gone }))
+      ≡ outcome (worked (record { sender = sender; ticket = w .ticket; moved = last; aborted = endingOf mine w turn counts table queue items .gone; append = appendOf last sender (counts .own) (blockAtTurn before) }))
       (committed before mine last w)
   unfolding endingOf
   by-cases true true w sender = refl
@@ -145,7 +145,7 @@ module _ (m : Memory) (turn : Turn) (counts : Counts) (table : List Txn) (queue 
       → t ≡ cond (leb count (e .counts .done + 1)) (advance (e .turn)) (e .turn)
       → c ≡ withDone (e .counts) (cond (leb count (e .counts .done + 1)) 0 (e .counts .done + 1))
       → p ≡ cond (leb count (e .counts .done + 1)) (set places at 0) places
-      → outcome (worked (record { sender = sender; ticket = ticket; moved = last; aborted = e .gone })) (workParts m t c (e .table) (e .queue) items v s p)
+      → outcome (worked (record { sender = sender; ticket = ticket; moved = last; aborted = e .gone; append = appendOf last sender (counts .own) (blockAtTurn before) })) (workParts m t c (e .table) (e .queue) items v s p)
       ≡ commitWriteset before mine w
   unfolding commitWriteset endingOf
   writeset-committed at start mine w sender ticket count es et ec e q last t c v s p ev eS el eT eC ep =

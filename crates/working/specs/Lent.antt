@@ -3,6 +3,7 @@ use Prim.Native.Nat.{ℕ, _+_, _-_, _≤_, min}
 use mathlib.Core.Path.{_≡_}
 use mathlib.Core.Bool.{Bool, cond}
 use mathlib.Core.List.{List, []}
+use lib.Dec.{eqb}
 use lib.IntN.{ℤ}
 use lib.ListN.{length, set, take, drop, replicate}
 use Rattle.block.specs.Message.{Record}
@@ -19,10 +20,15 @@ use Rattle.working.specs.declared.Ended.{Ended}
 use Rattle.working.specs.declared.WorkAnswer.{WorkAnswer}
 use Rattle.working.specs.declared.WorkAnswer.the-variants.{Worked, Refused}
 
--- document 01's number, or what the work did; the tickets aborted are the first `count` of those given
-abbrev pub workAnswer : WorkAnswer → List ℕ → Answer
-workAnswer (Worked s) tickets = worked (record { sender = s .sender; ticket = s .ticket; moved = s .moved; aborted = take (s .count) tickets })
-workAnswer (Refused n) tickets = refused n
+-- the block to append to the journal: that at the turn before the call, where the turn leaves another's slot
+abbrev pub appendOf : Bool → ℕ → ℕ → List ℕ → List ℕ
+appendOf moved sender own block = cond moved (cond (eqb sender own) [] block) []
+
+-- document 01's number, or what the work did; the tickets aborted are the first `count` of those given; `block`: that at the turn before the call
+abbrev pub workAnswer : WorkAnswer → List ℕ → ℕ → List ℕ → Answer
+workAnswer (Worked s) tickets own block =
+    worked (record { sender = s .sender; ticket = s .ticket; moved = s .moved; aborted = take (s .count) tickets; append = appendOf (s .moved) (s .sender) own block })
+workAnswer (Refused n) tickets own block = refused n
 
 -- the array beside the answer: six tickets, n of them aborted, zeros behind
 pub record Trimmed (n : ℕ) (tickets : List ℕ) : Type 0 where

@@ -8,7 +8,7 @@ ghost use lib.Seq.{slice};
 ghost use Rattle.block.specs.Answers.{recordAt};
 ghost use Rattle.memory.specs.Memory.{Memory, bump, withDone, withCommit};
 ghost use Rattle.memory.specs.Rows.{closed, rowOf, rowAt};
-ghost use Rattle.memory.specs.Turns.{advance, placeStart};
+ghost use Rattle.memory.specs.Turns.{advance, placeStart, blockIn};
 ghost use Rattle.engine.specs.Calls.{outcome};
 ghost use Rattle.engine.specs.Moves.{writesetAt, commitWriteset, workStep};
 ghost use Rattle.working.specs.Lent.{workAnswer, Trimmed, Beside, workParts, ending, endingOf};
@@ -290,7 +290,7 @@ fn commit(
     at: usize,
 ) -> Working
     requires { ⌜ (at ≡ placeStart (counts .replicas) (turn .slot)) × (at + 512 ≤ length (now places)) × (sender ≡ getD (slice at (at + 512) (now places)) 1 0) × (ticket ≡ recordAt (slice at (at + 512) (now places)) (counts .done) .ticket) ⌝ }
-    ensures { λ r. ⌜ ((m : Memory) → outcome (workAnswer (r .answer) (r .aborted)) (workParts m (r .turn) (r .counts) (r .table) (now (queue .exit)) (now (items .entry)) (now (values .exit)) (now (stamps .exit)) (now (places .exit))) ≡ commitWriteset (workParts m turn counts table (now (queue .entry)) (now (items .entry)) (now (values .entry)) (now (stamps .entry)) (now (places .entry))) (eqb sender (counts .own)) (writesetAt (slice at (at + 512) (now (places .entry))) (counts .done))) × Beside (r .answer) (r .aborted) ⌝ }
+    ensures { λ r. ⌜ ((m : Memory) → outcome (workAnswer (r .answer) (r .aborted) (counts .own) (blockIn (counts .replicas) (turn .slot) (now (places .entry)))) (workParts m (r .turn) (r .counts) (r .table) (now (queue .exit)) (now (items .entry)) (now (values .exit)) (now (stamps .exit)) (now (places .exit))) ≡ commitWriteset (workParts m turn counts table (now (queue .entry)) (now (items .entry)) (now (values .entry)) (now (stamps .entry)) (now (places .entry))) (eqb sender (counts .own)) (writesetAt (slice at (at + 512) (now (places .entry))) (counts .done))) × Beside (r .answer) (r .aborted) ⌝ }
 {
     let count = places[at + 3];
     let end = at + 512;
@@ -341,7 +341,7 @@ pub fn work(
     stamps: &mut [u32],
     places: &mut [u8],
 ) -> Working
-    ensures { λ r. ⌜ ((m : Memory) → outcome (workAnswer (r .answer) (r .aborted)) (workParts m (r .turn) (r .counts) (r .table) (now (queue .exit)) (now (items .entry)) (now (values .exit)) (now (stamps .exit)) (now (places .exit))) ≡ workStep (workParts m turn counts table (now (queue .entry)) (now (items .entry)) (now (values .entry)) (now (stamps .entry)) (now (places .entry)))) × Beside (r .answer) (r .aborted) ⌝ }
+    ensures { λ r. ⌜ ((m : Memory) → outcome (workAnswer (r .answer) (r .aborted) (counts .own) (blockIn (counts .replicas) (turn .slot) (now (places .entry)))) (workParts m (r .turn) (r .counts) (r .table) (now (queue .exit)) (now (items .entry)) (now (values .exit)) (now (stamps .exit)) (now (places .exit))) ≡ workStep (workParts m turn counts table (now (queue .entry)) (now (items .entry)) (now (values .entry)) (now (stamps .entry)) (now (places .entry)))) × Beside (r .answer) (r .aborted) ⌝ }
 {
     if !lengths_fit(
         counts.replicas,

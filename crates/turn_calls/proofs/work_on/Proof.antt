@@ -41,7 +41,7 @@ returns c = λ m.
     let a = c .before .before .before .before .before .before .before .before .before .before .before .before .before .before .before .before .before .before .before .before .before .before .before .args in
     let known = c .before .before .answer .given .1 in
     let q = rw known at (d .ensures .0 m) in
-    (work-reply _ _ (rw known at (d .ensures .1)) (search needs) _ _ _ (workParts m (a .turn) (d .result .counts) (d .result .table) (a .queue .now) (a .items .now) (a .values .now) (a .stamps .now) (a .places .now)) ∙ ap workReply q, rw (c .turn-change .ensures, ← work-did _ _ q) (ap memory q))
+    (work-reply _ _ (rw known at (d .ensures .1)) (search needs) _ _ _ mathlib.Core.List.[] (workParts m (a .turn) (d .result .counts) (d .result .table) (a .queue .now) (a .items .now) (a .values .now) (a .stamps .now) (a .places .now)) ∙ ap workReply q, rw (c .turn-change .ensures, ← work-did _ _ q) (ap memory q))
 
 same-length-5 : tie.Need-same-length-5
 same-length-5 c = search needs

@@ -1,0 +1,249 @@
+-- A replica's disk as the model's journal: its bytes are good blocks that say the journal's messages; what each call appends; what a cut leaves. Assumes nothing.
+use Prim.Native.Nat.{ℕ, zero, suc, _+_, _*_, _/_, _%_, _≤_}
+use mathlib.Core.Path.{_≡_, refl, sym, ap, _∙_, subst}
+use mathlib.Core.Logic.{_⊎_, inl, inr}
+use mathlib.Core.Bool.{Bool, true, false, cond}
+use mathlib.Core.Option.{Option, none, some}
+use mathlib.Core.List.{List, List·Memᴰ·append-cases, [], _∷_, _++_, append-assoc, append-nil, map}
+use native.Mathlib.Nat.{lt-mul-div-succ}
+use native.Mathlib.Omega.{arith}
+use lib.Dec.{eqb}
+use lib.IntN.{ℤ}
+use lib.ListN.{length, getD, take, drop}
+use lib.Seq.{take-nil, take-add}
+use borrow.Author.Tests.{eq-eqb, ne-eqb}
+use Rattle.block.specs.Bytes.{blockOf}
+use Rattle.block.specs.Form.{messageOf}
+use Rattle.block.specs.Answers.{readRefusal, headerOf, recordAt}
+use Rattle.block.proofs.BoolLaws.{joined}
+use Rattle.block.proofs.AnswerLaws.{is-taken}
+use Rattle.block.proofs.Theorems.{theorems}
+use Rattle.memory.specs.Memory.{Memory}
+use Rattle.memory.specs.Turns.{advance, markApplying}
+use Rattle.engine.specs.Calls.{Answer, Step, Outcome}
+use Rattle.engine.specs.Calls.Answer.{refused, made, began, got, wrote, queued, readOnly, withdrew, reported, sent, kept, worked, restarted}
+use Rattle.engine.specs.Client.{beginAt, readOnlyAt, queueAt, rewriteAt, insertWrite, staleAt, withdrawAt, reportStep}
+use Rattle.engine.specs.Moves.{messageFor, sendRefusal, sendNow, deliverNow, blockAtTurn, writesetAt, isLast, passNext, commitWriteset}
+use Rattle.engine.specs.Step.{Call, step}
+use Rattle.engine.specs.Step.Call.{begin, read, write, ask, withdraw, report, send, deliver, work}
+use Rattle.engine.specs.Restart.{isGood, blocksIn, firstBlocks, restartStep}
+use Rattle.engine.proofs.Tests.{cond-by}
+use Rattle.engine.proofs.Steps.{begin-by, read-by, write-by, ask-by, withdraw-by, send-by, deliver-by, work-by, restart-by}
+use Rattle.engine.proofs.Shaping.{bumps}
+use Rattle.engine.proofs.ShapeTurn.{Working, working}
+use Rattle.engine.proofs.RestartLaws.{AllGood, good-none, good-cons, good-taken, reads-good, reads-first}
+use Rattle.protocol.specs.Lists.{pick}
+use Rattle.protocol.specs.Writesets.{Message}
+use Rattle.protocol.specs.Replica.{Event}
+use Rattle.protocol.specs.Journal.{Journal, journal, append, Cut, journalAfter, appended}
+use Rattle.protocol.specs.Blocks.{join, readBlocks}
+use Rattle.protocol.proofs.BlockLaws.{cut-of-bytes}
+use Rattle.protocol.proofs.SequenceLaws.{map-append}
+use Rattle.agreement.specs.Group.{messageIn, call, restart, heard, heardRestart, Disk, disk, appendedIn, diskAfter, Lent}
+use Rattle.agreement.proofs.View.{setup, placeAt, view, Sound}
+use Rattle.agreement.proofs.PlaceView.{place-taken}
+use Rattle.agreement.proofs.Sendable.{sendable}
+use Rattle.agreement.proofs.RestartView.{read-enough}
+use Rattle.agreement.proofs.RestartStep.{lentMessages}
+
+-- ---- blocks joined
+
+join-append : (a b : List (List ℕ)) → join (a ++ b) ≡ join a ++ join b
+unfolding join
+join-append [] b = refl
+join-append (x ∷ a) b = rw (join-append a b) (sym (append-assoc x (join a) (join b)))
+
+join-first : (c : ℕ) (bytes : List ℕ) → join (firstBlocks c bytes) ≡ take (512 * c) bytes
+unfolding join firstBlocks
+join-first zero bytes = refl
+join-first (suc c) bytes =
+    ap (λ (l : List ℕ). take 512 bytes ++ l) (join-first c (drop 512 bytes))
+    ∙ sym (take-add 512 (512 * c) bytes)
+    ∙ ap (λ (k : ℕ). take k bytes) (let e : 512 + 512 * c ≡ 512 * suc c = omega arith in e)
+
+good-append : (n : ℕ) (a b : List (List ℕ)) → AllGood n a → AllGood n b → AllGood n (a ++ b)
+good-append n a b f g c q = go (List·Memᴰ·append-cases a q)
+  where
+    go : Rattle.protocol.specs.Lists.Mem c a ⊎ Rattle.protocol.specs.Lists.Mem c b → isGood n c ≡ true
+    go (inl h) = f c h
+    go (inr h) = g c h
+
+is-good : (n : ℕ) (b : List ℕ) → readRefusal b ≡ 0 → headerOf b .replicas ≡ n → isGood n b ≡ true
+unfolding isGood
+is-good n b e f = joined (eq-eqb _ 0 e) (eq-eqb _ n f)
+
+-- ---- the disk
+
+pub record OnDisk (n : ℕ) (d : Disk) (J : Journal ℤ) : Type 0 where
+  pub blocks : List (List ℕ)
+  pub bytes : join blocks ≡ d .journal
+  pub good : AllGood n blocks
+  pub says : map messageIn blocks ≡ J .kept
+  pub safe : d .safe ≡ J .safe
+
+pub empty-disk : (n : ℕ) → OnDisk n (disk [] 0) (journal [] 0)
+unfolding join
+empty-disk n = record { blocks = []; bytes = refl; good = good-none n; says = refl; safe = refl }
+
+-- ---- what a call appends
+
+-- the bytes `appended` are blocks, good ones, that say what the model appends
+pub record AppendedBlocks (n : ℕ) (appended : List ℕ) (more : Option (Message ℤ)) : Type 0 where
+  pub blocks : List (List ℕ)
+  pub bytes : join blocks ≡ appended
+  pub good : AllGood n blocks
+  pub says : (l : List (Message ℤ)) → append l more ≡ l ++ map messageIn blocks
+
+no-block : (n : ℕ) → AppendedBlocks n [] none
+unfolding join
+no-block n = record { blocks = []; bytes = refl; good = good-none n; says = λ l. sym (append-nil l) }
+
+one-block : (n : ℕ) (b : List ℕ) → isGood n b ≡ true → AppendedBlocks n b (some (messageIn b))
+unfolding join
+one-block n b g = record { blocks = b ∷ []; bytes = append-nil b; good = good-cons n b [] g (good-none n); says = λ l. refl }
+
+-- the turn leaves the slot of b, from `slot` to `turn`
+left-block : (n : ℕ) (b : List ℕ) → isGood n b ≡ true → (mine last : Bool) (slot turn : ℕ) → turn ≡ cond last (suc slot) slot
+    → AppendedBlocks n (cond last (cond mine [] b) []) (pick mine none (pick (eqb turn slot) none (some (messageIn b))))
+left-block n b g true true slot turn e = no-block n
+left-block n b g true false slot turn e = no-block n
+left-block n b g false true slot turn e = rw (ne-eqb turn slot (λ q. let w : ⊥ = omega arith in w)) (one-block n b g)
+left-block n b g false false slot turn e = rw (eq-eqb turn slot e) (no-block n)
+
+module _ (n : ℕ) (start : List ℤ) (m : Memory) (s : Sound n m) where
+  abbrev Appends : Call → Outcome → Type 0
+  Appends c o = AppendedBlocks n (appendedIn (o .answer)) (appended (setup n start) (view m) (o .memory .turn .slot) (heard c (o .answer)))
+
+  abbrev b : List ℕ
+  b = blockAtTurn m
+
+  module _ (k : Working m) where
+    waits : (readRefusal b ≡ 0) × (headerOf b .slot ≡ m .turn .slot) × (headerOf b .replicas ≡ m .counts .replicas)
+    waits = s .shape .places .waits (m .turn .slot) (omega arith) (omega (arith, s .shape .ranges .least)) (k .waits)
+
+    turn-good : isGood n b ≡ true
+    turn-good = is-good n b (waits .0) (waits .2 ∙ s .size)
+
+    found : placeAt (m .blocks .places) (m .turn .slot % n) ≡ some (messageIn b)
+    found = subst (λ (r : ℕ). placeAt (m .blocks .places) (m .turn .slot % r) ≡ some (messageIn b)) (s .size) (place-taken (m .counts .replicas) (m .turn .slot) (m .blocks .places) (k .waits))
+
+    next-appends : Appends work (passNext m)
+    unfolding passNext heard appended
+    next-appends = rw found (left-block n b turn-good (eqb (getD b 1 0) (m .counts .own)) true (m .turn .slot) _ (bumps m (s .shape) .slot))
+
+    slot-after : (last mine : Bool) → cond last (advance (m .turn)) (cond mine (m .turn) (markApplying (m .turn))) .slot ≡ cond last (suc (m .turn .slot)) (m .turn .slot)
+    slot-after true mine = bumps m (s .shape) .slot
+    slot-after false true = refl
+    slot-after false false = refl
+
+    writeset-appends : 1 ≤ recordAt b (m .counts .done) .ticket → Appends work (commitWriteset m (eqb (getD b 1 0) (m .counts .own)) (writesetAt b (m .counts .done)))
+    unfolding commitWriteset heard appended
+    writeset-appends h =
+        rw (ne-eqb (recordAt b (m .counts .done) .ticket) 0 (λ e. let w : ⊥ = omega arith in w), found)
+        (left-block n b turn-good (eqb (getD b 1 0) (m .counts .own)) (isLast m) (m .turn .slot) _ (slot-after (isLast m) (eqb (getD b 1 0) (m .counts .own))))
+
+  sent-good : (l : List ℕ) → sendRefusal m l ≡ 0 → isGood n (blockOf (messageFor m)) ≡ true
+  unfolding headerOf messageOf messageFor
+  sent-good l e =
+      let r = theorems .round-trip (messageFor m) (sendable n m s l e) in
+      is-good n (blockOf (messageFor m)) (r .taken) (ap (λ (x : Rattle.block.specs.Message.Message). x .replicas) (r .message) ∙ s .size)
+
+  pub appends : (c : Call) → Appends c (step m c)
+  unfolding heard appended beginAt staleAt rewriteAt insertWrite readOnlyAt queueAt withdrawAt sendNow deliverNow
+  appends begin = begin-by (Appends begin) m (λ e. no-block n) (λ e. no-block n)
+  appends (read t i) = read-by (Appends (read t i)) m t i (λ e. no-block n) (λ e. no-block n)
+  appends (write t i v) = write-by (Appends (write t i v)) m t i v (λ e. no-block n) (λ e o. no-block n) (λ e o. no-block n) (λ e q. no-block n)
+  appends (ask t) = ask-by (Appends (ask t)) m t (λ e. no-block n) (λ e o. no-block n) (λ e. no-block n)
+  appends (withdraw t) = withdraw-by (Appends (withdraw t)) m t (λ e. no-block n) (λ e. no-block n)
+  appends report = unfold step reportStep in no-block n
+  appends (send l) = send-by (Appends (send l)) m l (λ e. one-block n (blockOf (messageFor m)) (sent-good l e)) (λ e. no-block n)
+  appends (deliver l) = deliver-by (Appends (deliver l)) m l (λ e. no-block n) (λ e. no-block n)
+  appends work =
+      work-by (Appends work) m
+      (λ e k. next-appends (working m (s .shape) e))
+      (λ e k. let w = working m (s .shape) e in writeset-appends w (w .ticket k))
+      (λ e. no-block n)
+
+-- ---- the disk after a call
+
+module _ (n : ℕ) (d : Disk) (J : Journal ℤ) (H : OnDisk n d J) where
+  grows : (bytes : List ℕ) (more : Option (Message ℤ)) → AppendedBlocks n bytes more → (k : ℕ) → OnDisk n (disk (d .journal ++ bytes) k) (journal (append (J .kept) more) k)
+  grows bytes more A k = record {
+    blocks = H .blocks ++ A .blocks;
+    bytes = join-append (H .blocks) (A .blocks) ∙ ap (λ (l : List ℕ). l ++ join (A .blocks)) (H .bytes) ∙ ap (λ (l : List ℕ). d .journal ++ l) (A .bytes);
+    good = good-append n (H .blocks) (A .blocks) (H .good) (A .good);
+    says = map-append messageIn (H .blocks) (A .blocks) ∙ ap (λ (l : List (Message ℤ)). l ++ map messageIn (A .blocks)) (H .says) ∙ sym (A .says (J .kept));
+    safe = refl;
+  }
+
+  worked-journal : (more : Option (Message ℤ)) (c : Call) (w : Step) → journalAfter J more (heard c (worked w)) ≡ journal (append (J .kept) more) (J .safe)
+  unfolding heard journalAfter
+  worked-journal more c w = cond-by (λ (e : Event ℤ). journalAfter J more e ≡ journal (append (J .kept) more) (J .safe)) (eqb (w .ticket) 0) (λ q. refl) (λ q. refl)
+
+  stays : (more : Option (Message ℤ)) → AppendedBlocks n [] more → OnDisk n d (journal (append (J .kept) more) (J .safe))
+  stays more A = subst (λ (l : List ℕ). OnDisk n (disk l (d .safe)) (journal (append (J .kept) more) (J .safe))) (append-nil (d .journal)) (rw (H .safe) (grows [] more A (J .safe)))
+
+  -- by what is answered; `more` is what the model appends
+  disk-by : (c : Call) (a : Answer) (more : Option (Message ℤ)) → AppendedBlocks n (appendedIn a) more → OnDisk n (diskAfter d (call c) a) (journalAfter J more (heard c a))
+  unfolding heard journalAfter join
+  disk-by c (refused k) more A = stays more A
+  disk-by c made more A = stays more A
+  disk-by c (began t) more A = stays more A
+  disk-by c (got v) more A = stays more A
+  disk-by c wrote more A = stays more A
+  disk-by c queued more A = stays more A
+  disk-by c readOnly more A = stays more A
+  disk-by c withdrew more A = stays more A
+  disk-by c (reported r) more A = stays more A
+  disk-by c (sent l) more A = grows l more A (suc (messageIn l .slot))
+  disk-by c kept more A = stays more A
+  disk-by c (worked w) more A = rw (worked-journal more c w, H .safe) (grows (w .append) more A (J .safe))
+  disk-by c (restarted k l) more A = record { blocks = []; bytes = sym (take-nil (512 * k)); good = good-none n; says = refl; safe = rw (H .safe) refl }
+
+  pub disk-call : (start : List ℤ) (m : Memory) → Sound n m → (c : Call)
+      → let o = step m c in OnDisk n (diskAfter d (call c) (o .answer)) (journalAfter J (appended (setup n start) (view m) (o .memory .turn .slot) (heard c (o .answer))) (heard c (o .answer)))
+  disk-call start m s c = disk-by c (step m c .answer) _ (appends n start m s c)
+
+  pub disk-restart : (start : List ℤ) (m : Memory) (k : ℕ) (bytes l : List ℕ)
+      → let o = restartStep m n k start bytes l in OnDisk n (diskAfter d (restart bytes l) (o .answer))
+      (journalAfter J (appended (setup n start) (view m) (o .memory .turn .slot) (heardRestart bytes (o .answer))) (heardRestart bytes (o .answer)))
+  unfolding heardRestart journalAfter appended
+  disk-restart start m k bytes l =
+      let first = reads-first n 0 (length bytes / 512) bytes in
+      restart-by (λ (o : Outcome). OnDisk n (diskAfter d (restart bytes l) (o .answer))
+      (journalAfter J (appended (setup n start) (view m) (o .memory .turn .slot) (heardRestart bytes (o .answer))) (heardRestart bytes (o .answer)))) m n k start bytes l
+      (λ e. record {
+        blocks = blocksIn n bytes;
+        bytes = ap join (sym first) ∙ join-first (length (blocksIn n bytes)) bytes;
+        good = reads-good n 0 (length bytes / 512) bytes;
+        says = ap (map messageIn) (sym first);
+        safe = rw (H .safe) refl;
+      })
+      (λ e. H)
+
+  -- ---- what a cut leaves
+
+  pub lent-cut : (start : List ℤ) (m : Memory) → Sound n m → (bytes : List ℕ) (L : Lent m d bytes)
+      → let o = step m (L .ended) in Cut J (appended (setup n start) (view m) (o .memory .turn .slot) (heard (L .ended) (o .answer))) (lentMessages n bytes)
+  lent-cut start m s bytes L =
+      subst (Cut J more) (sym same)
+      (cut-of-bytes 512 (omega arith) (isGood n) messageIn J more most (G .blocks) (omega arith) (λ x q. (is-taken x (good-taken n x (G .good x q)) .long, G .good x q)) (G .says) (L .cut .count)
+      (rw (← part) (let h = L .cut .enough in let e = H .safe in omega arith)))
+    where
+      more : Option (Message ℤ)
+      more = appended (setup n start) (view m) (step m (L .ended) .memory .turn .slot) (heard (L .ended) (step m (L .ended) .answer))
+
+      G : OnDisk n (disk (d .journal ++ appendedIn (step m (L .ended) .answer)) 0) (journal (append (J .kept) more) 0)
+      G = grows (appendedIn (step m (L .ended) .answer)) more (appends n start m s (L .ended)) 0
+
+      part : bytes ≡ take (L .cut .count) (join (G .blocks))
+      part = L .cut .part ∙ ap (take (L .cut .count)) (sym (G .bytes))
+
+      most : ℕ
+      most = length (G .blocks) + length bytes
+
+      same : lentMessages n bytes ≡ map messageIn (readBlocks 512 (isGood n) most (take (L .cut .count) (join (G .blocks))))
+      same =
+          ap (map messageIn)
+          (read-enough (isGood n) (length bytes / 512) most bytes (let h = lt-mul-div-succ (length bytes) {b = 512} (omega arith) in omega arith) (omega arith)
+          ∙ ap (readBlocks 512 (isGood n) most) part)

@@ -1,0 +1,129 @@
+-- A restart does what the model's restart does, and what holds of a replica's memory holds after it. Assumes nothing.
+use Prim.Native.Nat.{ℕ, _*_, _/_, _≤_, _<_}
+use mathlib.Core.Path.{_≡_, refl, _∙_, subst}
+use mathlib.Core.Bool.{false}
+use mathlib.Core.Option.{Option, none, some}
+use mathlib.Core.List.{List, map}
+use native.Mathlib.Omega.{arith}
+use lib.IntN.{ℤ}
+use lib.ListN.{length, replicate, length-map, length-replicate}
+use Rattle.memory.specs.Memory.{Memory}
+use Rattle.engine.specs.Calls.{Outcome}
+use Rattle.engine.specs.Calls.Answer.{refused, restarted}
+use Rattle.engine.specs.Moves.{waiting}
+use Rattle.engine.specs.Restart.{isGood, blocksIn, startReplay, repeated, lastOwn, restartedMemory, restartRefusal, restartStep}
+use Rattle.engine.proofs.Tests.{clash, not-first}
+use Rattle.engine.proofs.Steps.{restart-by}
+use Rattle.engine.proofs.ShapeMade.{getD-zeros}
+use Rattle.engine.proofs.RestartLaws.{AllGood, reads-good, reads-few, reads-first, count-few}
+use Rattle.engine.proofs.ShapeRestart.{shape-restarted}
+use Rattle.protocol.specs.Lists.{opt}
+use Rattle.protocol.specs.Writesets.{Message}
+use Rattle.protocol.specs.Replica.{Event}
+use Rattle.protocol.specs.Journal.{inSlotOrder, lastOf, startStore, restored}
+use Rattle.protocol.specs.Blocks.{readBlocks}
+use Rattle.protocol.specs.System.{step}
+use Rattle.protocol.specs.Machine.{Alike}
+use Rattle.agreement.specs.Group.{messageIn, GroupCall, call, restart, givenIn, heardRestart}
+use Rattle.agreement.proofs.View.{setup, rowsFrom, placeAt, view, Sound, meant, alike-same}
+use Rattle.agreement.proofs.Soundness.{fits-zeros}
+use Rattle.agreement.proofs.RestartView.{reads-in-order, highest-own, given-last, Same, blocks-same}
+
+-- the messages of the lent blocks, up to one that is torn, fails its check or form, or has another N
+abbrev pub lentMessages : ℕ → List ℕ → List (Message ℤ)
+lentMessages n journal = map messageIn (readBlocks 512 (isGood n) (length journal / 512) journal)
+
+-- the model's call
+abbrev pub meantBy : ℕ → GroupCall → Rattle.protocol.specs.System.Call ℤ
+meantBy n (call c) = meant c
+meantBy n (restart journal block) = Rattle.protocol.specs.System.Call.restart (lentMessages n journal)
+
+pub not-nine : (m : Memory) (n k : ℕ) (start : List ℤ) (block : List ℕ) → restartRefusal m n k start block ≡ 9 → ⊥
+unfolding restartRefusal
+not-nine m n k start block = not-first 9 _ refl
+
+-- ---- the memory
+
+module _ (n k : ℕ) (start : List ℤ) (bs : List (List ℕ)) (good : AllGood n bs) (few : length bs ≤ 100_000_000) where
+  start-same : Same (startReplay start) (startStore (setup n start))
+  start-same = record { commits = refl; values = refl; stamps = λ i. getD-zeros 128 i; long = length-replicate {A = ℕ} 128 0 }
+
+  restored-alike : Alike (restored (setup n start) k (map messageIn bs)) (view (restartedMemory n k start bs))
+  unfolding restartedMemory waiting rowsFrom placeAt
+  restored-alike =
+      let c = count-few n bs good in
+      let s = blocks-same n bs good (startReplay start) (startStore (setup n start)) start-same (omega arith) in
+      record {
+        own = refl;
+        cursor = rw (length-map bs messageIn);
+        commits = s .commits;
+        values = s .values;
+        stamps = s .stamps;
+        tickets = highest-own n k bs good;
+        queue = refl;
+        there = λ u h. h;
+        back = λ u h. h;
+        places = λ p. rw (getD-zeros (512 * n) (512 * p));
+      }
+
+-- ---- the call
+
+given-none : (o : Option (Message ℤ)) → opt o none some ≡ o
+given-none none = refl
+given-none (some m) = refl
+
+module _ (n : ℕ) (start : List ℤ) (m : Memory) (journal : List ℕ) where
+  abbrev bs : List (List ℕ)
+  bs = blocksIn n journal
+
+  good : AllGood n bs
+  good = reads-good n 0 (length journal / 512) journal
+
+  few : length bs ≤ 100_000_000
+  few = let a = reads-few n 0 (length journal / 512) journal (omega arith) in omega arith
+
+  pub read-messages : map messageIn (blocksIn n journal) ≡ inSlotOrder 0 (lentMessages n journal)
+  read-messages = reads-in-order n 0 (length journal / 512) journal
+
+  zeros-none : givenIn (replicate 512 0) ≡ none
+  zeros-none = refl
+
+  pub given-back : (k : ℕ) → givenIn (lastOwn k (replicate 512 0) (blocksIn n journal)) ≡ lastOf k (map messageIn (blocksIn n journal))
+  given-back k = given-last n k (replicate 512 0) bs good ∙ rw zeros-none (given-none (lastOf k (map messageIn bs)))
+
+  pub restart-event : heardRestart journal (restarted (length (blocksIn n journal)) (lastOwn (m .counts .own) (replicate 512 0) (blocksIn n journal)))
+      ≡ step (setup n start) (view m) (Rattle.protocol.specs.System.Call.restart (lentMessages n journal)) .event
+  unfolding heardRestart step
+  restart-event =
+      rw (reads-first n 0 (length journal / 512) journal, given-back (m .counts .own), read-messages) refl
+
+  pub restart-alike : Alike (step (setup n start) (view m) (Rattle.protocol.specs.System.Call.restart (lentMessages n journal)) .replica)
+      (view (restartedMemory n (m .counts .own) start (blocksIn n journal)))
+  unfolding step
+  restart-alike = rw (← read-messages) (restored-alike n (m .counts .own) start bs good few)
+
+  -- what the outcome o of a restart owes
+  pub data RestartOwed (o : Outcome) : Type 0 where
+    turned-away : (c : ℕ) → (c ≡ 9 → ⊥) → heardRestart journal (o .answer) ≡ Event.refused c → Alike (view m) (view (o .memory)) → RestartOwed o
+    restores : heardRestart journal (o .answer) ≡ step (setup n start) (view m) (Rattle.protocol.specs.System.Call.restart (lentMessages n journal)) .event
+        → Alike (step (setup n start) (view m) (Rattle.protocol.specs.System.Call.restart (lentMessages n journal)) .replica) (view (o .memory)) → RestartOwed o
+
+  -- lent the replica's own number
+  pub restart-owes : (k : ℕ) (block : List ℕ) → m .counts .own ≡ k → RestartOwed (restartStep m n k start journal block)
+  unfolding heardRestart
+  restart-owes k block e =
+      subst (λ (i : ℕ). RestartOwed (restartStep m n i start journal block)) e
+      (restart-by RestartOwed m n (m .counts .own) start journal block (λ z. restores restart-event restart-alike)
+      (λ z. turned-away (restartRefusal m n (m .counts .own) start block) (not-nine m n (m .counts .own) start block) refl (alike-same (view m))))
+
+-- ---- what holds of the memory
+
+pub sound-restarted : (n k : ℕ) (start : List ℤ) → 2 ≤ n → n ≤ 6 → k < n → length start ≡ 128 → (journal : List ℕ) → Sound n (restartedMemory n k start (blocksIn n journal))
+unfolding restartedMemory
+sound-restarted n k start l h o v journal = record {
+  over = repeated k (blocksIn n journal);
+  shape = shape-restarted n k start l h o v journal;
+  size = refl;
+  fits = fits-zeros 48;
+  ours = λ q. clash {b = false} q refl;
+}
