@@ -191,10 +191,10 @@ def client():
     head = SAYS.format(whose="a client's call says") + USES.format(path="_≡_, refl, sym, ap, _∙_", pos=", pos", lists="set")
     head += "use Rattle.memory.specs.Rows.{closed, rowFrom, rowOf, freeRow, rowAt}\n"
     head += "use Rattle.engine.specs.Client.{beginRow, beginStep, readRow, readStep, writeRow, writeStep, askRow, askStep, withdrawRow, withdrawStep, reportStep}\n"
-    head += "use Rattle.client.specs.Lent.{beginParts, readParts, writeParts, askParts, withdrawParts, reportParts}\n"
-    head += "use Rattle.lent.specs.Table.{loaded}\n"
-    head += "use Rattle.calls.specs.Replies.{noReport, number, reply, beginReply, readReply, askReply, reportReply}\n"
-    head += "".join(f"use Rattle.calls.specs.declared.{t}.{{{t}}}\n" for t in types)
+    head += "use Rattle.call_client.specs.Lent.{beginParts, readParts, writeParts, askParts, withdrawParts, reportParts}\n"
+    head += "use Rattle.host_table.specs.Table.{loaded}\n"
+    head += "use Rattle.call_reply.specs.Replies.{noReport, number, reply, beginReply, readReply, askReply, reportReply}\n"
+    head += "".join(f"use Rattle.call_reply.specs.declared.{t}.{{{t}}}\n" for t in types)
     head += "use Rattle.replica.specs.Called.{called}\n"
     head += "use Rattle.replica.proofs.CalledLaws.{called-six, called-other, loaded-six, withdraw-table}\n\n"
     return head + "\n".join(Facts(CALLS[n]).text() for n in names)
@@ -203,12 +203,12 @@ def client():
 def turn():
     head = SAYS.format(whose="a make, a send, a deliver or a work says") + USES.format(path="_≡_, refl", pos="", lists="replicate")
     head += "use Rattle.engine.specs.Make.{countsFor, makeStep}\nuse Rattle.engine.specs.Moves.{sendStep, deliverStep, workStep}\n"
-    head += "use Rattle.client.specs.Lent.{allParts}\nuse Rattle.sending.specs.Lent.{sendParts, blockLeft}\n"
-    head += "use Rattle.delivering.specs.Lent.{deliverParts}\nuse Rattle.working.specs.Lent.{workParts}\n"
-    head += "use Rattle.lent.specs.Table.{loaded, stored}\nuse Rattle.lent.specs.Turns.{moved}\n"
-    head += "use Rattle.calls.specs.Replies.{number, reply, workReply}\n"
-    head += "".join(f"use Rattle.calls.specs.declared.{t}.{{{t}}}\n" for t in ["Reply", "WorkReply"])
-    head += "".join(f"use Rattle.turn_calls.specs.declared.{t}.{{{t}}}\n" for t in ["Made", "Sent", "Worked"])
+    head += "use Rattle.call_client.specs.Lent.{allParts}\nuse Rattle.call_send.specs.Lent.{sendParts, blockLeft}\n"
+    head += "use Rattle.call_deliver.specs.Lent.{deliverParts}\nuse Rattle.call_work.specs.Lent.{workParts}\n"
+    head += "use Rattle.host_table.specs.Table.{loaded, stored}\nuse Rattle.host_table.specs.Turns.{moved}\n"
+    head += "use Rattle.call_reply.specs.Replies.{number, reply, workReply}\n"
+    head += "".join(f"use Rattle.call_reply.specs.declared.{t}.{{{t}}}\n" for t in ["Reply", "WorkReply"])
+    head += "".join(f"use Rattle.call_turn.specs.declared.{t}.{{{t}}}\n" for t in ["Made", "Sent", "Worked"])
     head += "use Rattle.replica.specs.Called.{called}\n"
     head += "use Rattle.replica.proofs.CalledLaws.{called-six, called-other, loaded-six, stored-six}\n\n"
     return head + "\n".join(Facts(CALLS[n]).text() for n in ["make", "send", "work"]) + "\n" + DELIVERED

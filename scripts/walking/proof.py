@@ -32,10 +32,10 @@ class Proof(Walk):
     def module_of(self, callee):
         call = self.call
         if callee == "call":
-            return f"Rattle.calls.proofs.{call.by_value}" if call.crate == "calls" else f"Rattle.turn_calls.proofs.{call.by_value}"
+            return f"Rattle.call_reply.proofs.{call.by_value}" if call.crate == "calls" else f"Rattle.call_turn.proofs.{call.by_value}"
         if callee == "refuse":
-            return "Rattle.turn_calls.proofs.not_made" if call.refusal == "not_made" else f"Rattle.calls.proofs.replies.{call.refusal}"
-        return f"Rattle.lent.proofs.{HELPERS[callee][0]}"
+            return "Rattle.call_turn.proofs.not_made" if call.refusal == "not_made" else f"Rattle.call_reply.proofs.replies.{call.refusal}"
+        return f"Rattle.host_table.proofs.{HELPERS[callee][0]}"
 
     def contract_of(self, callee):
         return {"call": "ByValue", "refuse": "Refuse"}.get(callee) or HELPERS[callee][1]

@@ -5,17 +5,17 @@ use crate::parse::Call;
 use crate::replicas::Answer;
 use crate::replicas::Done;
 use crate::replicas::Replica;
-use client::Answered;
-use client::AskAnswer;
-use client::BeginAnswer;
-use client::ReadAnswer;
-use delivering::DeliverAnswer;
+use call_client::Answered;
+use call_client::AskAnswer;
+use call_client::BeginAnswer;
+use call_client::ReadAnswer;
+use call_deliver::DeliverAnswer;
+use call_send::SendAnswer;
+use call_work::WorkAnswer;
 use memory::Counts;
 use memory::Turn;
 use memory::Txn;
-use sending::SendAnswer;
 use tickets::Changed;
-use working::WorkAnswer;
 
 fn after(answer: Answer, turn: Turn, counts: Counts, table: [Txn; 6]) -> Done {
     Done {
@@ -82,7 +82,7 @@ fn make(
 ) -> Done {
     let start = [call.value; 128];
     let size = places_size(call.first, places.len());
-    let made = making::make(
+    let made = call_make::make(
         call.first,
         call.second,
         &start,
@@ -179,7 +179,7 @@ fn report(replica: Replica) -> Done {
     let turn = replica.turn;
     let table = replica.table;
     let counts = replica.counts;
-    let numbers = client::report(turn, table, counts);
+    let numbers = call_client::report(turn, table, counts);
     unchanged(Answer::Numbers(numbers), replica)
 }
 
@@ -196,7 +196,7 @@ fn send(
     let counts = replica.counts;
     let table = replica.table;
     let mut block = [0u8; 512];
-    let sending = sending::send(
+    let sending = call_send::send(
         turn,
         counts,
         table,
@@ -220,7 +220,7 @@ fn deliver(replica: Replica, places: &mut [u8], outbox: &[u8], bytes: &[u8]) -> 
     let turn = replica.turn;
     let counts = replica.counts;
     let size = places_size(counts.replicas as u32, places.len());
-    let given = delivering::deliver(turn, counts, &mut places[0..size], outbox, bytes);
+    let given = call_deliver::deliver(turn, counts, &mut places[0..size], outbox, bytes);
     let answer = match given {
         DeliverAnswer::Kept => Answer::Accepted,
         DeliverAnswer::Refused(number) => Answer::Refused(number),
@@ -240,7 +240,7 @@ fn work(
     let counts = replica.counts;
     let table = replica.table;
     let size = places_size(counts.replicas as u32, places.len());
-    let working = working::work(
+    let working = call_work::work(
         turn,
         counts,
         table,

@@ -1,8 +1,8 @@
 // Answers, gathered in a buffer that is written out when it is full. `at` is how many bytes it holds.
 use crate::replicas::Answer;
+use call_work::Step;
 use engine::Report;
 use libc::STDOUT_FILENO;
-use working::Step;
 
 fn put(out: &mut [u8; 65536], at: usize, byte: u8) -> usize {
     if at < 65536 {

@@ -1,9 +1,9 @@
 // What of a replica goes by value, and what a line is answered.
+use call_work::Step;
 use engine::Report;
 use memory::Counts;
 use memory::Turn;
 use memory::Txn;
-use working::Step;
 
 // What of a replica goes by value.
 pub struct Replica {

@@ -12,9 +12,9 @@ use Rattle.engine.specs.Calls.{Outcome, outcome}
 use Rattle.engine.specs.Calls.Answer.{refused}
 use Rattle.engine.specs.Client.{withdrawRefusal, withdrawAt, withdrawRow, withdrawStep}
 use Rattle.engine.proofs.Tests.{unless-by}
-use Rattle.client.specs.Lent.{withdrawParts}
-use Rattle.lent.specs.Table.{loaded, stored}
-use Rattle.calls.specs.Replies.{number}
+use Rattle.call_client.specs.Lent.{withdrawParts}
+use Rattle.host_table.specs.Table.{loaded, stored}
+use Rattle.call_reply.specs.Replies.{number}
 use Rattle.replica.specs.Called.{called}
 
 module _ (m : Memory) (o : Outcome) where

@@ -11,17 +11,17 @@ use Rattle.memory.specs.declared.Txn.{Txn}
 use Rattle.memory.specs.Memory.{Memory}
 use Rattle.memory.specs.Rows.{closed, rowFrom, rowOf, freeRow, rowAt}
 use Rattle.engine.specs.Client.{beginRow, beginStep, readRow, readStep, writeRow, writeStep, askRow, askStep, withdrawRow, withdrawStep, reportStep}
-use Rattle.client.specs.Lent.{beginParts, readParts, writeParts, askParts, withdrawParts, reportParts}
-use Rattle.lent.specs.Table.{loaded}
-use Rattle.calls.specs.Replies.{noReport, number, reply, beginReply, readReply, askReply, reportReply}
-use Rattle.calls.specs.declared.Reply.{Reply}
-use Rattle.calls.specs.declared.BeginReply.{BeginReply}
-use Rattle.calls.specs.declared.ReadReply.{ReadReply}
-use Rattle.calls.specs.declared.AskReply.{AskReply}
-use Rattle.calls.specs.declared.ReportReply.{ReportReply}
-use Rattle.calls.specs.declared.Changed.{Changed}
-use Rattle.calls.specs.declared.Begun.{Begun}
-use Rattle.calls.specs.declared.Asked.{Asked}
+use Rattle.call_client.specs.Lent.{beginParts, readParts, writeParts, askParts, withdrawParts, reportParts}
+use Rattle.host_table.specs.Table.{loaded}
+use Rattle.call_reply.specs.Replies.{noReport, number, reply, beginReply, readReply, askReply, reportReply}
+use Rattle.call_reply.specs.declared.Reply.{Reply}
+use Rattle.call_reply.specs.declared.BeginReply.{BeginReply}
+use Rattle.call_reply.specs.declared.ReadReply.{ReadReply}
+use Rattle.call_reply.specs.declared.AskReply.{AskReply}
+use Rattle.call_reply.specs.declared.ReportReply.{ReportReply}
+use Rattle.call_reply.specs.declared.Changed.{Changed}
+use Rattle.call_reply.specs.declared.Begun.{Begun}
+use Rattle.call_reply.specs.declared.Asked.{Asked}
 use Rattle.replica.specs.Called.{called}
 use Rattle.replica.proofs.CalledLaws.{called-six, called-other, loaded-six, withdraw-table}
 

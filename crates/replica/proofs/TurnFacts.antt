@@ -11,18 +11,18 @@ use Rattle.memory.specs.declared.Txn.{Txn}
 use Rattle.memory.specs.Memory.{Memory}
 use Rattle.engine.specs.Make.{countsFor, makeStep}
 use Rattle.engine.specs.Moves.{sendStep, deliverStep, workStep}
-use Rattle.client.specs.Lent.{allParts}
-use Rattle.sending.specs.Lent.{sendParts, blockLeft}
-use Rattle.delivering.specs.Lent.{deliverParts}
-use Rattle.working.specs.Lent.{workParts}
-use Rattle.lent.specs.Table.{loaded, stored}
-use Rattle.lent.specs.Turns.{moved}
-use Rattle.calls.specs.Replies.{number, reply, workReply}
-use Rattle.calls.specs.declared.Reply.{Reply}
-use Rattle.calls.specs.declared.WorkReply.{WorkReply}
-use Rattle.turn_calls.specs.declared.Made.{Made}
-use Rattle.turn_calls.specs.declared.Sent.{Sent}
-use Rattle.turn_calls.specs.declared.Worked.{Worked}
+use Rattle.call_client.specs.Lent.{allParts}
+use Rattle.call_send.specs.Lent.{sendParts, blockLeft}
+use Rattle.call_deliver.specs.Lent.{deliverParts}
+use Rattle.call_work.specs.Lent.{workParts}
+use Rattle.host_table.specs.Table.{loaded, stored}
+use Rattle.host_table.specs.Turns.{moved}
+use Rattle.call_reply.specs.Replies.{number, reply, workReply}
+use Rattle.call_reply.specs.declared.Reply.{Reply}
+use Rattle.call_reply.specs.declared.WorkReply.{WorkReply}
+use Rattle.call_turn.specs.declared.Made.{Made}
+use Rattle.call_turn.specs.declared.Sent.{Sent}
+use Rattle.call_turn.specs.declared.Worked.{Worked}
 use Rattle.replica.specs.Called.{called}
 use Rattle.replica.proofs.CalledLaws.{called-six, called-other, loaded-six, stored-six}
 

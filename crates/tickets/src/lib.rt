@@ -5,22 +5,22 @@ ghost use Rattle.memory.specs.Memory.{Memory};
 ghost use Rattle.engine.specs.Calls.{outcome};
 ghost use Rattle.engine.specs.Calls.Answer.{wrote, withdrew};
 ghost use Rattle.engine.specs.Client.{beginStep, readStep, writeStep, askStep, withdrawStep};
-ghost use Rattle.client.specs.Lent.{beginAnswer, readAnswer, askAnswer, plainAnswer, beginParts, readParts, writeParts, askParts, withdrawParts};
-use client::Answered;
-use client::AskAnswer;
-use client::BeginAnswer;
-use client::ReadAnswer;
-use client::rows::ask_row;
-use client::rows::begin_row;
-use client::rows::read_row;
-use client::rows::row_at;
-use client::rows::withdraw_row;
+ghost use Rattle.call_client.specs.Lent.{beginAnswer, readAnswer, askAnswer, plainAnswer, beginParts, readParts, writeParts, askParts, withdrawParts};
+use call_client::Answered;
+use call_client::AskAnswer;
+use call_client::BeginAnswer;
+use call_client::ReadAnswer;
+use call_client::rows::ask_row;
+use call_client::rows::begin_row;
+use call_client::rows::read_row;
+use call_client::rows::row_at;
+use call_client::rows::withdraw_row;
+use call_write::write_row;
 use memory::Counts;
 use memory::Turn;
 use memory::Txn;
 use memory::rows::free_row;
 use memory::rows::row_of;
-use writing::write_row;
 
 // A begin's answer, with the table and the counts after it; so for the calls below.
 pub struct Begun {

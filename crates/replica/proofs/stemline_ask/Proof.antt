@@ -46,36 +46,36 @@ use Rattle.memory.specs.Rows.{rowOf, rowAt}
 use Rattle.memory.proofs.Counts as N
 use Rattle.memory.proofs.Counts.Laws as N′
 use Rattle.memory.proofs.Txn as T
-use Rattle.lent.proofs.Lend.{MutAt, slice-lent, slice-read, calls-lending}
-use Rattle.lent.proofs.Steps.{when, equal, unequal, unit-typed, frees-cell, frees-room}
-use Rattle.lent.proofs.Rows.{R, vals, tells, makes, lawful}
-use Rattle.lent.proofs.Answers.{answers}
-use Rattle.lent.proofs.Callees.{Find, Row, Put, to-find, asks-find, gives-find, to-row, asks-row, gives-row, to-put, asks-put, gives-put}
+use Rattle.host_table.proofs.Lend.{MutAt, slice-lent, slice-read, calls-lending}
+use Rattle.host_table.proofs.Steps.{when, equal, unequal, unit-typed, frees-cell, frees-room}
+use Rattle.host_table.proofs.Rows.{R, vals, tells, makes, lawful}
+use Rattle.host_table.proofs.Answers.{answers}
+use Rattle.host_table.proofs.Callees.{Find, Row, Put, to-find, asks-find, gives-find, to-row, asks-row, gives-row, to-put, asks-put, gives-put}
 use Rattle.replica.proofs.Handed.{handed, goes-handed}
 use Rattle.replica.proofs.ClientFacts.{AskOn, AskDid, ask-not, ask-did}
-use Rattle.calls.specs.declared.Asked.{Asked}
-use Rattle.calls.proofs.Asked as D
-use Rattle.calls.proofs.Asked.Laws as D′
-use Rattle.calls.specs.declared.AskReply.{AskReply}
-use Rattle.calls.proofs.AskReply as Y
-use Rattle.calls.proofs.AskReply.Laws as Y′
-use Rattle.calls.proofs.replies.no_ask as refuse
-use Rattle.calls.proofs.replies.no_ask.Symbol as refuse-def
-use Rattle.calls.proofs.replies.no_ask.Symbol.{name as #refuse}
-use Rattle.calls.proofs.replies.no_ask.Met as refuse-thm
-use Rattle.lent.proofs.find.Symbol as find-def
-use Rattle.lent.proofs.find.Symbol.{name as #find}
-use Rattle.lent.proofs.find.Met as find-thm
-use Rattle.lent.proofs.row.Symbol as row-def
-use Rattle.lent.proofs.row.Symbol.{name as #row}
-use Rattle.lent.proofs.row.Met as row-thm
-use Rattle.lent.proofs.put.Symbol as put-def
-use Rattle.lent.proofs.put.Symbol.{name as #put}
-use Rattle.lent.proofs.put.Met as put-thm
-use Rattle.calls.proofs.client_calls.ask_on as call
-use Rattle.calls.proofs.client_calls.ask_on.Symbol as call-def
-use Rattle.calls.proofs.client_calls.ask_on.Symbol.{name as #call}
-use Rattle.calls.proofs.client_calls.ask_on.Met as call-thm
+use Rattle.call_reply.specs.declared.Asked.{Asked}
+use Rattle.call_reply.proofs.Asked as D
+use Rattle.call_reply.proofs.Asked.Laws as D′
+use Rattle.call_reply.specs.declared.AskReply.{AskReply}
+use Rattle.call_reply.proofs.AskReply as Y
+use Rattle.call_reply.proofs.AskReply.Laws as Y′
+use Rattle.call_reply.proofs.replies.no_ask as refuse
+use Rattle.call_reply.proofs.replies.no_ask.Symbol as refuse-def
+use Rattle.call_reply.proofs.replies.no_ask.Symbol.{name as #refuse}
+use Rattle.call_reply.proofs.replies.no_ask.Met as refuse-thm
+use Rattle.host_table.proofs.find.Symbol as find-def
+use Rattle.host_table.proofs.find.Symbol.{name as #find}
+use Rattle.host_table.proofs.find.Met as find-thm
+use Rattle.host_table.proofs.row.Symbol as row-def
+use Rattle.host_table.proofs.row.Symbol.{name as #row}
+use Rattle.host_table.proofs.row.Met as row-thm
+use Rattle.host_table.proofs.put.Symbol as put-def
+use Rattle.host_table.proofs.put.Symbol.{name as #put}
+use Rattle.host_table.proofs.put.Met as put-thm
+use Rattle.call_reply.proofs.client_calls.ask_on as call
+use Rattle.call_reply.proofs.client_calls.ask_on.Symbol as call-def
+use Rattle.call_reply.proofs.client_calls.ask_on.Symbol.{name as #call}
+use Rattle.call_reply.proofs.client_calls.ask_on.Met as call-thm
 use Rattle.replica.proofs.stemline_ask.Key.{name as #own}
 use Rattle.replica.proofs.stemline_ask as own
 use Rattle.replica.proofs.stemline_ask.Statement as stated

@@ -46,36 +46,36 @@ use Rattle.memory.specs.Rows.{rowFrom, rowAt}
 use Rattle.memory.proofs.Counts as N
 use Rattle.memory.proofs.Counts.Laws as N′
 use Rattle.memory.proofs.Txn as T
-use Rattle.lent.proofs.Lend.{MutAt, slice-lent, slice-read, calls-lending}
-use Rattle.lent.proofs.Steps.{when, equal, unequal, unit-typed, frees-cell, frees-room}
-use Rattle.lent.proofs.Rows.{R, vals, tells, makes, lawful}
-use Rattle.lent.proofs.Answers.{answers}
-use Rattle.lent.proofs.Callees.{Scan, Row, Put, to-scan, asks-scan, gives-scan, to-row, asks-row, gives-row, to-put, asks-put, gives-put}
+use Rattle.host_table.proofs.Lend.{MutAt, slice-lent, slice-read, calls-lending}
+use Rattle.host_table.proofs.Steps.{when, equal, unequal, unit-typed, frees-cell, frees-room}
+use Rattle.host_table.proofs.Rows.{R, vals, tells, makes, lawful}
+use Rattle.host_table.proofs.Answers.{answers}
+use Rattle.host_table.proofs.Callees.{Scan, Row, Put, to-scan, asks-scan, gives-scan, to-row, asks-row, gives-row, to-put, asks-put, gives-put}
 use Rattle.replica.proofs.Handed.{handed, goes-handed}
 use Rattle.replica.proofs.ClientFacts.{BeginOn, BeginDid, begin-not, begin-did}
-use Rattle.calls.specs.declared.Begun.{Begun}
-use Rattle.calls.proofs.Begun as D
-use Rattle.calls.proofs.Begun.Laws as D′
-use Rattle.calls.specs.declared.BeginReply.{BeginReply}
-use Rattle.calls.proofs.BeginReply as Y
-use Rattle.calls.proofs.BeginReply.Laws as Y′
-use Rattle.calls.proofs.replies.no_begin as refuse
-use Rattle.calls.proofs.replies.no_begin.Symbol as refuse-def
-use Rattle.calls.proofs.replies.no_begin.Symbol.{name as #refuse}
-use Rattle.calls.proofs.replies.no_begin.Met as refuse-thm
-use Rattle.lent.proofs.scan.Symbol as scan-def
-use Rattle.lent.proofs.scan.Symbol.{name as #scan}
-use Rattle.lent.proofs.scan.Met as scan-thm
-use Rattle.lent.proofs.row.Symbol as row-def
-use Rattle.lent.proofs.row.Symbol.{name as #row}
-use Rattle.lent.proofs.row.Met as row-thm
-use Rattle.lent.proofs.put.Symbol as put-def
-use Rattle.lent.proofs.put.Symbol.{name as #put}
-use Rattle.lent.proofs.put.Met as put-thm
-use Rattle.calls.proofs.client_calls.begin_on as call
-use Rattle.calls.proofs.client_calls.begin_on.Symbol as call-def
-use Rattle.calls.proofs.client_calls.begin_on.Symbol.{name as #call}
-use Rattle.calls.proofs.client_calls.begin_on.Met as call-thm
+use Rattle.call_reply.specs.declared.Begun.{Begun}
+use Rattle.call_reply.proofs.Begun as D
+use Rattle.call_reply.proofs.Begun.Laws as D′
+use Rattle.call_reply.specs.declared.BeginReply.{BeginReply}
+use Rattle.call_reply.proofs.BeginReply as Y
+use Rattle.call_reply.proofs.BeginReply.Laws as Y′
+use Rattle.call_reply.proofs.replies.no_begin as refuse
+use Rattle.call_reply.proofs.replies.no_begin.Symbol as refuse-def
+use Rattle.call_reply.proofs.replies.no_begin.Symbol.{name as #refuse}
+use Rattle.call_reply.proofs.replies.no_begin.Met as refuse-thm
+use Rattle.host_table.proofs.scan.Symbol as scan-def
+use Rattle.host_table.proofs.scan.Symbol.{name as #scan}
+use Rattle.host_table.proofs.scan.Met as scan-thm
+use Rattle.host_table.proofs.row.Symbol as row-def
+use Rattle.host_table.proofs.row.Symbol.{name as #row}
+use Rattle.host_table.proofs.row.Met as row-thm
+use Rattle.host_table.proofs.put.Symbol as put-def
+use Rattle.host_table.proofs.put.Symbol.{name as #put}
+use Rattle.host_table.proofs.put.Met as put-thm
+use Rattle.call_reply.proofs.client_calls.begin_on as call
+use Rattle.call_reply.proofs.client_calls.begin_on.Symbol as call-def
+use Rattle.call_reply.proofs.client_calls.begin_on.Symbol.{name as #call}
+use Rattle.call_reply.proofs.client_calls.begin_on.Met as call-thm
 use Rattle.replica.proofs.stemline_begin.Key.{name as #own}
 use Rattle.replica.proofs.stemline_begin as own
 use Rattle.replica.proofs.stemline_begin.Statement as stated

@@ -41,20 +41,20 @@ use Rattle.memory.specs.declared.Counts.{Counts}
 use Rattle.memory.specs.declared.Turn.{Turn}
 use Rattle.memory.proofs.Counts as N
 use Rattle.memory.proofs.Counts.Laws as N′
-use Rattle.lent.proofs.Lend.{ShrOf, ref-shared, calls-lending}
-use Rattle.lent.proofs.Steps.{frees-cell}
-use Rattle.lent.proofs.Rows.{R, vals, tells, makes, copies, lawful}
-use Rattle.lent.proofs.Cursor as U
-use Rattle.lent.proofs.Callees.{CopyTurn, to-copy, asks-copy, gives-copy}
+use Rattle.host_table.proofs.Lend.{ShrOf, ref-shared, calls-lending}
+use Rattle.host_table.proofs.Steps.{frees-cell}
+use Rattle.host_table.proofs.Rows.{R, vals, tells, makes, copies, lawful}
+use Rattle.host_table.proofs.Cursor as U
+use Rattle.host_table.proofs.Callees.{CopyTurn, to-copy, asks-copy, gives-copy}
 use Rattle.replica.proofs.Handed.{handed, goes-handed}
 use Rattle.replica.proofs.TurnFacts.{DeliverOn}
-use Rattle.lent.proofs.copy_turn.Symbol as copy-def
-use Rattle.lent.proofs.copy_turn.Symbol.{name as #copy}
-use Rattle.lent.proofs.copy_turn.Met as copy-thm
-use Rattle.turn_calls.proofs.deliver_on as call
-use Rattle.turn_calls.proofs.deliver_on.Symbol as call-def
-use Rattle.turn_calls.proofs.deliver_on.Symbol.{name as #call}
-use Rattle.turn_calls.proofs.deliver_on.Met as call-thm
+use Rattle.host_table.proofs.copy_turn.Symbol as copy-def
+use Rattle.host_table.proofs.copy_turn.Symbol.{name as #copy}
+use Rattle.host_table.proofs.copy_turn.Met as copy-thm
+use Rattle.call_turn.proofs.deliver_on as call
+use Rattle.call_turn.proofs.deliver_on.Symbol as call-def
+use Rattle.call_turn.proofs.deliver_on.Symbol.{name as #call}
+use Rattle.call_turn.proofs.deliver_on.Met as call-thm
 use Rattle.replica.proofs.stemline_deliver.Key.{name as #own}
 use Rattle.replica.proofs.stemline_deliver as own
 use Rattle.replica.proofs.stemline_deliver.Statement as stated

@@ -44,40 +44,40 @@ use denote.Triple.Walked.{says, Stays, stay-ref, stay-slice, stay-none, stay-non
 use Rattle.memory.specs.declared.Turn.{Turn}
 use Rattle.memory.specs.declared.Txn.{Txn}
 use Rattle.memory.proofs.Txn as T
-use Rattle.lent.specs.Table.{loaded, stored}
-use Rattle.lent.specs.Turns.{moved}
-use Rattle.lent.proofs.Lend.{MutAt, MutOf, slice-lent, slice-read, ref-lent, calls-lending}
-use Rattle.lent.proofs.Steps.{when, equal, unequal, unit-typed, frees-cell, frees-room}
-use Rattle.lent.proofs.Rows.{R, tells, makes, lawful}
-use Rattle.lent.proofs.Cursor as U
-use Rattle.lent.proofs.Answers.{answers}
+use Rattle.host_table.specs.Table.{loaded, stored}
+use Rattle.host_table.specs.Turns.{moved}
+use Rattle.host_table.proofs.Lend.{MutAt, MutOf, slice-lent, slice-read, ref-lent, calls-lending}
+use Rattle.host_table.proofs.Steps.{when, equal, unequal, unit-typed, frees-cell, frees-room}
+use Rattle.host_table.proofs.Rows.{R, tells, makes, lawful}
+use Rattle.host_table.proofs.Cursor as U
+use Rattle.host_table.proofs.Answers.{answers}
 use Rattle.engine.specs.Make.{countsFor}
-use Rattle.lent.proofs.Callees.{Load, Store, MoveTurn, to-load, asks-load, gives-load, to-store, asks-store, gives-store, stored-length, to-move, asks-move, gives-move}
+use Rattle.host_table.proofs.Callees.{Load, Store, MoveTurn, to-load, asks-load, gives-load, to-store, asks-store, gives-store, stored-length, to-move, asks-move, gives-move}
 use Rattle.replica.proofs.Handed.{handed, goes-handed, is-rows}
 use Rattle.replica.proofs.TurnFacts.{MakeOn, MakeDid, make-not, make-did}
-use Rattle.turn_calls.specs.declared.Made.{Made}
-use Rattle.turn_calls.proofs.Made as D
-use Rattle.turn_calls.proofs.Made.Laws as D′
-use Rattle.calls.specs.declared.Reply.{Reply}
-use Rattle.calls.proofs.Reply as Y
-use Rattle.calls.proofs.Reply.Laws as Y′
-use Rattle.turn_calls.proofs.not_made as refuse
-use Rattle.turn_calls.proofs.not_made.Symbol as refuse-def
-use Rattle.turn_calls.proofs.not_made.Symbol.{name as #refuse}
-use Rattle.turn_calls.proofs.not_made.Met as refuse-thm
-use Rattle.lent.proofs.load.Symbol as load-def
-use Rattle.lent.proofs.load.Symbol.{name as #load}
-use Rattle.lent.proofs.load.Met as load-thm
-use Rattle.lent.proofs.store.Symbol as store-def
-use Rattle.lent.proofs.store.Symbol.{name as #store}
-use Rattle.lent.proofs.store.Met as store-thm
-use Rattle.lent.proofs.move_turn.Symbol as move-def
-use Rattle.lent.proofs.move_turn.Symbol.{name as #move}
-use Rattle.lent.proofs.move_turn.Met as move-thm
-use Rattle.turn_calls.proofs.make_on as call
-use Rattle.turn_calls.proofs.make_on.Symbol as call-def
-use Rattle.turn_calls.proofs.make_on.Symbol.{name as #call}
-use Rattle.turn_calls.proofs.make_on.Met as call-thm
+use Rattle.call_turn.specs.declared.Made.{Made}
+use Rattle.call_turn.proofs.Made as D
+use Rattle.call_turn.proofs.Made.Laws as D′
+use Rattle.call_reply.specs.declared.Reply.{Reply}
+use Rattle.call_reply.proofs.Reply as Y
+use Rattle.call_reply.proofs.Reply.Laws as Y′
+use Rattle.call_turn.proofs.not_made as refuse
+use Rattle.call_turn.proofs.not_made.Symbol as refuse-def
+use Rattle.call_turn.proofs.not_made.Symbol.{name as #refuse}
+use Rattle.call_turn.proofs.not_made.Met as refuse-thm
+use Rattle.host_table.proofs.load.Symbol as load-def
+use Rattle.host_table.proofs.load.Symbol.{name as #load}
+use Rattle.host_table.proofs.load.Met as load-thm
+use Rattle.host_table.proofs.store.Symbol as store-def
+use Rattle.host_table.proofs.store.Symbol.{name as #store}
+use Rattle.host_table.proofs.store.Met as store-thm
+use Rattle.host_table.proofs.move_turn.Symbol as move-def
+use Rattle.host_table.proofs.move_turn.Symbol.{name as #move}
+use Rattle.host_table.proofs.move_turn.Met as move-thm
+use Rattle.call_turn.proofs.make_on as call
+use Rattle.call_turn.proofs.make_on.Symbol as call-def
+use Rattle.call_turn.proofs.make_on.Symbol.{name as #call}
+use Rattle.call_turn.proofs.make_on.Met as call-thm
 use Rattle.replica.proofs.stemline_make.Key.{name as #own}
 use Rattle.replica.proofs.stemline_make as own
 use Rattle.replica.proofs.stemline_make.Statement as stated

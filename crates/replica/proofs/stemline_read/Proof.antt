@@ -42,30 +42,30 @@ use denote.Triple.Table.{entered, cited}
 use denote.Triple.Walked.{says, Stays, stay-none, stay-none-slice, walkOf, Walks, ends-at, walked, goes-none, goes-none-slice, go-all, walk-meets}
 use Rattle.memory.specs.declared.Txn.{Txn}
 use Rattle.memory.specs.Rows.{rowOf, rowAt}
-use Rattle.lent.proofs.Lend.{ShrAt, slice-shared, calls-lending}
-use Rattle.lent.proofs.Steps.{when, equal, unequal, frees-cell, frees-room}
-use Rattle.lent.proofs.Rows.{R, vals, tells, makes, copies, lawful}
-use Rattle.lent.proofs.Answers.{answers}
-use Rattle.lent.proofs.Callees.{Find, Row, to-find, asks-find, gives-find, to-row, asks-row, gives-row}
+use Rattle.host_table.proofs.Lend.{ShrAt, slice-shared, calls-lending}
+use Rattle.host_table.proofs.Steps.{when, equal, unequal, frees-cell, frees-room}
+use Rattle.host_table.proofs.Rows.{R, vals, tells, makes, copies, lawful}
+use Rattle.host_table.proofs.Answers.{answers}
+use Rattle.host_table.proofs.Callees.{Find, Row, to-find, asks-find, gives-find, to-row, asks-row, gives-row}
 use Rattle.replica.proofs.Handed.{handed, goes-handed}
 use Rattle.replica.proofs.ClientFacts.{ReadOn, ReadDid, read-not, read-did}
-use Rattle.calls.specs.declared.ReadReply.{ReadReply}
-use Rattle.calls.proofs.ReadReply as D
-use Rattle.calls.proofs.ReadReply.Laws as D′
-use Rattle.calls.proofs.replies.no_read as refuse
-use Rattle.calls.proofs.replies.no_read.Symbol as refuse-def
-use Rattle.calls.proofs.replies.no_read.Symbol.{name as #refuse}
-use Rattle.calls.proofs.replies.no_read.Met as refuse-thm
-use Rattle.lent.proofs.find.Symbol as find-def
-use Rattle.lent.proofs.find.Symbol.{name as #find}
-use Rattle.lent.proofs.find.Met as find-thm
-use Rattle.lent.proofs.row.Symbol as row-def
-use Rattle.lent.proofs.row.Symbol.{name as #row}
-use Rattle.lent.proofs.row.Met as row-thm
-use Rattle.calls.proofs.client_calls.read_on as call
-use Rattle.calls.proofs.client_calls.read_on.Symbol as call-def
-use Rattle.calls.proofs.client_calls.read_on.Symbol.{name as #call}
-use Rattle.calls.proofs.client_calls.read_on.Met as call-thm
+use Rattle.call_reply.specs.declared.ReadReply.{ReadReply}
+use Rattle.call_reply.proofs.ReadReply as D
+use Rattle.call_reply.proofs.ReadReply.Laws as D′
+use Rattle.call_reply.proofs.replies.no_read as refuse
+use Rattle.call_reply.proofs.replies.no_read.Symbol as refuse-def
+use Rattle.call_reply.proofs.replies.no_read.Symbol.{name as #refuse}
+use Rattle.call_reply.proofs.replies.no_read.Met as refuse-thm
+use Rattle.host_table.proofs.find.Symbol as find-def
+use Rattle.host_table.proofs.find.Symbol.{name as #find}
+use Rattle.host_table.proofs.find.Met as find-thm
+use Rattle.host_table.proofs.row.Symbol as row-def
+use Rattle.host_table.proofs.row.Symbol.{name as #row}
+use Rattle.host_table.proofs.row.Met as row-thm
+use Rattle.call_reply.proofs.client_calls.read_on as call
+use Rattle.call_reply.proofs.client_calls.read_on.Symbol as call-def
+use Rattle.call_reply.proofs.client_calls.read_on.Symbol.{name as #call}
+use Rattle.call_reply.proofs.client_calls.read_on.Met as call-thm
 use Rattle.replica.proofs.stemline_read.Key.{name as #own}
 use Rattle.replica.proofs.stemline_read as own
 use Rattle.replica.proofs.stemline_read.Statement as stated

@@ -44,33 +44,33 @@ use Rattle.memory.specs.declared.Turn.{Turn}
 use Rattle.memory.specs.declared.Txn.{Txn}
 use Rattle.memory.proofs.Counts as N
 use Rattle.memory.proofs.Counts.Laws as N′
-use Rattle.lent.specs.Table.{loaded}
-use Rattle.lent.proofs.Lend.{ShrAt, ShrOf, slice-shared, ref-shared, calls-lending}
-use Rattle.lent.proofs.Steps.{when, equal, unequal, frees-cell, frees-room}
-use Rattle.lent.proofs.Rows.{R, vals, tells, makes, copies, lawful}
-use Rattle.lent.proofs.Cursor as U
-use Rattle.lent.proofs.Answers.{answers}
-use Rattle.calls.specs.Replies.{noReport}
-use Rattle.lent.proofs.Callees.{Load, CopyTurn, to-load, asks-load, gives-load, to-copy, asks-copy, gives-copy}
+use Rattle.host_table.specs.Table.{loaded}
+use Rattle.host_table.proofs.Lend.{ShrAt, ShrOf, slice-shared, ref-shared, calls-lending}
+use Rattle.host_table.proofs.Steps.{when, equal, unequal, frees-cell, frees-room}
+use Rattle.host_table.proofs.Rows.{R, vals, tells, makes, copies, lawful}
+use Rattle.host_table.proofs.Cursor as U
+use Rattle.host_table.proofs.Answers.{answers}
+use Rattle.call_reply.specs.Replies.{noReport}
+use Rattle.host_table.proofs.Callees.{Load, CopyTurn, to-load, asks-load, gives-load, to-copy, asks-copy, gives-copy}
 use Rattle.replica.proofs.Handed.{handed, goes-handed}
 use Rattle.replica.proofs.ClientFacts.{ReportOn, ReportDid, report-not, report-did}
-use Rattle.calls.specs.declared.ReportReply.{ReportReply}
-use Rattle.calls.proofs.ReportReply as D
-use Rattle.calls.proofs.ReportReply.Laws as D′
-use Rattle.calls.proofs.replies.no_report as refuse
-use Rattle.calls.proofs.replies.no_report.Symbol as refuse-def
-use Rattle.calls.proofs.replies.no_report.Symbol.{name as #refuse}
-use Rattle.calls.proofs.replies.no_report.Met as refuse-thm
-use Rattle.lent.proofs.load.Symbol as load-def
-use Rattle.lent.proofs.load.Symbol.{name as #load}
-use Rattle.lent.proofs.load.Met as load-thm
-use Rattle.lent.proofs.copy_turn.Symbol as copy-def
-use Rattle.lent.proofs.copy_turn.Symbol.{name as #copy}
-use Rattle.lent.proofs.copy_turn.Met as copy-thm
-use Rattle.calls.proofs.client_calls.report_on as call
-use Rattle.calls.proofs.client_calls.report_on.Symbol as call-def
-use Rattle.calls.proofs.client_calls.report_on.Symbol.{name as #call}
-use Rattle.calls.proofs.client_calls.report_on.Met as call-thm
+use Rattle.call_reply.specs.declared.ReportReply.{ReportReply}
+use Rattle.call_reply.proofs.ReportReply as D
+use Rattle.call_reply.proofs.ReportReply.Laws as D′
+use Rattle.call_reply.proofs.replies.no_report as refuse
+use Rattle.call_reply.proofs.replies.no_report.Symbol as refuse-def
+use Rattle.call_reply.proofs.replies.no_report.Symbol.{name as #refuse}
+use Rattle.call_reply.proofs.replies.no_report.Met as refuse-thm
+use Rattle.host_table.proofs.load.Symbol as load-def
+use Rattle.host_table.proofs.load.Symbol.{name as #load}
+use Rattle.host_table.proofs.load.Met as load-thm
+use Rattle.host_table.proofs.copy_turn.Symbol as copy-def
+use Rattle.host_table.proofs.copy_turn.Symbol.{name as #copy}
+use Rattle.host_table.proofs.copy_turn.Met as copy-thm
+use Rattle.call_reply.proofs.client_calls.report_on as call
+use Rattle.call_reply.proofs.client_calls.report_on.Symbol as call-def
+use Rattle.call_reply.proofs.client_calls.report_on.Symbol.{name as #call}
+use Rattle.call_reply.proofs.client_calls.report_on.Met as call-thm
 use Rattle.replica.proofs.stemline_report.Key.{name as #own}
 use Rattle.replica.proofs.stemline_report as own
 use Rattle.replica.proofs.stemline_report.Statement as stated

@@ -47,34 +47,34 @@ use Rattle.memory.specs.declared.Txn.{Txn}
 use Rattle.memory.proofs.Counts as N
 use Rattle.memory.proofs.Counts.Laws as N′
 use Rattle.memory.proofs.Txn as T
-use Rattle.lent.specs.Table.{loaded, stored}
-use Rattle.lent.specs.Turns.{moved}
-use Rattle.lent.proofs.Lend.{MutAt, MutOf, slice-lent, slice-read, ref-lent, ref-read, calls-lending}
-use Rattle.lent.proofs.Steps.{when, equal, unequal, unit-typed, frees-cell, frees-room}
-use Rattle.lent.proofs.Rows.{R, vals, tells, makes, lawful}
-use Rattle.lent.proofs.Cursor as U
-use Rattle.lent.proofs.Callees.{Load, Store, CopyTurn, MoveTurn, to-load, asks-load, gives-load, to-store, asks-store, gives-store, stored-length, to-copy, asks-copy, gives-copy, to-move, asks-move, gives-move}
+use Rattle.host_table.specs.Table.{loaded, stored}
+use Rattle.host_table.specs.Turns.{moved}
+use Rattle.host_table.proofs.Lend.{MutAt, MutOf, slice-lent, slice-read, ref-lent, ref-read, calls-lending}
+use Rattle.host_table.proofs.Steps.{when, equal, unequal, unit-typed, frees-cell, frees-room}
+use Rattle.host_table.proofs.Rows.{R, vals, tells, makes, lawful}
+use Rattle.host_table.proofs.Cursor as U
+use Rattle.host_table.proofs.Callees.{Load, Store, CopyTurn, MoveTurn, to-load, asks-load, gives-load, to-store, asks-store, gives-store, stored-length, to-copy, asks-copy, gives-copy, to-move, asks-move, gives-move}
 use Rattle.replica.proofs.Handed.{handed, goes-handed, is-rows}
 use Rattle.replica.proofs.TurnFacts.{SendOn, SendDid, send-not, send-did}
-use Rattle.turn_calls.specs.declared.Sent.{Sent}
-use Rattle.turn_calls.proofs.Sent as D
-use Rattle.turn_calls.proofs.Sent.Laws as D′
-use Rattle.lent.proofs.load.Symbol as load-def
-use Rattle.lent.proofs.load.Symbol.{name as #load}
-use Rattle.lent.proofs.load.Met as load-thm
-use Rattle.lent.proofs.copy_turn.Symbol as copy-def
-use Rattle.lent.proofs.copy_turn.Symbol.{name as #copy}
-use Rattle.lent.proofs.copy_turn.Met as copy-thm
-use Rattle.lent.proofs.store.Symbol as store-def
-use Rattle.lent.proofs.store.Symbol.{name as #store}
-use Rattle.lent.proofs.store.Met as store-thm
-use Rattle.lent.proofs.move_turn.Symbol as move-def
-use Rattle.lent.proofs.move_turn.Symbol.{name as #move}
-use Rattle.lent.proofs.move_turn.Met as move-thm
-use Rattle.turn_calls.proofs.send_on as call
-use Rattle.turn_calls.proofs.send_on.Symbol as call-def
-use Rattle.turn_calls.proofs.send_on.Symbol.{name as #call}
-use Rattle.turn_calls.proofs.send_on.Met as call-thm
+use Rattle.call_turn.specs.declared.Sent.{Sent}
+use Rattle.call_turn.proofs.Sent as D
+use Rattle.call_turn.proofs.Sent.Laws as D′
+use Rattle.host_table.proofs.load.Symbol as load-def
+use Rattle.host_table.proofs.load.Symbol.{name as #load}
+use Rattle.host_table.proofs.load.Met as load-thm
+use Rattle.host_table.proofs.copy_turn.Symbol as copy-def
+use Rattle.host_table.proofs.copy_turn.Symbol.{name as #copy}
+use Rattle.host_table.proofs.copy_turn.Met as copy-thm
+use Rattle.host_table.proofs.store.Symbol as store-def
+use Rattle.host_table.proofs.store.Symbol.{name as #store}
+use Rattle.host_table.proofs.store.Met as store-thm
+use Rattle.host_table.proofs.move_turn.Symbol as move-def
+use Rattle.host_table.proofs.move_turn.Symbol.{name as #move}
+use Rattle.host_table.proofs.move_turn.Met as move-thm
+use Rattle.call_turn.proofs.send_on as call
+use Rattle.call_turn.proofs.send_on.Symbol as call-def
+use Rattle.call_turn.proofs.send_on.Symbol.{name as #call}
+use Rattle.call_turn.proofs.send_on.Met as call-thm
 use Rattle.replica.proofs.stemline_send.Key.{name as #own}
 use Rattle.replica.proofs.stemline_send as own
 use Rattle.replica.proofs.stemline_send.Statement as stated

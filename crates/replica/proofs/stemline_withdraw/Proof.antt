@@ -44,36 +44,36 @@ use Rattle.memory.specs.declared.Txn.{Txn}
 use Rattle.memory.specs.Rows.{closed, rowOf, rowAt}
 use Rattle.memory.proofs.Counts as N
 use Rattle.memory.proofs.Counts.Laws as N′
-use Rattle.lent.proofs.Lend.{MutAt, slice-lent, slice-read, calls-lending}
-use Rattle.lent.proofs.Steps.{when, equal, unequal, unit-typed, frees-cell, frees-room}
-use Rattle.lent.proofs.Rows.{R, vals, tells, makes, lawful}
-use Rattle.lent.proofs.Answers.{answers}
-use Rattle.lent.proofs.Callees.{Find, Row, End, to-find, asks-find, gives-find, to-row, asks-row, gives-row, to-end, asks-end, gives-end}
+use Rattle.host_table.proofs.Lend.{MutAt, slice-lent, slice-read, calls-lending}
+use Rattle.host_table.proofs.Steps.{when, equal, unequal, unit-typed, frees-cell, frees-room}
+use Rattle.host_table.proofs.Rows.{R, vals, tells, makes, lawful}
+use Rattle.host_table.proofs.Answers.{answers}
+use Rattle.host_table.proofs.Callees.{Find, Row, End, to-find, asks-find, gives-find, to-row, asks-row, gives-row, to-end, asks-end, gives-end}
 use Rattle.replica.proofs.Handed.{handed, goes-handed}
 use Rattle.replica.proofs.ClientFacts.{WithdrawOn, WithdrawDid, withdraw-not, withdraw-kept, withdraw-ended}
-use Rattle.calls.specs.declared.Changed.{Changed}
-use Rattle.calls.proofs.Changed as D
-use Rattle.calls.proofs.Changed.Laws as D′
-use Rattle.calls.specs.declared.Reply.{Reply}
-use Rattle.calls.proofs.Reply as Y
-use Rattle.calls.proofs.Reply.Laws as Y′
-use Rattle.calls.proofs.replies.replied as refuse
-use Rattle.calls.proofs.replies.replied.Symbol as refuse-def
-use Rattle.calls.proofs.replies.replied.Symbol.{name as #refuse}
-use Rattle.calls.proofs.replies.replied.Met as refuse-thm
-use Rattle.lent.proofs.find.Symbol as find-def
-use Rattle.lent.proofs.find.Symbol.{name as #find}
-use Rattle.lent.proofs.find.Met as find-thm
-use Rattle.lent.proofs.row.Symbol as row-def
-use Rattle.lent.proofs.row.Symbol.{name as #row}
-use Rattle.lent.proofs.row.Met as row-thm
-use Rattle.lent.proofs.end.Symbol as end-def
-use Rattle.lent.proofs.end.Symbol.{name as #end}
-use Rattle.lent.proofs.end.Met as end-thm
-use Rattle.calls.proofs.client_calls.withdraw_on as call
-use Rattle.calls.proofs.client_calls.withdraw_on.Symbol as call-def
-use Rattle.calls.proofs.client_calls.withdraw_on.Symbol.{name as #call}
-use Rattle.calls.proofs.client_calls.withdraw_on.Met as call-thm
+use Rattle.call_reply.specs.declared.Changed.{Changed}
+use Rattle.call_reply.proofs.Changed as D
+use Rattle.call_reply.proofs.Changed.Laws as D′
+use Rattle.call_reply.specs.declared.Reply.{Reply}
+use Rattle.call_reply.proofs.Reply as Y
+use Rattle.call_reply.proofs.Reply.Laws as Y′
+use Rattle.call_reply.proofs.replies.replied as refuse
+use Rattle.call_reply.proofs.replies.replied.Symbol as refuse-def
+use Rattle.call_reply.proofs.replies.replied.Symbol.{name as #refuse}
+use Rattle.call_reply.proofs.replies.replied.Met as refuse-thm
+use Rattle.host_table.proofs.find.Symbol as find-def
+use Rattle.host_table.proofs.find.Symbol.{name as #find}
+use Rattle.host_table.proofs.find.Met as find-thm
+use Rattle.host_table.proofs.row.Symbol as row-def
+use Rattle.host_table.proofs.row.Symbol.{name as #row}
+use Rattle.host_table.proofs.row.Met as row-thm
+use Rattle.host_table.proofs.end.Symbol as end-def
+use Rattle.host_table.proofs.end.Symbol.{name as #end}
+use Rattle.host_table.proofs.end.Met as end-thm
+use Rattle.call_reply.proofs.client_calls.withdraw_on as call
+use Rattle.call_reply.proofs.client_calls.withdraw_on.Symbol as call-def
+use Rattle.call_reply.proofs.client_calls.withdraw_on.Symbol.{name as #call}
+use Rattle.call_reply.proofs.client_calls.withdraw_on.Met as call-thm
 use Rattle.replica.proofs.stemline_withdraw.Key.{name as #own}
 use Rattle.replica.proofs.stemline_withdraw as own
 use Rattle.replica.proofs.stemline_withdraw.Statement as stated

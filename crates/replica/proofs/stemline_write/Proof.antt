@@ -49,41 +49,41 @@ use Rattle.memory.specs.Rows.{rowOf}
 use Rattle.memory.proofs.Counts as N
 use Rattle.memory.proofs.Counts.Laws as N′
 use Rattle.memory.proofs.Txn as T
-use Rattle.lent.specs.Table.{loaded}
-use Rattle.lent.proofs.Lend.{MutAt, ShrOf, slice-lent, slice-read, ref-shared, calls-lending}
-use Rattle.lent.proofs.Steps.{when, equal, unequal, unit-typed, frees-cell, frees-room}
-use Rattle.lent.proofs.Rows.{R, vals, tells, makes, copies, lawful}
-use Rattle.lent.proofs.Cursor as U
-use Rattle.lent.proofs.Answers.{answers}
-use Rattle.lent.proofs.Callees.{Find, Put, to-find, asks-find, gives-find, to-put, asks-put, gives-put, Load, CopyTurn, to-load, asks-load, gives-load, to-copy, asks-copy, gives-copy}
+use Rattle.host_table.specs.Table.{loaded}
+use Rattle.host_table.proofs.Lend.{MutAt, ShrOf, slice-lent, slice-read, ref-shared, calls-lending}
+use Rattle.host_table.proofs.Steps.{when, equal, unequal, unit-typed, frees-cell, frees-room}
+use Rattle.host_table.proofs.Rows.{R, vals, tells, makes, copies, lawful}
+use Rattle.host_table.proofs.Cursor as U
+use Rattle.host_table.proofs.Answers.{answers}
+use Rattle.host_table.proofs.Callees.{Find, Put, to-find, asks-find, gives-find, to-put, asks-put, gives-put, Load, CopyTurn, to-load, asks-load, gives-load, to-copy, asks-copy, gives-copy}
 use Rattle.replica.proofs.Handed.{handed, goes-handed}
 use Rattle.replica.proofs.ClientFacts.{WriteOn, WriteDid, write-not, write-did}
-use Rattle.calls.specs.declared.Changed.{Changed}
-use Rattle.calls.proofs.Changed as D
-use Rattle.calls.proofs.Changed.Laws as D′
-use Rattle.calls.specs.declared.Reply.{Reply}
-use Rattle.calls.proofs.Reply as Y
-use Rattle.calls.proofs.Reply.Laws as Y′
-use Rattle.calls.proofs.replies.replied as refuse
-use Rattle.calls.proofs.replies.replied.Symbol as refuse-def
-use Rattle.calls.proofs.replies.replied.Symbol.{name as #refuse}
-use Rattle.calls.proofs.replies.replied.Met as refuse-thm
-use Rattle.lent.proofs.load.Symbol as load-def
-use Rattle.lent.proofs.load.Symbol.{name as #load}
-use Rattle.lent.proofs.load.Met as load-thm
-use Rattle.lent.proofs.copy_turn.Symbol as copy-def
-use Rattle.lent.proofs.copy_turn.Symbol.{name as #copy}
-use Rattle.lent.proofs.copy_turn.Met as copy-thm
-use Rattle.lent.proofs.find.Symbol as find-def
-use Rattle.lent.proofs.find.Symbol.{name as #find}
-use Rattle.lent.proofs.find.Met as find-thm
-use Rattle.lent.proofs.put.Symbol as put-def
-use Rattle.lent.proofs.put.Symbol.{name as #put}
-use Rattle.lent.proofs.put.Met as put-thm
-use Rattle.calls.proofs.client_calls.write_on as call
-use Rattle.calls.proofs.client_calls.write_on.Symbol as call-def
-use Rattle.calls.proofs.client_calls.write_on.Symbol.{name as #call}
-use Rattle.calls.proofs.client_calls.write_on.Met as call-thm
+use Rattle.call_reply.specs.declared.Changed.{Changed}
+use Rattle.call_reply.proofs.Changed as D
+use Rattle.call_reply.proofs.Changed.Laws as D′
+use Rattle.call_reply.specs.declared.Reply.{Reply}
+use Rattle.call_reply.proofs.Reply as Y
+use Rattle.call_reply.proofs.Reply.Laws as Y′
+use Rattle.call_reply.proofs.replies.replied as refuse
+use Rattle.call_reply.proofs.replies.replied.Symbol as refuse-def
+use Rattle.call_reply.proofs.replies.replied.Symbol.{name as #refuse}
+use Rattle.call_reply.proofs.replies.replied.Met as refuse-thm
+use Rattle.host_table.proofs.load.Symbol as load-def
+use Rattle.host_table.proofs.load.Symbol.{name as #load}
+use Rattle.host_table.proofs.load.Met as load-thm
+use Rattle.host_table.proofs.copy_turn.Symbol as copy-def
+use Rattle.host_table.proofs.copy_turn.Symbol.{name as #copy}
+use Rattle.host_table.proofs.copy_turn.Met as copy-thm
+use Rattle.host_table.proofs.find.Symbol as find-def
+use Rattle.host_table.proofs.find.Symbol.{name as #find}
+use Rattle.host_table.proofs.find.Met as find-thm
+use Rattle.host_table.proofs.put.Symbol as put-def
+use Rattle.host_table.proofs.put.Symbol.{name as #put}
+use Rattle.host_table.proofs.put.Met as put-thm
+use Rattle.call_reply.proofs.client_calls.write_on as call
+use Rattle.call_reply.proofs.client_calls.write_on.Symbol as call-def
+use Rattle.call_reply.proofs.client_calls.write_on.Symbol.{name as #call}
+use Rattle.call_reply.proofs.client_calls.write_on.Met as call-thm
 use Rattle.replica.proofs.stemline_write.Key.{name as #own}
 use Rattle.replica.proofs.stemline_write as own
 use Rattle.replica.proofs.stemline_write.Statement as stated

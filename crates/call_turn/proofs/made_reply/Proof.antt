@@ -1,0 +1,19 @@
+-- `made_reply` meets its contract.
+use borrow.Author.Needs.{needs}
+use Rattle.call_turn.proofs.made_reply.Statement.{statement}
+use Rattle.call_turn.proofs.made_reply.Tie as tie
+
+enum-told : tie.Need-enum-told
+enum-told c = search needs
+
+enum-known-answer : tie.Need-enum-known-answer
+enum-known-answer c = search needs
+
+returns : tie.Need-returns
+returns c = rw (c .enum-told .given .1)
+
+returns-2 : tie.Need-returns-2
+returns-2 c = rw (c .before .answer .given .1)
+
+pub made-reply-spec : {M : Type 1} → statement M
+made-reply-spec = tie.close (tie.spec enum-told enum-known-answer returns returns-2)

@@ -1,0 +1,17 @@
+-- `turn_change` meets its contract.
+use borrow.Author.Tests.{eq-eqb, ne-eqb}
+use borrow.Author.Needs.{needs}
+use Rattle.call_turn.proofs.turn_change.Statement.{statement}
+use Rattle.call_turn.proofs.turn_change.Tie as tie
+
+returns : tie.Need-returns
+returns c = rw (c .if1 .taken)
+
+returns-2 : tie.Need-returns-2
+returns-2 c = rw (c .before .before .if1 .left, eq-eqb _ _ (c .if2 .taken))
+
+returns-3 : tie.Need-returns-3
+returns-3 c = rw (c .before .before .if1 .left, ne-eqb _ _ (c .if2 .left))
+
+pub turn-change-spec : {M : Type 1} → statement M
+turn-change-spec = tie.close (tie.spec returns returns-2 returns-3)
