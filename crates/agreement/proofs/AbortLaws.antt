@@ -14,7 +14,7 @@ use Rattle.block.specs.Writing.{entriesFrom}
 use Rattle.memory.specs.declared.Txn.{Txn}
 use Rattle.memory.specs.Memory.{Transactions}
 use Rattle.memory.specs.Rows.{closed, isOpen, rowAt, writeCount, itemsOf, has}
-use Rattle.engine.specs.Moves.{shares, isHit, spared, insertRising, hitTickets, without}
+use Rattle.engine.specs.Moves.{shares, isHit, afterAborts, insertRising, hitTickets, without}
 use Rattle.engine.proofs.Tests.{same-by, clash}
 use Rattle.engine.proofs.HitLaws.{hit-open}
 use Rattle.protocol.specs.Lists.{pick, keep, any, insert, sort}
@@ -123,13 +123,13 @@ module _ (x : Transactions) (es : List Entry) (items : length (x .items) ≡ 48)
       (share-same (itemsOf i t (x .items)) (slice (8 * i) (8 * i + n) (x .writes)) es
       (length-slice (8 * i) (8 * i + n) (x .items) (omega arith) ∙ sym (length-slice (8 * i) (8 * i + n) (x .writes) (omega arith)))))
 
-  pub rows-spared : (i : ℕ) (ts : List Txn) → Staged i ts → rowsFrom x i (spared es (x .items) i ts) ≡ keep (λ u. not (conflicts w u)) (rowsFrom x i ts)
-  unfolding rowsFrom spared keep
+  pub rows-spared : (i : ℕ) (ts : List Txn) → Staged i ts → rowsFrom x i (afterAborts es (x .items) i ts) ≡ keep (λ u. not (conflicts w u)) (rowsFrom x i ts)
+  unfolding rowsFrom afterAborts keep
   rows-spared i [] s = refl
   rows-spared i (t ∷ ts) s = go (isHit es (x .items) i t) refl (isOpen t) refl (rows-spared (suc i) ts (staged-rest i t ts s))
     where
-      go : (b : Bool) → isHit es (x .items) i t ≡ b → (o : Bool) → isOpen t ≡ o → rowsFrom x (suc i) (spared es (x .items) (suc i) ts) ≡ keep (λ u. not (conflicts w u)) (rowsFrom x (suc i) ts)
-          → rowsFrom x i (cond b closed t ∷ spared es (x .items) (suc i) ts)
+      go : (b : Bool) → isHit es (x .items) i t ≡ b → (o : Bool) → isOpen t ≡ o → rowsFrom x (suc i) (afterAborts es (x .items) (suc i) ts) ≡ keep (λ u. not (conflicts w u)) (rowsFrom x (suc i) ts)
+          → rowsFrom x i (cond b closed t ∷ afterAborts es (x .items) (suc i) ts)
           ≡ keep (λ u. not (conflicts w u)) (cond o (txnOf x i t ∷ rowsFrom x (suc i) ts) (rowsFrom x (suc i) ts))
       go true h true o e = rw (hit-same i t ts s o, h) e
       go true h false o e = clash (hit-open es (x .items) i t h) o

@@ -24,7 +24,7 @@ use Rattle.protocol.specs.Machine.{MachineSystem, MachineAgreement, CommandPrem
 use Rattle.protocol.proofs.Refinement.{machine-agreement}
 use Rattle.protocol.proofs.SequenceLaws.{mem-at}
 use Rattle.agreement.specs.Group.{call, heard, Group, CallAt, fresh, run, Comes, Calls}
-use Rattle.agreement.specs.Statement.{PutDown, Agrees, FirstCommitter, groupAfter, Agreement}
+use Rattle.agreement.specs.Statement.{InSequence, Agrees, FirstCommitter, groupAfter, Agreement}
 use Rattle.agreement.proofs.View.{setup, Sound, Owed}
 use Rattle.agreement.proofs.Replicas.{places-apart}
 use Rattle.agreement.proofs.Runs.{machine, machineOf, commands, journalsRun, runs, fresh-kept, kept-run, Said, said}
@@ -34,7 +34,7 @@ use Rattle.agreement.proofs.Runs.{machine, machineOf, commands, journal
 next-place : (c : ℕ) → suc c - 1 ≡ c
 next-place c = omega arith
 
-put-down : (D : List (Handout ℤ)) (k t : ℕ) → NotHandedOut D k t → PutDown D k t → ⊥
+put-down : (D : List (Handout ℤ)) (k t : ℕ) → NotHandedOut D k t → InSequence D k t → ⊥
 put-down D k t free p =
     let a = mem-at noPlaced (sequence D) (p .0) (p .1) in
     free (a .0) (a .1 .0) (ap (λ (e : Placed ℤ). e .sender) (sym (a .1 .1)) ∙ p .2) (ap (λ (e : Placed ℤ). e .ticket) (sym (a .1 .1)) ∙ p .3)

@@ -11,7 +11,7 @@ use lib.ListN.{getD}
 use borrow.Author.Tests.{eqb-true, eq-eqb, lt-ltb, le-ltb, not-false}
 use Rattle.block.specs.Message.{ownerOf, kindFits, valid}
 use Rattle.block.specs.Form.{messageOf}
-use Rattle.block.specs.Answers.{readRefusal, headerOf}
+use Rattle.block.specs.Answers.{blockRefusal, headerOf}
 use Rattle.block.proofs.BoolLaws.{both, joined}
 use Rattle.block.proofs.MessageLaws.{message-facts}
 use Rattle.block.proofs.AnswerLaws.{is-taken, is-formed}
@@ -39,12 +39,12 @@ no-kind : (k n : ℕ) → kindFits k n ≡ true → k ≡ 0 → ⊥
 unfolding kindFits
 no-kind k n h z = false≢true (rw z at h)
 
-pub kind-some : (b : List ℕ) → readRefusal b ≡ 0 → getD b 0 0 ≡ 0 → ⊥
+pub kind-some : (b : List ℕ) → blockRefusal b ≡ 0 → getD b 0 0 ≡ 0 → ⊥
 unfolding messageOf valid
 kind-some b e = no-kind _ _ (both _ _ (is-formed b (is-taken b e .forms) .fields) .left)
 
 -- its sender owns its slot
-sender-owns : (b : List ℕ) → readRefusal b ≡ 0 → headerOf b .sender ≡ ownerOf (headerOf b .replicas) (headerOf b .slot)
+sender-owns : (b : List ℕ) → blockRefusal b ≡ 0 → headerOf b .sender ≡ ownerOf (headerOf b .replicas) (headerOf b .slot)
 unfolding messageOf headerOf
 sender-owns b e = message-facts (messageOf b) (is-formed b (is-taken b e .forms) .fields) .sender
 

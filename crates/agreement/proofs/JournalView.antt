@@ -14,7 +14,7 @@ use lib.Seq.{take-nil, take-add}
 use borrow.Author.Tests.{eq-eqb, ne-eqb}
 use Rattle.block.specs.Bytes.{blockOf}
 use Rattle.block.specs.Form.{messageOf}
-use Rattle.block.specs.Answers.{readRefusal, headerOf, recordAt}
+use Rattle.block.specs.Answers.{blockRefusal, headerOf, recordAt}
 use Rattle.block.proofs.BoolLaws.{joined}
 use Rattle.block.proofs.AnswerLaws.{is-taken}
 use Rattle.block.proofs.Theorems.{theorems}
@@ -68,7 +68,7 @@ good-append n a b f g c q = go (List·Memᴰ·append-cases a q)
     go (inl h) = f c h
     go (inr h) = g c h
 
-is-good : (n : ℕ) (b : List ℕ) → readRefusal b ≡ 0 → headerOf b .replicas ≡ n → isGood n b ≡ true
+is-good : (n : ℕ) (b : List ℕ) → blockRefusal b ≡ 0 → headerOf b .replicas ≡ n → isGood n b ≡ true
 unfolding isGood
 is-good n b e f = joined (eq-eqb _ 0 e) (eq-eqb _ n f)
 
@@ -118,7 +118,7 @@ module _ (n : ℕ) (start : List ℤ) (m : Memory) (s : Sound n m) where
   b = blockAtTurn m
 
   module _ (k : Working m) where
-    waits : (readRefusal b ≡ 0) × (headerOf b .slot ≡ m .turn .slot) × (headerOf b .replicas ≡ m .counts .replicas)
+    waits : (blockRefusal b ≡ 0) × (headerOf b .slot ≡ m .turn .slot) × (headerOf b .replicas ≡ m .counts .replicas)
     waits = s .shape .places .waits (m .turn .slot) (omega arith) (omega (arith, s .shape .ranges .least)) (k .waits)
 
     turn-good : isGood n b ≡ true

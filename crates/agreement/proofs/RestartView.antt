@@ -12,7 +12,7 @@ use lib.ListN.{length, getD, take, drop, length-take, length-drop}
 use borrow.Author.Tests.{ltb-true, lt-ltb, ne-eqb}
 use Rattle.block.specs.Message.{Record, recordFits, recordsFit}
 use Rattle.block.specs.Form.{messageOf}
-use Rattle.block.specs.Answers.{readRefusal, headerOf}
+use Rattle.block.specs.Answers.{blockRefusal, headerOf}
 use Rattle.block.specs.Theorems.{noRecord}
 use Rattle.block.proofs.BoolLaws.{both, not-so}
 use Rattle.block.proofs.MessageLaws.{message-facts, record-facts}
@@ -30,7 +30,7 @@ use Rattle.protocol.specs.Journal as model
 use Rattle.protocol.specs.Blocks.{readBlocks}
 use Rattle.protocol.specs.Journal.{inSlotOrder, highestOf, lastOf}
 use Rattle.protocol.specs.Moves.{storeAfter}
-use Rattle.agreement.specs.Group.{writeOf, writesetOf, messageIn, givenIn}
+use Rattle.agreement.specs.Group.{writeOf, writesetFrom, messageIn, givenIn}
 use Rattle.agreement.proofs.DeliverStep.{kind-some, slot-said}
 use Rattle.agreement.proofs.BlockView.{counted, writeset-read, sender-seen, values-after, stamps-after}
 
@@ -84,17 +84,17 @@ writesets-are b j [] h = refl
 writesets-are b j (r ∷ rs) h =
     rw (rw (add-zero j) at (h 0 (omega arith)), writesets-are b (suc j) rs (λ i u. rw (suc-add j i, ← add-suc j i) (h (suc i) (omega arith))))
 
-pub writesets-read : (b : List ℕ) → readRefusal b ≡ 0 → writesetsIn b ≡ messageOf b .records
+pub writesets-read : (b : List ℕ) → blockRefusal b ≡ 0 → writesetsIn b ≡ messageOf b .records
 writesets-read b e =
     ap (writesetsFrom b 0) (sym (counted b))
     ∙ writesets-are b 0 (messageOf b .records) (λ i u. rw (zero-add i) (writeset-read b e i (rw (counted b) at u)))
 
-records-fit : (b : List ℕ) → readRefusal b ≡ 0 → recordsFit (messageOf b .records) ≡ true
+records-fit : (b : List ℕ) → blockRefusal b ≡ 0 → recordsFit (messageOf b .records) ≡ true
 records-fit b e = message-facts (messageOf b) (is-formed b (is-taken b e .forms) .fields) .records
 
 -- ---- own blocks
 
-highest-same : (ws : List Record) → highestTicket ws ≡ model.highestTicket (map writesetOf ws)
+highest-same : (ws : List Record) → highestTicket ws ≡ model.highestTicket (map writesetFrom ws)
 unfolding highestTicket model.highestTicket
 highest-same [] = refl
 highest-same (w ∷ ws) = rw (highest-same ws)
@@ -111,7 +111,7 @@ highest-own n k (b ∷ bs) g =
     let a = highest-own n k bs (λ c q. g c (List·Memᴰ·tail q)) in
     rw (a, as-picked (isFrom k b) (highestTicket (writesetsIn b)) 0, writesets-read b e, highest-same (messageOf b .records), ← sender-seen b) refl
 
-given-some : (b : List ℕ) → readRefusal b ≡ 0 → givenIn b ≡ some (messageIn b)
+given-some : (b : List ℕ) → blockRefusal b ≡ 0 → givenIn b ≡ some (messageIn b)
 given-some b e = rw (ne-eqb (getD b 0 0) 0 (kind-some b e)) refl
 
 given-one : (o : Option (Message ℤ)) (mine : Bool) (b d : List ℕ) → givenIn b ≡ some (messageIn b)
@@ -148,7 +148,7 @@ one-same w fit r s h u =
 
 -- the commit counts leave room for all of them
 all-same : (ws : List Record) → recordsFit ws ≡ true → (r : Replayed) (s : Store ℤ) → Same r s → r .commits + length ws ≤ 4_294_967_295
-    → Same (commitAll r ws) (model.commitAll s (map writesetOf ws)) × (commitAll r ws .commits ≡ r .commits + length ws)
+    → Same (commitAll r ws) (model.commitAll s (map writesetFrom ws)) × (commitAll r ws .commits ≡ r .commits + length ws)
 unfolding commitAll model.commitAll recordsFit
 all-same [] fit r s h u = (h, sym (add-zero (r .commits)))
 all-same (w ∷ ws) fit r s h u =
@@ -157,7 +157,7 @@ all-same (w ∷ ws) fit r s h u =
     let a = all-same ws (f .right) (commitOne r w) (storeAfter (map writeOf (w .entries)) s) (one-same w (f .left) r s h (omega arith)) (omega arith) in
     (a .0, let q = a .1 in omega arith)
 
-writesets-seen : (b : List ℕ) → messageIn b .writesets ≡ map writesetOf (messageOf b .records)
+writesets-seen : (b : List ℕ) → messageIn b .writesets ≡ map writesetFrom (messageOf b .records)
 unfolding messageIn
 writesets-seen b = refl
 

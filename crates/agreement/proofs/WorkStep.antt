@@ -10,7 +10,7 @@ use lib.IntN.{ℤ}
 use lib.ListN.{length, getD}
 use borrow.Author.Tests.{eqb-true, eqb-false, eq-eqb, ne-eqb, ltb-true, le-leb, lt-leb}
 use Rattle.block.specs.Message.{Record}
-use Rattle.block.specs.Answers.{readRefusal}
+use Rattle.block.specs.Answers.{blockRefusal}
 use Rattle.block.proofs.BoolLaws.{both}
 use Rattle.memory.specs.declared.Turn.{Turn}
 use Rattle.memory.specs.declared.Txn.{Txn}
@@ -38,7 +38,7 @@ use Rattle.protocol.specs.Client.{findTxn, without}
 use Rattle.protocol.specs.Moves.{advance, cursorAfter, storeAfter, afterAborts, afterEnd, conflicts, abortedBy, isSent, clearTurn, blocksAfter, commitStep, workStep}
 use Rattle.protocol.specs.System.{step}
 use Rattle.protocol.specs.Machine.{Alike}
-use Rattle.agreement.specs.Group.{writeOf, writesetOf, messageIn, heard}
+use Rattle.agreement.specs.Group.{writeOf, writesetFrom, messageIn, heard}
 use Rattle.agreement.proofs.View.{setup, placeAt, openTxns, cursorOf, storeOf, blocksOf, view, Sound, Owed, follows, txnOf}
 use Rattle.agreement.proofs.ClientStep.{refused-owes}
 use Rattle.agreement.proofs.RowView.{find-row}
@@ -112,7 +112,7 @@ module _ (start : List ℤ) {over : ℕ} (m : Memory) (S : Shape over m) (k : Wo
   pos : 0 < n
   pos = omega (arith, S .ranges .least)
 
-  taken : readRefusal b ≡ 0
+  taken : blockRefusal b ≡ 0
   taken = S .places .waits (m .turn .slot) (omega arith) (omega (arith, S .ranges .least)) (k .waits) .0
 
   found : placeAt (m .blocks .places) (m .turn .slot % n) ≡ some (messageIn b)
@@ -198,7 +198,7 @@ module _ (start : List ℤ) {over : ℕ} (m : Memory) (S : Shape over m) (k : Wo
         let f = row-found (w .ticket) table (S .lengths .table) r in
         let open-sent : isSent (findTxn (w .ticket) (openTxns (m .txns))) ≡ true = rw (find-row m S (w .ticket) r) (unfold txnOf in s .right) in
         owed-by n start m (commitWriteset m true w) _
-        (model-own (setup n start) (view m) (messageIn b) found any-writeset (writesetOf w) (writeset-seen b taken (m .counts .done) more) (sender-seen b ∙ e) open-sent)
+        (model-own (setup n start) (view m) (messageIn b) found any-writeset (writesetFrom w) (writeset-seen b taken (m .counts .done) more) (sender-seen b ∙ e) open-sent)
         (heard-committed _ ticket ∙ ap (λ (i : ℕ). Rattle.protocol.specs.Replica.Event.committed i (w .ticket) []) (sym (sender-seen b)))
         (commit-alike true (without (w .ticket) (openTxns (m .txns))) (waiting (m .txns .queue)) (row-closed m S row r (f .live) (w .ticket) (f .is)) refl)
 
@@ -232,7 +232,7 @@ module _ (start : List ℤ) {over : ℕ} (m : Memory) (S : Shape over m) (k : Wo
     unfolding commitWriteset
     other-owes d =
         owed-by n start m (commitWriteset m false w) _
-        (model-other (setup n start) (view m) (messageIn b) found any-writeset (writesetOf w) (writeset-seen b taken (m .counts .done) more) (λ e. d (sym (sender-seen b) ∙ e)))
+        (model-other (setup n start) (view m) (messageIn b) found any-writeset (writesetFrom w) (writeset-seen b taken (m .counts .done) more) (λ e. d (sym (sender-seen b) ∙ e)))
         (heard-committed _ ticket
         ∙ ap (λ (i : ℕ). Rattle.protocol.specs.Replica.Event.committed i (w .ticket) gone) (sym (sender-seen b))
         ∙ ap (Rattle.protocol.specs.Replica.Event.committed (messageIn b .sender) (w .ticket)) (sym hit))

@@ -29,11 +29,11 @@ use Rattle.protocol.specs.Observer.{noting, Observed, observing, Handout, obser
 abbrev pub writeOf : Entry → Write ℤ
 writeOf e = newWrite (e .item) (e .value)
 
-abbrev pub writesetOf : Record → Writeset ℤ
-writesetOf r = record { ticket = r .ticket; writes = map writeOf (r .entries) }
+abbrev pub writesetFrom : Record → Writeset ℤ
+writesetFrom r = record { ticket = r .ticket; writes = map writeOf (r .entries) }
 
 unfoldable pub messageIn : List ℕ → Message ℤ
-messageIn b = record { slot = messageOf b .slot; sender = messageOf b .sender; writesets = map writesetOf (messageOf b .records) }
+messageIn b = record { slot = messageOf b .slot; sender = messageOf b .sender; writesets = map writesetFrom (messageOf b .records) }
 
 abbrev pub ticketOf : Call → ℕ
 ticketOf begin = 0

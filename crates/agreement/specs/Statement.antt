@@ -22,8 +22,8 @@ abbrev pub placed : List (Placed ℤ) → ℕ → Placed ℤ
 placed F p = getD F (p - 1) noPlaced
 
 -- a writeset of replica k with the ticket was put down
-abbrev pub PutDown : List (Handout ℤ) → ℕ → ℕ → Type 0
-PutDown D k t = (e : Placed ℤ) × Mem e (sequence D) × (e .sender ≡ k) × (e .ticket ≡ t)
+abbrev pub InSequence : List (Handout ℤ) → ℕ → ℕ → Type 0
+InSequence D k t = (e : Placed ℤ) × Mem e (sequence D) × (e .sender ≡ k) × (e .ticket ≡ t)
 
 -- an item is in both
 abbrev pub Share : List (Write ℤ) → List (Write ℤ) → Type 0
@@ -83,10 +83,10 @@ module _ (n : ℕ) (start : List ℤ) (cs : List CallAt) where
         → Share (groupAfter before .observed k .noted t .writes) (placed F (suc (length (groupAfter before .observed k .commits))) .writes)
     -- once a ticket is put down, no work at its replica names it as aborted
     pub spared : (before : List CallAt) (k : ℕ) (s : Step) → Comes cs before (record { at = k; does = call work }) → answer before k work ≡ worked s
-        → (t : ℕ) → Mem t (s .aborted) → PutDown (groupAfter before .handouts) k t → ⊥
+        → (t : ℕ) → Mem t (s .aborted) → InSequence (groupAfter before .handouts) k t → ⊥
     -- and no write under it gives 9
     pub never-stale : (before : List CallAt) (k t i : ℕ) (v : ℤ) → Comes cs before (record { at = k; does = call (write t i v) }) → answer before k (write t i v) ≡ refused 9
-        → PutDown (groupAfter before .handouts) k t → ⊥
+        → InSequence (groupAfter before .handouts) k t → ⊥
 
 -- for every group, starting values and list with the premise
 abbrev pub AgreementTheorem : Type 0

@@ -23,8 +23,8 @@ commitBlock s sender ticket item value =
     blockOf (record { kind = 2; sender = sender; replicas = 3; slot = s; records = record { ticket = ticket; entries = record { item = item; value = value } ∷ [] } ∷ [] })
 
 -- a transaction begun, written and asked, then sent
-abbrev pub setting : ℕ → ℕ → ℕ → ℤ → List CallAt
-setting k ticket item value = at k begin ∷ at k (write ticket item value) ∷ at k (ask ticket) ∷ []
+abbrev pub asking : ℕ → ℕ → ℕ → ℤ → List CallAt
+asking k ticket item value = at k begin ∷ at k (write ticket item value) ∷ at k (ask ticket) ∷ []
 
 abbrev pub sending : ℕ → CallAt
 sending k = at k (send (replicate 512 0))
@@ -32,10 +32,10 @@ sending k = at k (send (replicate 512 0))
 abbrev pub taking : ℕ → List ℕ → List CallAt
 taking k block = at k (deliver block) ∷ at k work ∷ []
 
--- two stems on different letters, items 10 and 20: replica 2 gets slot 1's block before slot 0's
-abbrev pub stems : List CallAt
-stems =
-    setting 0 1 10 (pos 80) ++ setting 1 1 20 (pos 70)
+-- two apart on different letters, items 10 and 20: replica 2 gets slot 1's block before slot 0's
+abbrev pub apart : List CallAt
+apart =
+    asking 0 1 10 (pos 80) ++ asking 1 1 20 (pos 70)
     ++ (sending 0 ∷ taking 0 (commitBlock 0 0 1 10 (pos 80)))
     ++ taking 1 (commitBlock 0 0 1 10 (pos 80))
     ++ (sending 1 ∷ taking 1 (commitBlock 1 1 1 20 (pos 70)))
@@ -43,25 +43,25 @@ stems =
     ++ (at 2 (deliver (commitBlock 1 1 1 20 (pos 70))) ∷ at 2 (deliver (commitBlock 0 0 1 10 (pos 80))) ∷ at 2 work ∷ at 2 work ∷ [])
 
 -- the n, item 5, set to 86 by replica 2 and then to 84 by replica 0: the second block comes to replica 1 before its turn
-abbrev pub widths : List CallAt
-widths =
-    setting 2 1 5 (pos 86)
+abbrev pub sameItem : List CallAt
+sameItem =
+    asking 2 1 5 (pos 86)
     ++ (sending 2 ∷ taking 2 (commitBlock 2 2 1 5 (pos 86)))
     ++ taking 0 (commitBlock 2 2 1 5 (pos 86))
-    ++ setting 0 2 5 (pos 84)
+    ++ asking 0 2 5 (pos 84)
     ++ (sending 0 ∷ taking 0 (commitBlock 3 0 2 5 (pos 84)))
     ++ (at 1 (deliver (commitBlock 3 0 2 5 (pos 84))) ∷ at 1 (deliver (commitBlock 2 2 1 5 (pos 86))) ∷ at 1 work ∷ at 1 work ∷ [])
     ++ taking 2 (commitBlock 3 0 2 5 (pos 84))
 
 abbrev pub story : List CallAt
-story = stems ++ widths
+story = apart ++ sameItem
 
 -- ---- and a forged block
 
 -- replica 0 hands out 84 for the n, and replica 1 takes another well-formed block of that slot
 abbrev pub forgery : List CallAt
 forgery =
-    setting 0 1 5 (pos 84)
+    asking 0 1 5 (pos 84)
     ++ (sending 0 ∷ taking 0 (commitBlock 0 0 1 5 (pos 84)))
     ++ taking 1 (commitBlock 0 0 1 5 (pos 86))
 
@@ -83,8 +83,8 @@ torn = first ++ take 100 (commitBlock 1 1 1 20 (pos 70))
 
 abbrev pub outages : List CallAt
 outages =
-    setting 0 1 10 (pos 80)
-    ++ (restarting 0 first ∷ setting 1 1 20 (pos 70))
+    asking 0 1 10 (pos 80)
+    ++ (restarting 0 first ∷ asking 1 1 20 (pos 70))
     ++ taking 1 first
     ++ (restarting 1 torn ∷ sending 1 ∷ taking 1 second)
     ++ taking 0 second

@@ -12,10 +12,10 @@ use lib.ListN.{length, take, drop, take-append-drop, List·getD-append, length-a
 use lib.Seq.{slice, length-take-le, length-slice}
 use Rattle.block.specs.declared.Sums.{Sums}
 use Rattle.block.specs.Check.{word, sumTo, weightedTo, firstCheck, secondCheck, checkBytes, checkMatches, sumsOf}
-use Rattle.block.specs.Numbers.{bytesOf, numberOf}
+use Rattle.block.specs.Numbers.{bytesOf, numberFrom}
 use Rattle.block.proofs.BoolLaws.{both, joined}
 use Rattle.block.proofs.ListLaws.{AllBytes, bytes-append, bytes-slice, slice-at, slice-end, cut, drop-slice}
-use Rattle.block.proofs.NumberLaws.{length-bytesOf, bytes-bytesOf, numberOf-bytesOf, bytesOf-numberOf, number-more, number-none}
+use Rattle.block.proofs.NumberLaws.{length-bytesOf, bytes-bytesOf, numberFrom-bytesOf, bytesOf-numberFrom, number-more, number-none}
 
 module _ (a c : List ℕ) where
   pub word-append : (i : ℕ) → 2 * i + 1 < length a → word (a ++ c) i ≡ word a i
@@ -85,17 +85,17 @@ check-matches a e = joined (joined (eq-eqb _ 512 long) (eq-eqb _ _ one)) (eq-eqb
     long : length (a ++ (x ++ y)) ≡ 512
     long = simp (length-append, length-bytesOf, e)
 
-    one : firstCheck (a ++ (x ++ y)) ≡ numberOf (slice 508 510 (a ++ (x ++ y)))
+    one : firstCheck (a ++ (x ++ y)) ≡ numberFrom (slice 508 510 (a ++ (x ++ y)))
     one =
         rw (firstCheck-append a (x ++ y) (omega arith), slice-at a x y 508 510 e (omega (arith, length-bytesOf 2 (firstCheck a))))
-        (sym (numberOf-bytesOf 2 (firstCheck a) (firstCheck-small a)))
+        (sym (numberFrom-bytesOf 2 (firstCheck a) (firstCheck-small a)))
 
-    two : secondCheck (a ++ (x ++ y)) ≡ numberOf (slice 510 512 (a ++ (x ++ y)))
+    two : secondCheck (a ++ (x ++ y)) ≡ numberFrom (slice 510 512 (a ++ (x ++ y)))
     two =
         let m = length-bytesOf 2 (firstCheck a) in
         let n = length-bytesOf 2 (secondCheck a) in
         rw (secondCheck-append a (x ++ y) (omega arith), slice-end a x y 510 512 (omega arith) (omega arith))
-        (sym (numberOf-bytesOf 2 (secondCheck a) (secondCheck-small a)))
+        (sym (numberFrom-bytesOf 2 (secondCheck a) (secondCheck-small a)))
 
 -- and the other way: a block whose check matches is its first 508 bytes and their check
 pub check-whole : (b : List ℕ) → AllBytes b → checkMatches b ≡ true → take 508 b ++ checkBytes (take 508 b) ≡ b
@@ -110,10 +110,10 @@ check-whole b f h =
     rw (
       ← x,
       ← y,
-      eqb-true (firstCheck b) (numberOf (slice 508 510 b)) (d .right),
-      eqb-true (secondCheck b) (numberOf (slice 510 512 b)) (c .right),
-      bytesOf-numberOf 2 (slice 508 510 b) (bytes-slice 508 510 f) (length-slice 508 510 b (omega arith)),
-      bytesOf-numberOf 2 (slice 510 512 b) (bytes-slice 510 512 f) (length-slice 510 512 b (omega arith)),
+      eqb-true (firstCheck b) (numberFrom (slice 508 510 b)) (d .right),
+      eqb-true (secondCheck b) (numberFrom (slice 510 512 b)) (c .right),
+      bytesOf-numberFrom 2 (slice 508 510 b) (bytes-slice 508 510 f) (length-slice 508 510 b (omega arith)),
+      bytesOf-numberFrom 2 (slice 510 512 b) (bytes-slice 510 512 f) (length-slice 510 512 b (omega arith)),
       ← drop-slice 510 512 b e,
       ← cut 508 510 b (omega arith),
     )
@@ -122,7 +122,7 @@ check-whole b f h =
 -- ---- the answers of the code
 
 -- a word is the number in its two bytes
-pub word-number : (l : List ℕ) (at i : ℕ) → at ≡ 2 * i → at + 2 ≤ length l → numberOf (slice at (at + 2) l) ≡ word l i
+pub word-number : (l : List ℕ) (at i : ℕ) → at ≡ 2 * i → at + 2 ≤ length l → numberFrom (slice at (at + 2) l) ≡ word l i
 unfolding word
 word-number l at i e h =
     let n = number-more l at (at + 2) (omega arith) h in
@@ -143,10 +143,10 @@ turn u a e w s r t x q before next rest =
 
 -- four words more; a to d are their numbers
 module _ (l : List ℕ) (k : ℕ) (low : k ≤ 250) (long : 2 * k + 8 ≤ length l) (a b c d : ℕ)
-    (is-a : a ≡ numberOf (slice (2 * k) (2 * k + 2) l))
-    (is-b : b ≡ numberOf (slice (2 * k + 2) (2 * k + 2 + 2) l))
-    (is-c : c ≡ numberOf (slice (2 * k + 4) (2 * k + 4 + 2) l))
-    (is-d : d ≡ numberOf (slice (2 * k + 6) (2 * k + 6 + 2) l)) where
+    (is-a : a ≡ numberFrom (slice (2 * k) (2 * k + 2) l))
+    (is-b : b ≡ numberFrom (slice (2 * k + 2) (2 * k + 2 + 2) l))
+    (is-c : c ≡ numberFrom (slice (2 * k + 4) (2 * k + 4 + 2) l))
+    (is-d : d ≡ numberFrom (slice (2 * k + 6) (2 * k + 6 + 2) l)) where
   word-a : word l k ≡ a
   word-a = sym (is-a ∙ word-number l (2 * k) k refl (omega arith))
 
@@ -202,7 +202,7 @@ two-weighed l k = rw (add-two k, add-one k)
 
 -- the last two words, of weights 2 and 1
 pub sums-end : (l : List ℕ) → 508 ≤ length l → (f s : ℕ) → f ≡ sumTo l 252 → s ≡ weightedTo l 252 → (y z : ℕ)
-    → y ≡ numberOf (slice 504 506 l) → z ≡ numberOf (slice 506 508 l)
+    → y ≡ numberFrom (slice 504 506 l) → z ≡ numberFrom (slice 506 508 l)
     → record { first = (f + y + z) % 65535; second = (s + 2 * y + z) % 65535 } ≡ sumsOf l
 unfolding sumsOf firstCheck secondCheck
 sums-end l long f s sum weighted y z is-y is-z =
@@ -220,11 +220,11 @@ module _ (b : List ℕ) where
   unfolding checkMatches
   matches-short h = rw (ne-eqb (length b) 512 h)
 
-  module _ (long : length b ≡ 512) (s : Sums) (sums : s ≡ sumsOf b) (f : ℕ) (held : f ≡ numberOf (slice 508 510 b)) where
+  module _ (long : length b ≡ 512) (s : Sums) (sums : s ≡ sumsOf b) (f : ℕ) (held : f ≡ numberFrom (slice 508 510 b)) where
     pub matches-first : (s .first ≡ f → ⊥) → false ≡ checkMatches b
     unfolding checkMatches sumsOf
     matches-first h = rw (eq-eqb (length b) 512 long, ← held, ← ap (λ (x : Sums). x .first) sums, ne-eqb (s .first) f h)
 
-    pub matches-second : s .first ≡ f → (g : ℕ) → g ≡ numberOf (slice 510 512 b) → eqb (s .second) g ≡ checkMatches b
+    pub matches-second : s .first ≡ f → (g : ℕ) → g ≡ numberFrom (slice 510 512 b) → eqb (s .second) g ≡ checkMatches b
     unfolding checkMatches sumsOf
     matches-second h g e = rw (eq-eqb (length b) 512 long, ← held, ← e, ← ap (λ (x : Sums). x .first) sums, ← ap (λ (x : Sums). x .second) sums, eq-eqb (s .first) f h)

@@ -12,7 +12,7 @@ use Rattle.block.specs.declared.RecordHead.{RecordHead}
 use Rattle.block.specs.declared.Answer.{Answer}
 use Rattle.block.specs.declared.Read.{Read}
 use Rattle.block.specs.declared.Read.the-variants.{Message, Refused}
-use Rattle.block.specs.Numbers.{numberOf}
+use Rattle.block.specs.Numbers.{numberFrom}
 use Rattle.block.specs.Check.{checkMatches}
 use Rattle.block.specs.Form.{entryOf, wellFormed}
 
@@ -29,8 +29,8 @@ unfoldable pub firstOf : List Refusal → ℕ
 firstOf [] = 0
 firstOf (r ∷ rs) = cond (r .holds) (r .number) (firstOf rs)
 
-unfoldable pub readRefusal : List ℕ → ℕ
-readRefusal b =
+unfoldable pub blockRefusal : List ℕ → ℕ
+blockRefusal b =
     firstOf
     (refuse 1 (not (eqb (length b) 512))
     ∷ refuse 14 (not (checkMatches b))
@@ -43,15 +43,15 @@ headerOf b = record {
   sender = getD b 1 0;
   replicas = getD b 2 0;
   count = getD b 3 0;
-  slot = numberOf (slice 4 8 b);
+  slot = numberFrom (slice 4 8 b);
 }
 
 abbrev pub noHeader : Header
 noHeader = record { kind = 0; sender = 0; replicas = 0; count = 0; slot = 0 }
 
 -- the reader: a number of document 01's table, or 0 and the header
-unfoldable pub readStep : List ℕ → Answer
-readStep b = record { number = readRefusal b; header = cond (eqb (readRefusal b) 0) (headerOf b) noHeader }
+unfoldable pub blockAnswer : List ℕ → Answer
+blockAnswer b = record { number = blockRefusal b; header = cond (eqb (blockRefusal b) 0) (headerOf b) noHeader }
 
 -- the number and the header of each case of the reader's enum
 abbrev pub answerOf : Read → Answer
@@ -62,7 +62,7 @@ answerOf (Refused n) = record { number = n; header = noHeader }
 unfoldable pub recordAt : List ℕ → ℕ → RecordHead
 recordAt b j =
     cond (eqb (length b) 512 && ltb j 6)
-    (record { ticket = numberOf (slice (16 + 72 * j) (20 + 72 * j) b); writes = getD b (20 + 72 * j) 0 })
+    (record { ticket = numberFrom (slice (16 + 72 * j) (20 + 72 * j) b); writes = getD b (20 + 72 * j) 0 })
     (record { ticket = 0; writes = 0 })
 
 unfoldable pub entryAt : List ℕ → ℕ → ℕ → Entry

@@ -7,7 +7,7 @@ use lib.ListN.{length, getD}
 use lib.Seq.{slice}
 use Rattle.block.specs.declared.Checked.{Checked}
 use Rattle.block.specs.declared.Sums.{Sums}
-use Rattle.block.specs.Numbers.{bytesOf, numberOf}
+use Rattle.block.specs.Numbers.{bytesOf, numberFrom}
 
 -- document 01's w(i): the 16-bit word at byte 2·i
 unfoldable pub word : List ℕ → ℕ → ℕ
@@ -47,5 +47,5 @@ checkBytes b = bytesOf 2 (firstCheck b) ++ bytesOf 2 (secondCheck b)
 unfoldable pub checkMatches : List ℕ → Bool
 checkMatches b =
     eqb (length b) 512
-    && eqb (firstCheck b) (numberOf (slice 508 510 b))
-    && eqb (secondCheck b) (numberOf (slice 510 512 b))
+    && eqb (firstCheck b) (numberFrom (slice 508 510 b))
+    && eqb (secondCheck b) (numberFrom (slice 510 512 b))

@@ -5,7 +5,7 @@ ghost use lib.ListN.{length};
 ghost use lib.Seq.{slice};
 ghost use mir.Syntax.{w32};
 ghost use mir.Val.{ofZ, toZ};
-ghost use Rattle.block.specs.Numbers.{numberOf};
+ghost use Rattle.block.specs.Numbers.{numberFrom};
 ghost use Rattle.block.specs.Answers.{answerOf};
 
 // An entry of a record: an item and its new value.
@@ -86,7 +86,7 @@ impl Read {
 // The number in the two bytes from `at` on, the lowest first.
 pub fn number16(s: &[u8], at: usize) -> u16
     requires { ⌜ at + 2 ≤ length (now s) ⌝ }
-    ensures { λ r. ⌜ r ≡ numberOf (slice at (at + 2) (now (s .entry))) ⌝ }
+    ensures { λ r. ⌜ r ≡ numberFrom (slice at (at + 2) (now (s .entry))) ⌝ }
 {
     let a = s[at] as u16;
     let b = s[at + 1] as u16;
@@ -96,7 +96,7 @@ pub fn number16(s: &[u8], at: usize) -> u16
 // The number in the four bytes from `at` on, the lowest first.
 pub fn number(s: &[u8], at: usize) -> u32
     requires { ⌜ at + 4 ≤ length (now s) ⌝ }
-    ensures { λ r. ⌜ r ≡ numberOf (slice at (at + 4) (now (s .entry))) ⌝ }
+    ensures { λ r. ⌜ r ≡ numberFrom (slice at (at + 4) (now (s .entry))) ⌝ }
 {
     let low = number16(s, at) as u32;
     let high = number16(s, at + 2) as u32;
@@ -106,7 +106,7 @@ pub fn number(s: &[u8], at: usize) -> u32
 // The number in the eight bytes from `at` on, the lowest first.
 pub fn number64(s: &[u8], at: usize) -> u64
     requires { ⌜ at + 8 ≤ length (now s) ⌝ }
-    ensures { λ r. ⌜ r ≡ numberOf (slice at (at + 8) (now (s .entry))) ⌝ }
+    ensures { λ r. ⌜ r ≡ numberFrom (slice at (at + 8) (now (s .entry))) ⌝ }
 {
     let low = number(s, at) as u64;
     let high = number(s, at + 4) as u64;

@@ -2,7 +2,7 @@
 ghost use mathlib.Core.Path.{_≡_};
 ghost use Rattle.block.specs.Check.{checkStep, checkMatches};
 ghost use Rattle.block.specs.Form.{wellFormed};
-ghost use Rattle.block.specs.Answers.{readStep, recordAt, entryAt};
+ghost use Rattle.block.specs.Answers.{blockAnswer, recordAt, entryAt};
 ghost use Rattle.block.specs.Writing.{written, headerStep, recordStep, checkedStep, blockStep};
 use block::Answer;
 use block::Checked;
@@ -43,7 +43,7 @@ pub extern "C" fn stemline_block_well_formed(block: &[u8]) -> bool
 
 #[no_mangle]
 pub extern "C" fn stemline_block_read(block: &[u8]) -> Answer
-    ensures { λ r. ⌜ r ≡ readStep (now (block .entry)) ⌝ }
+    ensures { λ r. ⌜ r ≡ blockAnswer (now (block .entry)) ⌝ }
 {
     read_block(block).answer()
 }

@@ -59,7 +59,7 @@ pub fn report(turn: Turn, table: [Txn; 6], counts: Counts) -> Report
         turn: turn.slot,
         commits: counts.commits,
         tickets: counts.tickets,
-        active: open_count(table),
+        open_count: open_count(table),
         committed: counts.committed,
         read_only: counts.read_only,
         aborted: counts.aborted,

@@ -12,7 +12,7 @@ use Rattle.block.proofs.ListLaws.{lent}
 use Rattle.block.proofs.WriteLaws.{drop-zeros}
 use Rattle.memory.specs.declared.Txn.{Txn}
 use Rattle.memory.specs.Rows.{closed, rowAt}
-use Rattle.engine.specs.Moves.{shares, isHit, spared, insertRising, hitTickets}
+use Rattle.engine.specs.Moves.{shares, isHit, afterAborts, insertRising, hitTickets}
 use Rattle.call_commit.proofs.ListLaws.{lent-within}
 
 -- ---- whether row r is hit
@@ -35,13 +35,13 @@ module _ (es : List Entry) (items : List ℕ) (r : ℕ) (t : Txn) where
 -- the rows and the first tickets while the rows from r on are done
 pub record Aborting (es : List Entry) (items : List ℕ) (table rows : List Txn) (tickets : List ℕ) (count r : ℕ) : Type 0 where
   pub room : r + count ≤ 6
-  pub rows-are : rows ≡ take r table ++ spared es items r (drop r table)
+  pub rows-are : rows ≡ take r table ++ afterAborts es items r (drop r table)
   pub tickets-are : take count tickets ≡ hitTickets es items r (drop r table)
   pub zeros : drop count tickets ≡ replicate (6 - count) 0
 
 module _ (es : List Entry) (items : List ℕ) (table : List Txn) (six : length table ≡ 6) where
   pub abort-none : (tickets : List ℕ) → tickets ≡ replicate 6 0 → Aborting es items table table tickets 0 6
-  unfolding spared hitTickets
+  unfolding afterAborts hitTickets
   abort-none tickets z = record {
     room = omega arith;
     rows-are = rw (← six, take-length table, drop-length table) (sym (append-nil table));
@@ -56,13 +56,13 @@ module _ (es : List Entry) (items : List ℕ) (table : List Txn) (six : length t
     rest-cons : drop k table ≡ rowAt table k ∷ drop r table
     rest-cons = rw e (drop-cons table k closed within)
 
-    rows-cons : rows ≡ take k table ++ (rowAt table k ∷ spared es items r (drop r table))
-    rows-cons = s .rows-are ∙ rw (e, take-suc table k closed within) (append-snoc (take k table) (rowAt table k) (spared es items (suc k) (drop (suc k) table)))
+    rows-cons : rows ≡ take k table ++ (rowAt table k ∷ afterAborts es items r (drop r table))
+    rows-cons = s .rows-are ∙ rw (e, take-suc table k closed within) (append-snoc (take k table) (rowAt table k) (afterAborts es items (suc k) (drop (suc k) table)))
 
     pub abort-hit : (hit : Bool) → hit ≡ isHit es items k (rowAt table k) → hit ≡ true → (more : List ℕ) → take (count + 1) more ≡ insertRising (rowAt table k .ticket) (take count tickets)
         → drop (count + 1) more ≡ drop (count + 1) tickets
         → Aborting es items table (set rows k closed) more (count + 1) k
-    unfolding spared hitTickets
+    unfolding afterAborts hitTickets
     abort-hit hit p h more q d = record {
       room = omega (arith, s .room);
       rows-are = rw (rows-cons, rest-cons, ← p, h, e) (set-at (take k table) (rowAt table k) _ closed k (length-take-le k table (omega (arith, within))));
@@ -73,7 +73,7 @@ module _ (es : List Entry) (items : List ℕ) (table : List Txn) (six : length t
     }
 
     pub abort-miss : (hit : Bool) → hit ≡ isHit es items k (rowAt table k) → hit ≡ false → Aborting es items table rows tickets count k
-    unfolding spared hitTickets
+    unfolding afterAborts hitTickets
     abort-miss hit p h = record {
       room = omega (arith, s .room);
       rows-are = rows-cons ∙ rw (rest-cons, ← p, h, e);

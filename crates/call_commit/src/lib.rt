@@ -5,7 +5,7 @@ ghost use Prim.Native.Nat.{_+_, _-_, _≤_, _<_, min};
 ghost use lib.ListN.{take, drop, replicate};
 ghost use Rattle.block.specs.Answers.{recordAt};
 ghost use Rattle.memory.specs.Rows.{has};
-ghost use Rattle.engine.specs.Moves.{writesetAt, applied, stamped, shares, isHit, spared, insertRising, hitTickets, queueWithout};
+ghost use Rattle.engine.specs.Moves.{writesetAt, applied, stamped, shares, isHit, afterAborts, insertRising, hitTickets, queueWithout};
 use block_reader::entry_at;
 use block_reader::record_at;
 use memory::Txn;
@@ -134,7 +134,7 @@ fn insert_rising(tickets: [u32; 6], n: usize, ticket: u32) -> [u32; 6]
 
 // The rows that record j hits are closed; from the last row to the first, as their tickets are listed.
 pub fn abort_rows(table: [Txn; 6], items: &[u8], block: &[u8], j: usize) -> Aborts
-    ensures { λ r. ⌜ ((r .table) ≡ spared (writesetAt (now (block .entry)) j .entries) (now (items .entry)) 0 table) × (take (r .count) (r .tickets) ≡ hitTickets (writesetAt (now (block .entry)) j .entries) (now (items .entry)) 0 table) × (r .count ≤ 6) × (drop (r .count) (r .tickets) ≡ replicate (6 - r .count) 0) ⌝ }
+    ensures { λ r. ⌜ ((r .table) ≡ afterAborts (writesetAt (now (block .entry)) j .entries) (now (items .entry)) 0 table) × (take (r .count) (r .tickets) ≡ hitTickets (writesetAt (now (block .entry)) j .entries) (now (items .entry)) 0 table) × (r .count ≤ 6) × (drop (r .count) (r .tickets) ≡ replicate (6 - r .count) 0) ⌝ }
 {
     let mut rows = table;
     let mut tickets = [0u32; 6];

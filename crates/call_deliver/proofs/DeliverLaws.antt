@@ -15,7 +15,7 @@ use Rattle.block.specs.declared.Answer.{Answer}
 use Rattle.block.specs.declared.Header.{Header}
 use Rattle.block.specs.declared.Read.{Read}
 use Rattle.block.specs.declared.Read.the-variants as read
-use Rattle.block.specs.Answers.{Refusal, refuse, firstOf, readRefusal, headerOf, noHeader, readStep, answerOf}
+use Rattle.block.specs.Answers.{Refusal, refuse, firstOf, blockRefusal, headerOf, noHeader, blockAnswer, answerOf}
 use Rattle.block.proofs.AnswerLaws.{is-taken}
 use Rattle.block.proofs.BoolLaws.{both}
 use Rattle.memory.specs.declared.Counts.{Counts}
@@ -78,22 +78,22 @@ lengths-long n places outbox bytes h =
 -- ---- the reader's answer
 
 -- a refusal has a number: a header that is read names two replicas at least
-reader-refused : (b : List ℕ) (r : Read) (n : ℕ) → r ≡ read.Refused n → answerOf r ≡ readStep b → (n ≡ readRefusal b) × (n ≡ 0 → ⊥)
-unfolding readStep
+reader-refused : (b : List ℕ) (r : Read) (n : ℕ) → r ≡ read.Refused n → answerOf r ≡ blockAnswer b → (n ≡ blockRefusal b) × (n ≡ 0 → ⊥)
+unfolding blockAnswer
 reader-refused b r n e h =
-    let a : answerOf (read.Refused n) ≡ readStep b = rw e at h in
-    let k : n ≡ readRefusal b = ap (λ (x : Answer). x .number) a in (
+    let a : answerOf (read.Refused n) ≡ blockAnswer b = rw e at h in
+    let k : n ≡ blockRefusal b = ap (λ (x : Answer). x .number) a in (
       k,
       (λ z. let t = sym k ∙ z in
           let o : noHeader ≡ headerOf b = rw t at (ap (λ (x : Answer). x .header) a) in
           omega (arith, taken-block b t .replicas, ap (λ (x : Header). x .replicas) o)),
     )
 
-pub reader-took : (b : List ℕ) (r : Read) (h : Header) → r ≡ read.Message h → answerOf r ≡ readStep b → (readRefusal b ≡ 0) × (h ≡ headerOf b)
-unfolding readStep
+pub reader-took : (b : List ℕ) (r : Read) (h : Header) → r ≡ read.Message h → answerOf r ≡ blockAnswer b → (blockRefusal b ≡ 0) × (h ≡ headerOf b)
+unfolding blockAnswer
 reader-took b r h e q =
-    let a : answerOf (read.Message h) ≡ readStep b = rw e at q in
-    let k : readRefusal b ≡ 0 = sym (ap (λ (x : Answer). x .number) a) in
+    let a : answerOf (read.Message h) ≡ blockAnswer b = rw e at q in
+    let k : blockRefusal b ≡ 0 = sym (ap (λ (x : Answer). x .number) a) in
     (k, rw k at (ap (λ (x : Answer). x .header) a))
 
 past-first : (r : Refusal) (l : List Refusal) → r .holds ≡ false → firstOf (r ∷ l) ≡ firstOf l
@@ -120,19 +120,19 @@ module _ (m : Memory) (bytes : List ℕ) where
   deliver-refused n e h = rw (← e, ne-eqb n 0 h)
 
   module _ (long : deliverLent m bytes ≡ true) where
-    unread : (readRefusal bytes ≡ 0 → ⊥) → readRefusal bytes ≡ deliverRefusal m bytes
-    unfolding readRefusal deliverRefusal
+    unread : (blockRefusal bytes ≡ 0 → ⊥) → blockRefusal bytes ≡ deliverRefusal m bytes
+    unfolding blockRefusal deliverRefusal
     unread h =
         let p = past-first _ _ (ap not (eq-eqb (length bytes) 512 (lengths-long _ (m .blocks .places) (m .blocks .outbox) bytes long .bytes))) in
         p ∙ reader-first _ _ _ (λ z. h (p ∙ z)) ∙ sym (past-first _ _ (ap not long))
 
-    pub deliver-unread : (r : Read) (n : ℕ) → r ≡ read.Refused n → answerOf r ≡ readStep bytes → (a : Answer) → a ≡ answerOf r
+    pub deliver-unread : (r : Read) (n : ℕ) → r ≡ read.Refused n → answerOf r ≡ blockAnswer bytes → (a : Answer) → a ≡ answerOf r
         → outcome (refused (a .number)) m ≡ deliverStep m bytes
     deliver-unread r n e h a q =
         let k = reader-refused bytes r n e h in
         rw (q, e) (deliver-refused n (k .0 ∙ unread (λ z. k .1 (k .0 ∙ z))) (k .1))
 
-    module _ (taken : readRefusal bytes ≡ 0) (h : Header) (head : h ≡ headerOf bytes) where
+    module _ (taken : blockRefusal bytes ≡ 0) (h : Header) (head : h ≡ headerOf bytes) where
       -- what is left to test, from the header
       past : deliverRefusal m bytes
           ≡ firstOf

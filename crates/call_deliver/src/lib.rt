@@ -4,7 +4,7 @@ ghost use mathlib.Core.Bool.{true, _&&_, not};
 ghost use Prim.Native.Nat.{_*_, _<_};
 ghost use lib.Dec.{eqb};
 ghost use lib.ListN.{length};
-ghost use Rattle.block.specs.Answers.{headerOf, readRefusal};
+ghost use Rattle.block.specs.Answers.{headerOf, blockRefusal};
 ghost use Rattle.memory.specs.Memory.{Memory};
 ghost use Rattle.memory.specs.Turns.{placeStart};
 ghost use Rattle.engine.specs.Calls.{outcome};
@@ -80,7 +80,7 @@ fn refusal(
     outbox: &[u8],
     bytes: &[u8],
 ) -> u8
-    requires { ⌜ (lengthsFit (counts .replicas) (now places) (now outbox) (now bytes) ≡ true) × (readRefusal (now bytes) ≡ 0) × (header ≡ headerOf (now bytes)) ⌝ }
+    requires { ⌜ (lengthsFit (counts .replicas) (now places) (now outbox) (now bytes) ≡ true) × (blockRefusal (now bytes) ≡ 0) × (header ≡ headerOf (now bytes)) ⌝ }
     ensures { λ r. ⌜ ((m : Memory) → r ≡ deliverRefusal (deliverParts m turn counts (now (places .entry)) (now (outbox .entry))) (now (bytes .entry))) ⌝ }
 {
     if header.replicas != counts.replicas {

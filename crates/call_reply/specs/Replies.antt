@@ -65,7 +65,7 @@ isReadOnly (worked s) = false
 isReadOnly (restarted c b) = false
 
 abbrev pub noReport : Report
-noReport = record { turn = 0; commits = 0; tickets = 0; active = 0; committed = 0; «read_only» = 0; aborted = 0; withdrawn = 0 }
+noReport = record { turn = 0; commits = 0; tickets = 0; «open_count» = 0; committed = 0; «read_only» = 0; aborted = 0; withdrawn = 0 }
 
 abbrev pub reportIn : Answer → Report
 reportIn (reported r) = r

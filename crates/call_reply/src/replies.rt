@@ -60,7 +60,7 @@ pub fn no_report(number: u8) -> ReportReply
             turn: 0,
             commits: 0,
             tickets: 0,
-            active: 0,
+            open_count: 0,
             committed: 0,
             read_only: 0,
             aborted: 0,

@@ -25,7 +25,7 @@ use Rattle.engine.proofs.PlaceLaws.{place-fits}
 use Rattle.engine.proofs.ShapeWriteset.{committed}
 use Rattle.engine.specs.Calls.{Outcome, outcome}
 use Rattle.engine.specs.Calls.Answer.{refused, worked}
-use Rattle.engine.specs.Moves.{workLent, workRefusal, isSent, blockAtTurn, writesetAt, applied, stamped, spared, hitTickets, queueWithout, isLast, passNext, commitWriteset, workStep}
+use Rattle.engine.specs.Moves.{workLent, workRefusal, isSent, blockAtTurn, writesetAt, applied, stamped, afterAborts, hitTickets, queueWithout, isLast, passNext, commitWriteset, workStep}
 use Rattle.call_work.specs.Lent.{Trimmed, appendOf, workParts, Ending, endingOf}
 
 -- ---- lengths
@@ -102,7 +102,7 @@ module _ (w : Record) (turn : Turn) (counts : Counts) (table : List Txn) (queue 
 
   -- t, q and the first n tickets are what the rows hit leave
   pub other-ended : (t : List Txn) (tickets q : List ℕ) (n commits aborted : ℕ) → n ≤ 6 → length tickets ≡ 6
-      → t ≡ spared (w .entries) items 0 table → take n tickets ≡ hitTickets (w .entries) items 0 table → q ≡ queueWithout (take (min n 6) tickets) queue
+      → t ≡ afterAborts (w .entries) items 0 table → take n tickets ≡ hitTickets (w .entries) items 0 table → q ≡ queueWithout (take (min n 6) tickets) queue
       → commits ≡ bump (counts .commits) → aborted ≡ min (counts .aborted + n) 4_294_967_295
       → _≡_ {A = Ending}
       (record { turn = markApplying turn; counts = withCommit counts commits (counts .committed) aborted; table = t; queue = q; gone = take n tickets })

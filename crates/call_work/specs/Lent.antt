@@ -15,7 +15,7 @@ use Rattle.memory.specs.Rows.{closed, rowOf}
 use Rattle.memory.specs.Turns.{markApplying}
 use Rattle.engine.specs.Calls.{Answer}
 use Rattle.engine.specs.Calls.Answer.{refused, worked}
-use Rattle.engine.specs.Moves.{spared, hitTickets, queueWithout}
+use Rattle.engine.specs.Moves.{afterAborts, hitTickets, queueWithout}
 use Rattle.call_work.specs.declared.Ended.{Ended}
 use Rattle.call_work.specs.declared.WorkAnswer.{WorkAnswer}
 use Rattle.call_work.specs.declared.WorkAnswer.the-variants.{Worked, Refused}
@@ -67,7 +67,7 @@ endingOf mine w turn counts table queue items =
     record {
       turn = cond mine turn (markApplying turn);
       counts = withCommit counts (bump (counts .commits)) (cond mine (bump (counts .committed)) (counts .committed)) (min (counts .aborted + length gone) 4_294_967_295);
-      table = cond mine (set table (rowOf (w .ticket) table) closed) (spared (w .entries) items 0 table);
+      table = cond mine (set table (rowOf (w .ticket) table) closed) (afterAborts (w .entries) items 0 table);
       queue = cond mine queue (queueWithout gone queue);
       gone = gone;
     }

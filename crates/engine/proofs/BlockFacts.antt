@@ -10,7 +10,7 @@ use lib.Seq.{slice, take-take}
 use borrow.Author.Tests.{eqb-true, eqb-false, eq-eqb, lt-ltb}
 use Rattle.block.specs.Message.{Record, Message, within, kindFits, valid}
 use Rattle.block.specs.Form.{recordOf, recordsOf, messageOf}
-use Rattle.block.specs.Answers.{readRefusal, headerOf, recordAt}
+use Rattle.block.specs.Answers.{blockRefusal, headerOf, recordAt}
 use Rattle.block.specs.Theorems.{noRecord}
 use Rattle.block.proofs.BoolLaws.{both, is-within}
 use Rattle.block.proofs.ListLaws.{part-in}
@@ -52,7 +52,7 @@ pub record TakenBlock (b : List ℕ) : Type 0 where
   pub some : (getD b 0 0 ≡ 1 → ⊥) → 0 < getD b 3 0
   pub ticket : (j : ℕ) → j < getD b 3 0 → (1 ≤ recordAt b j .ticket) × (recordAt b j .ticket ≤ 100_000_000)
 
-pub taken-block : (b : List ℕ) → readRefusal b ≡ 0 → TakenBlock b
+pub taken-block : (b : List ℕ) → blockRefusal b ≡ 0 → TakenBlock b
 unfolding messageOf headerOf
 taken-block b e =
     let t = is-taken b e in

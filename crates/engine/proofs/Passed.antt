@@ -9,7 +9,7 @@ use lib.ListN.{length, getD}
 use borrow.Author.Tests.{eqb-true, eqb-false, eq-eqb, ne-eqb, ltb-false, leb-false, not-false}
 use Rattle.block.proofs.AnswerLaws.{not-refused}
 use Rattle.block.proofs.BoolLaws.{Both, both}
-use Rattle.block.specs.Answers.{readRefusal, headerOf, recordAt}
+use Rattle.block.specs.Answers.{blockRefusal, headerOf, recordAt}
 use Rattle.memory.specs.Memory.{Memory, maxTickets}
 use Rattle.memory.specs.Rows.{freeRow, writeCount}
 use Rattle.memory.specs.Turns.{isEmpty}
@@ -109,7 +109,7 @@ withdraw-passed m t e =
 pub record DeliverPassed (m : Memory) (b : List ℕ) : Type 0 where
   pub places : length (m .blocks .places) ≡ 512 * m .counts .replicas
   pub long : length b ≡ 512
-  pub taken : readRefusal b ≡ 0
+  pub taken : blockRefusal b ≡ 0
   pub replicas : headerOf b .replicas ≡ m .counts .replicas
   pub low : m .turn .slot ≤ headerOf b .slot
   pub high : headerOf b .slot < m .turn .slot + m .counts .replicas

@@ -5,12 +5,12 @@ use mathlib.Core.List.{List}
 use lib.IntN.{ℤ}
 use lib.ListN.{length}
 use borrow.Author.Tests.{eq-eqb}
-use Rattle.block.specs.Numbers.{bytesOf, numberOf, valueBytes, valueOf}
+use Rattle.block.specs.Numbers.{bytesOf, numberFrom, valueBytes, valueOf}
 use Rattle.block.specs.Check.{word, sumTo, weightedTo, firstCheck, secondCheck, checkBytes, checkMatches}
 use Rattle.block.specs.Message.{ownerOf, within, kindFits, entriesFit, recordFits, recordsFit, ticketAbsent, ticketsDiffer, valid}
 use Rattle.block.specs.Bytes.{entryBytes, entriesBytes, recordBytes, recordsBytes, headerFor, headerBytes, bodyBytes, blockOf}
 use Rattle.block.specs.Form.{entryOf, entriesOf, recordOf, recordsOf, messageOf, allZero, entriesPadded, recordPadded, recordsPadded, padded, wellFormed}
-use Rattle.block.specs.Answers.{firstOf, readRefusal, headerOf, recordAt, entryAt}
+use Rattle.block.specs.Answers.{firstOf, blockRefusal, headerOf, recordAt, entryAt}
 use Rattle.memory.specs.Memory.{Memory, bump}
 use Rattle.memory.specs.Rows.{openCount}
 use Rattle.engine.specs.Calls as calls
@@ -42,7 +42,7 @@ restarts = record {
 }
 
 pub worked-restarts : WorkedRestarts
-unfolding bytesOf numberOf valueBytes valueOf word sumTo weightedTo firstCheck secondCheck checkBytes checkMatches ownerOf within kindFits entriesFit recordFits recordsFit ticketAbsent ticketsDiffer valid entryBytes entriesBytes recordBytes recordsBytes headerFor headerBytes bodyBytes blockOf entryOf entriesOf recordOf recordsOf messageOf allZero entriesPadded recordPadded recordsPadded padded wellFormed firstOf readRefusal headerOf recordAt entryAt bump openCount madeMemory placesFit partsFit reportOf entriesFor applied stamped isGood blocksFrom writesetsFrom commitAll commitBlocks highestTicket highestOwn ownWritesets lastOwn restartedMemory restartRefusal restartStep
+unfolding bytesOf numberFrom valueBytes valueOf word sumTo weightedTo firstCheck secondCheck checkBytes checkMatches ownerOf within kindFits entriesFit recordFits recordsFit ticketAbsent ticketsDiffer valid entryBytes entriesBytes recordBytes recordsBytes headerFor headerBytes bodyBytes blockOf entryOf entriesOf recordOf recordsOf messageOf allZero entriesPadded recordPadded recordsPadded padded wellFormed firstOf blockRefusal headerOf recordAt entryAt bump openCount madeMemory placesFit partsFit reportOf entriesFor applied stamped isGood blocksFrom writesetsFrom commitAll commitBlocks highestTicket highestOwn ownWritesets lastOwn restartedMemory restartRefusal restartStep
 worked-restarts = record {
   empty = refl;
   long = refl;

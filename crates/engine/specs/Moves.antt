@@ -179,9 +179,9 @@ abbrev pub isHit : List Entry → List ℕ → ℕ → Txn → Bool
 isHit es items r t = isOpen t && (ltb (t .stage) 2 && shares (itemsOf r t items) es)
 
 -- the table with those rows closed, and their tickets, rising
-unfoldable pub spared : List Entry → List ℕ → ℕ → List Txn → List Txn
-spared es items r [] = []
-spared es items r (t ∷ ts) = cond (isHit es items r t) closed t ∷ spared es items (suc r) ts
+unfoldable pub afterAborts : List Entry → List ℕ → ℕ → List Txn → List Txn
+afterAborts es items r [] = []
+afterAborts es items r (t ∷ ts) = cond (isHit es items r t) closed t ∷ afterAborts es items (suc r) ts
 
 unfoldable pub insertRising : ℕ → List ℕ → List ℕ
 insertRising x [] = x ∷ []
@@ -255,7 +255,7 @@ commitWriteset m mine w =
       turn = cond (isLast m) (advance (m .turn)) (cond mine (m .turn) (markApplying (m .turn)));
       counts = withDone c (cond (isLast m) 0 (m .counts .done + 1));
       txns = record {
-        table = cond mine (set (x .table) (rowOf (w .ticket) (x .table)) closed) (spared es (x .items) 0 (x .table));
+        table = cond mine (set (x .table) (rowOf (w .ticket) (x .table)) closed) (afterAborts es (x .items) 0 (x .table));
         queue = cond mine (x .queue) (queueWithout gone (x .queue));
         items = x .items;
         writes = x .writes;

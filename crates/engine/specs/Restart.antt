@@ -6,7 +6,7 @@ use lib.Dec.{eqb}
 use lib.IntN.{ℤ, pos}
 use lib.ListN.{length, getD, take, drop, replicate}
 use Rattle.block.specs.Message.{Record}
-use Rattle.block.specs.Answers.{refuse, firstOf, readRefusal, headerOf}
+use Rattle.block.specs.Answers.{refuse, firstOf, blockRefusal, headerOf}
 use Rattle.memory.specs.Memory.{Store, Memory, bump}
 use Rattle.memory.specs.Rows.{closed}
 use Rattle.engine.specs.Calls.{Outcome, outcome, unless}
@@ -18,7 +18,7 @@ use Rattle.engine.specs.Moves.{writesetAt, applied, stamped}
 
 -- 512 bytes with a good check and form, of a group of n
 unfoldable pub isGood : ℕ → List ℕ → Bool
-isGood n b = eqb (readRefusal b) 0 && eqb (headerOf b .replicas) n
+isGood n b = eqb (blockRefusal b) 0 && eqb (headerOf b .replicas) n
 
 -- block by block, from slot s on and at most `most`, up to one that is torn, fails its check or form, has another N or is not the next slot
 unfoldable pub blocksFrom : ℕ → ℕ → ℕ → List ℕ → List (List ℕ)

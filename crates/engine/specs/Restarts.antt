@@ -54,9 +54,9 @@ pub record WorkedRestarts : Type 0 where
   pub empty : restartOf 2 0 [] .answer ≡ restarted 0 noBlock
   -- the highest ticket is not in the last own block: 9 given, 3 of them committed, all others aborted
   pub long : restartOf 2 0 longJournal .answer ≡ restarted 3 lastBlock
-  pub report : reportOf (restartOf 2 0 longJournal .memory) ≡ record { turn = 3; commits = 3; tickets = 9; active = 0; committed = 3; «read_only» = 0; aborted = 6; withdrawn = 0 }
+  pub report : reportOf (restartOf 2 0 longJournal .memory) ≡ record { turn = 3; commits = 3; tickets = 9; «open_count» = 0; committed = 3; «read_only» = 0; aborted = 6; withdrawn = 0 }
   -- another's tickets give nothing
-  pub others : reportOf (restartOf 2 1 longJournal .memory) ≡ record { turn = 3; commits = 3; tickets = 0; active = 0; committed = 0; «read_only» = 0; aborted = 0; withdrawn = 0 }
+  pub others : reportOf (restartOf 2 1 longJournal .memory) ≡ record { turn = 3; commits = 3; tickets = 0; «open_count» = 0; committed = 0; «read_only» = 0; aborted = 0; withdrawn = 0 }
   -- a torn block
   pub torn : restartOf 2 0 (nextBlock 2 0 0 ++ take 511 (nextBlock 2 1 1)) .answer ≡ restarted 1 (nextBlock 2 0 0)
   -- not the next slot

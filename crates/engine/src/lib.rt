@@ -6,7 +6,7 @@ pub struct Report {
     pub turn: u32,
     pub commits: u32,
     pub tickets: u32,
-    pub active: u32,
+    pub open_count: u32,
     pub committed: u32,
     pub read_only: u32,
     pub aborted: u32,

@@ -83,8 +83,8 @@ fn put_report(out: &mut [u8; 65536], at: usize, report: Report) -> usize {
     let turn = put_number(&mut *out, at, report.turn);
     let commits = put_number(&mut *out, turn, report.commits);
     let tickets = put_number(&mut *out, commits, report.tickets);
-    let active = put_number(&mut *out, tickets, report.active);
-    let committed = put_number(&mut *out, active, report.committed);
+    let opened = put_number(&mut *out, tickets, report.open_count);
+    let committed = put_number(&mut *out, opened, report.committed);
     let read_only = put_number(&mut *out, committed, report.read_only);
     let aborted = put_number(&mut *out, read_only, report.aborted);
     put_number(&mut *out, aborted, report.withdrawn)

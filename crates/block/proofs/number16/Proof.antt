@@ -4,7 +4,7 @@ use mathlib.Core.Path.{_≡_, refl, sym, ap, _∙_}
 use native.Mathlib.Nat.{add-assoc, add-zero, mul-zero}
 use native.Mathlib.Omega.{arith}
 use lib.Seq.{slice}
-use Rattle.block.specs.Numbers.{numberOf}
+use Rattle.block.specs.Numbers.{numberFrom}
 use Rattle.block.proofs.NumberLaws.{number-more, number-none}
 use borrow.Author.Needs.{needs}
 use Rattle.block.proofs.number16.Statement.{statement}

@@ -9,7 +9,7 @@ use lib.Dec.{eqb}
 use lib.ListN.{length, drop}
 use lib.Seq.{slice}
 use Rattle.block.specs.Form.{allZero}
-use Rattle.block.specs.Numbers.{numberOf}
+use Rattle.block.specs.Numbers.{numberFrom}
 use Rattle.block.proofs.FormLaws.{eight-start, eight-differ, eight-next, eight-end}
 use Rattle.block_form.proofs.zero.Statement.{statement}
 use Rattle.block_form.proofs.zero.Tie as tie

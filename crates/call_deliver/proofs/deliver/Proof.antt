@@ -6,7 +6,7 @@ use native.Mathlib.Omega.{arith}
 use borrow.Author.Tests.{not-true, not-false}
 use borrow.Author.Needs.{needs}
 use lib.ListN.{length}
-use Rattle.block.specs.Answers.{readRefusal, headerOf}
+use Rattle.block.specs.Answers.{blockRefusal, headerOf}
 use Rattle.call_deliver.specs.Lent.{lengthsFit, deliverParts}
 use Rattle.call_deliver.proofs.DeliverLaws.{reader-took, deliver-lengths, deliver-unread, deliver-refused, deliver-kept, lengths-long, place-in, part-long, group-some}
 use Rattle.call_deliver.proofs.deliver.Statement.{statement}
@@ -51,7 +51,7 @@ returns-2 c = λ m.
 -- the reader took the bytes, and the header is theirs
 took : (c : tie.After-read)
     → let a = c .before .before .before .before .before .before .before .before .before .args in
-    (readRefusal (a .bytes .now) ≡ 0) × (c .read .given .0 .0 ≡ headerOf (a .bytes .now))
+    (blockRefusal (a .bytes .now) ≡ 0) × (c .read .given .0 .0 ≡ headerOf (a .bytes .now))
 took c = let b = c .before .before in reader-took _ (b .read-block .result) _ (c .read .given .1) (b .read-block .ensures)
 
 refusal-requires : tie.Need-refusal-requires
