@@ -16,6 +16,7 @@ use Rattle.block.proofs.BoolLaws.{both, joined}
 use Rattle.block.proofs.MessageLaws.{message-facts}
 use Rattle.block.proofs.AnswerLaws.{is-taken, is-formed}
 use Rattle.memory.specs.Memory.{Memory}
+use Rattle.memory.specs.Turns.{isOn}
 use Rattle.engine.specs.Moves.{isOwnBlock, notSentHere, deliverRefusal, deliverNow}
 use Rattle.engine.specs.Step.{step}
 use Rattle.engine.specs.Step.Call.{deliver}
@@ -106,7 +107,7 @@ module _ (n : ℕ) (start : List ℤ) (m : Memory) (S : Sound n m) (b : List ℕ
     below = rw (S .size) at (k .high)
 
     -- an own block, the turn's being sent, is for the turn
-    turns : headerOf b .sender ≡ m .counts .own → m .turn .sent ≡ true → slot ≡ m .turn .slot
+    turns : headerOf b .sender ≡ m .counts .own → isOn (m .turn .sent) ≡ true → slot ≡ m .turn .slot
     turns o u = at-turn n (m .turn .slot) slot (k .low) below (sym (rw (k .replicas, S .size) at (sender-owns b (k .taken))) ∙ o ∙ sym (S .ours u))
 
     own-sent : eqb (messageIn b .sender) (m .counts .own) && not (sentForTurn (setup n start) (view m) (messageIn b)) ≡ false

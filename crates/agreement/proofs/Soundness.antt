@@ -11,7 +11,7 @@ use Rattle.block.specs.Message.{Record, ownerOf, signed32}
 use Rattle.memory.specs.declared.Txn.{Txn}
 use Rattle.memory.specs.Memory.{Memory}
 use Rattle.memory.specs.Rows.{writeCount, itemsOf, countBelow, insertAt}
-use Rattle.memory.specs.Turns.{markApplying, advance}
+use Rattle.memory.specs.Turns.{isOn, markApplying, advance}
 use Rattle.engine.specs.Calls.{Outcome}
 use Rattle.engine.specs.Make.{madeMemory}
 use Rattle.engine.specs.Client.{rowNo, rowIn, beginAt, rewriteAt, insertWrite, staleAt, readOnlyAt, queueAt, withdrawAt, reportStep}
@@ -34,7 +34,7 @@ Fits l = (i : ℕ) → signed32 (getD l i (pos 0)) ≡ true
 record Rest (n : ℕ) (m : Memory) : Type 0 where
   size : m .counts .replicas ≡ n
   fits : Fits (m .txns .writes)
-  ours : m .turn .sent ≡ true → ownerOf n (m .turn .slot) ≡ m .counts .own
+  ours : isOn (m .turn .sent) ≡ true → ownerOf n (m .turn .slot) ≡ m .counts .own
 
 -- ---- a value put into the list
 
@@ -122,7 +122,7 @@ module _ (n : ℕ) (m : Memory) (s : Rest n m) where
   unfolding commitWriteset
   writeset-rests mine w = record { size = s .size; fits = s .fits; ours = go (isLast m) mine }
     where
-      go : (last own : Bool) → cond last (advance (m .turn)) (cond own (m .turn) (markApplying (m .turn))) .sent ≡ true
+      go : (last own : Bool) → isOn (cond last (advance (m .turn)) (cond own (m .turn) (markApplying (m .turn))) .sent) ≡ true
           → ownerOf n (cond last (advance (m .turn)) (cond own (m .turn) (markApplying (m .turn))) .slot) ≡ m .counts .own
       go true own q = clash {b = false} q refl
       go false true q = s .ours q

@@ -12,6 +12,7 @@ use Rattle.block.specs.Message.{ownerOf, signed32}
 use Rattle.block.specs.Writing.{entriesFrom}
 use Rattle.memory.specs.declared.Txn.{Txn}
 use Rattle.memory.specs.Memory.{Transactions, Memory, maxTickets, maxSlots}
+use Rattle.memory.specs.Turns.{isOn}
 use Rattle.memory.specs.Rows.{isOpen, writeCount, itemsOf}
 use Rattle.engine.specs.Calls.{Outcome}
 use Rattle.engine.specs.Moves.{waiting}
@@ -61,7 +62,7 @@ unfoldable pub placeAt : List ℕ → ℕ → Option (Message ℤ)
 placeAt places p = cond (eqb (getD places (512 * p) 0) 0) none (some (messageIn (slice (512 * p) (512 * p + 512) places)))
 
 abbrev pub cursorOf : Memory → Cursor
-cursorOf m = record { turn = m .turn .slot; sent = m .turn .sent; applying = m .turn .applying; done = m .counts .done }
+cursorOf m = record { turn = m .turn .slot; sent = isOn (m .turn .sent); applying = isOn (m .turn .applying); done = m .counts .done }
 
 abbrev pub storeOf : Memory → Store ℤ
 storeOf m = record { commits = m .counts .commits; values = m .store .values; stamps = λ i. getD (m .store .stamps) i 0 }
@@ -78,7 +79,7 @@ pub record Sound (n : ℕ) (m : Memory) : Type 0 where
   pub shape : Shape over m
   pub size : m .counts .replicas ≡ n
   pub fits : (i : ℕ) → signed32 (getD (m .txns .writes) i (pos 0)) ≡ true
-  pub ours : m .turn .sent ≡ true → ownerOf n (m .turn .slot) ≡ m .counts .own
+  pub ours : isOn (m .turn .sent) ≡ true → ownerOf n (m .turn .slot) ≡ m .counts .own
 
 -- ---- the calls
 

@@ -16,7 +16,7 @@ use Rattle.memory.specs.declared.Turn.{Turn}
 use Rattle.memory.specs.declared.Txn.{Txn}
 use Rattle.memory.specs.Memory.{Memory, bump}
 use Rattle.memory.specs.Rows.{rowOf, rowAt}
-use Rattle.memory.specs.Turns.{markApplying}
+use Rattle.memory.specs.Turns.{isOn, markApplying}
 use Rattle.engine.specs.Calls.{Step, Outcome}
 use Rattle.engine.specs.Calls.Answer.{worked}
 use Rattle.engine.specs.Moves.{waiting, blockAtTurn, writesetAt, hitTickets, workRefusal, turnBlocks, passNext, isLast, commitWriteset}
@@ -86,8 +86,8 @@ abbrev turnAfter : Turn → Bool → Bool → Turn
 turnAfter t mine last = cond last (Rattle.memory.specs.Turns.advance t) (cond mine t (markApplying t))
 
 cursor-same : (t : Turn) (done total : ℕ) (mine last : Bool) → bump (t .slot) ≡ suc (t .slot) → eqb (suc done) total ≡ last
-    → cursorAfter total (not mine) (record { turn = t .slot; sent = t .sent; applying = t .applying; done = done })
-    ≡ record { turn = turnAfter t mine last .slot; sent = turnAfter t mine last .sent; applying = turnAfter t mine last .applying; done = cond last 0 (done + 1) }
+    → cursorAfter total (not mine) (record { turn = t .slot; sent = isOn (t .sent); applying = isOn (t .applying); done = done })
+    ≡ record { turn = turnAfter t mine last .slot; sent = isOn (turnAfter t mine last .sent); applying = isOn (turnAfter t mine last .applying); done = cond last 0 (done + 1) }
 unfolding cursorAfter
 cursor-same t done total true true u e = rw (e, u)
 cursor-same t done total false true u e = rw (e, u)

@@ -21,7 +21,7 @@ use Rattle.block.proofs.BoolLaws.{both}
 use Rattle.memory.specs.declared.Counts.{Counts}
 use Rattle.memory.specs.declared.Turn.{Turn}
 use Rattle.memory.specs.Memory.{Memory, withBlocks}
-use Rattle.memory.specs.Turns.{placeStart}
+use Rattle.memory.specs.Turns.{isOn, placeStart}
 use Rattle.engine.specs.Calls.{outcome}
 use Rattle.engine.specs.Calls.Answer.{refused, kept}
 use Rattle.engine.specs.Make.{madeMemory}
@@ -139,7 +139,7 @@ module _ (m : Memory) (bytes : List ℕ) where
           (refuse 16 (not (eqb (h .replicas) (m .counts .replicas)))
           ∷ refuse 17 (ltb (h .slot) (m .turn .slot))
           ∷ refuse 18 (leb (m .turn .slot + m .counts .replicas) (h .slot))
-          ∷ refuse 19 (eqb (h .sender) (m .counts .own) && not (m .turn .sent && sameBytes bytes (m .blocks .outbox)))
+          ∷ refuse 19 (eqb (h .sender) (m .counts .own) && not (isOn (m .turn .sent) && sameBytes bytes (m .blocks .outbox)))
           ∷ refuse 20 (not (eqb (getD (m .blocks .places) (placeStart (m .counts .replicas) (h .slot)) 0) 0))
           ∷ [])
       unfolding deliverRefusal firstOf
@@ -166,7 +166,7 @@ module _ (m : Memory) (bytes : List ℕ) where
               )
 
           module _ (high : h .slot - m .turn .slot < m .counts .replicas) (own : Bool)
-              (foreign : own ≡ eqb (h .sender) (m .counts .own) && not (m .turn .sent && sameBytes bytes (m .blocks .outbox))) where
+              (foreign : own ≡ eqb (h .sender) (m .counts .own) && not (isOn (m .turn .sent) && sameBytes bytes (m .blocks .outbox))) where
             pub refused-own : own ≡ true → 19 ≡ deliverRefusal m bytes
             unfolding firstOf
             refused-own e =

@@ -6,7 +6,7 @@ ghost use lib.Dec.{eqb};
 ghost use lib.ListN.{length};
 ghost use Rattle.block.specs.Answers.{headerOf, blockRefusal};
 ghost use Rattle.memory.specs.Memory.{Memory};
-ghost use Rattle.memory.specs.Turns.{placeStart};
+ghost use Rattle.memory.specs.Turns.{isOn, placeStart};
 ghost use Rattle.engine.specs.Calls.{outcome};
 ghost use Rattle.engine.specs.Moves.{sameBytes, deliverRefusal, deliverStep};
 ghost use Rattle.call_deliver.specs.Lent.{lengthsFit, deliverAnswer, deliverParts};
@@ -52,12 +52,12 @@ fn same_bytes(a: &[u8], b: &[u8]) -> bool
 
 // Whether a block names this replica as its sender and is not the one it sent for its present turn.
 fn not_sent_here(turn: Turn, own: u8, sender: u8, outbox: &[u8], bytes: &[u8]) -> bool
-    ensures { λ r. ⌜ r ≡ (eqb sender own && not (turn .sent && sameBytes (now (bytes .entry)) (now (outbox .entry)))) ⌝ }
+    ensures { λ r. ⌜ r ≡ (eqb sender own && not (isOn (turn .sent) && sameBytes (now (bytes .entry)) (now (outbox .entry)))) ⌝ }
 {
     if sender != own {
         return false;
     }
-    if !turn.sent {
+    if turn.sent == 0 {
         return true;
     }
     !same_bytes(bytes, outbox)

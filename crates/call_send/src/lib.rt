@@ -77,7 +77,7 @@ fn refusal(
     if owned.replica != counts.own as u32 {
         return 11;
     }
-    if turn.sent {
+    if turn.sent != 0 {
         return 12;
     }
     0

@@ -220,7 +220,7 @@ fn end_other(
         turn: Turn {
             slot: turn.slot,
             sent: turn.sent,
-            applying: true,
+            applying: 1,
         },
         counts: after,
         table: rows,

@@ -134,7 +134,7 @@ pub fn write_row(
     if t.stage != 0 {
         return kept(4, t, counts);
     }
-    if turn.applying {
+    if turn.applying != 0 {
         return kept(7, t, counts);
     }
     write_at(

@@ -18,7 +18,7 @@ use Rattle.memory.specs.declared.Turn.{Turn}
 use Rattle.memory.specs.declared.Txn.{Txn}
 use Rattle.memory.specs.Memory.{Transactions, Store, Blocks, Memory, maxSlots, bump, writesLent, placesLent, withDone, withCommit, withTable, withTxns, withBlocks, withTurn}
 use Rattle.memory.specs.Rows.{closed, isOpen, rowOf, rowAt, writeCount, itemsOf, has}
-use Rattle.memory.specs.Turns.{markSent, markApplying, advance, placeStart, blockIn, isEmpty, emptied}
+use Rattle.memory.specs.Turns.{isOn, markSent, markApplying, advance, placeStart, blockIn, isEmpty, emptied}
 use Rattle.engine.specs.Calls.{Step, Outcome, outcome, unless}
 use Rattle.engine.specs.Calls.Answer.{sent, kept, worked}
 
@@ -63,7 +63,7 @@ othersTurn m = not (eqb (ownerOf (m .counts .replicas) (m .turn .slot)) (m .coun
 
 -- 12: sent already for this slot
 abbrev pub sentAlready : Memory → Bool
-sentAlready m = m .turn .sent
+sentAlready m = isOn (m .turn .sent)
 
 unfoldable pub sendRefusal : Memory → List ℕ → ℕ
 sendRefusal m block =
@@ -95,7 +95,7 @@ sameBytes (x ∷ xs) (y ∷ ys) = eqb x y && sameBytes xs ys
 
 -- the block that the replica sent for its present turn
 abbrev pub isOwnBlock : Memory → List ℕ → Bool
-isOwnBlock m bytes = m .turn .sent && sameBytes bytes (m .blocks .outbox)
+isOwnBlock m bytes = isOn (m .turn .sent) && sameBytes bytes (m .blocks .outbox)
 
 abbrev pub deliverLent : Memory → List ℕ → Bool
 deliverLent m bytes = placesLent m && (eqb (length (m .blocks .outbox)) 512 && eqb (length bytes) 512)

@@ -100,7 +100,7 @@ repeated own bs = ownWritesets own bs - highestOwn own bs
 -- the blocks committed and nothing else there: tickets up to the highest in own blocks are given, those in no own block count as aborted
 unfoldable pub restartedMemory : ℕ → ℕ → List ℤ → List (List ℕ) → Memory
 restartedMemory n own values bs = record {
-  turn = record { slot = length bs; sent = false; applying = false };
+  turn = record { slot = length bs; sent = 0; applying = 0 };
   counts = record {
     replicas = n;
     own = own;

@@ -28,7 +28,7 @@ impl Turn {
     {
         Turn {
             slot: self.slot,
-            sent: true,
+            sent: 1,
             applying: self.applying,
         }
     }
@@ -38,8 +38,8 @@ impl Turn {
     {
         Turn {
             slot: bump(self.slot),
-            sent: false,
-            applying: false,
+            sent: 0,
+            applying: 0,
         }
     }
 }
