@@ -1,2 +1,2 @@
--- Each reply from the call's outcome.
+-- Replies from outcomes.
 pub mod ReplyLaws

@@ -1,2 +1,3 @@
--- What a host is answered.
+-- What a call is lent, and what it answers a host.
+pub mod Parts
 pub mod Replies

@@ -1,15 +1,14 @@
 -- What a call hands a host beside the memory: each reply is a function of the call's outcome.
 use Prim.Native.Nat.{ℕ, _-_}
-use mathlib.Core.Bool.{Bool, true, false, cond}
+use mathlib.Core.Path.{_≡_}
+use mathlib.Core.Bool.{Bool, true, false}
 use mathlib.Core.List.{List, [], _++_}
-use lib.Dec.{eqb}
 use lib.IntN.{ℤ, pos}
 use lib.ListN.{length, replicate}
+use Rattle.memory.specs.Memory.{Memory}
 use Rattle.engine.specs.declared.Report.{Report}
 use Rattle.engine.specs.Calls.{Step, Answer, numberOf, Outcome}
 use Rattle.engine.specs.Calls.Answer.{refused, made, began, got, wrote, queued, readOnly, withdrew, reported, sent, kept, worked, restarted}
-use Rattle.call_client.specs.declared.Answered.{Answered}
-use Rattle.call_client.specs.declared.Answered.the-variants as done
 use Rattle.call_reply.specs.declared.Reply.{Reply}
 use Rattle.call_reply.specs.declared.BeginReply.{BeginReply}
 use Rattle.call_reply.specs.declared.ReadReply.{ReadReply}
@@ -138,13 +137,27 @@ workReply o =
       counts = o .memory .counts;
     }
 
--- ---- for the helpers' contracts
+-- ---- what a contract says
 
--- the number of a call that gives nothing
-abbrev pub plainNumber : Answered → ℕ
-plainNumber done.Accepted = 0
-plainNumber (done.Refused n) = n
+-- the reply is that of the outcome, and what is left is its memory
+abbrev pub Gives : {R : Type 0} → (Outcome → R) → Outcome → R → Memory → Type 0
+Gives of o r left = (r ≡ of o) × (left ≡ o .memory)
 
--- a step that moves the turn advances it; one of another's writesets sets the applying mark (the numbers of `moved`)
-abbrev pub turnChange : Bool → ℕ → ℕ → ℕ
-turnChange moves sender own = cond moves 3 (cond (eqb sender own) 0 2)
+-- a send also leaves its block in the lent bytes, or what was there
+abbrev pub blockLeft : Answer → List ℕ → List ℕ
+blockLeft (sent b) old = b
+blockLeft (refused n) old = old
+blockLeft made old = old
+blockLeft (began t) old = old
+blockLeft (got v) old = old
+blockLeft wrote old = old
+blockLeft queued old = old
+blockLeft readOnly old = old
+blockLeft withdrew old = old
+blockLeft (reported r) old = old
+blockLeft kept old = old
+blockLeft (worked s) old = old
+blockLeft (restarted c b) old = old
+
+abbrev pub GivesBlock : Outcome → List ℕ → ℕ → Memory → List ℕ → Type 0
+GivesBlock o lent r left block = Gives number o r left × (block ≡ blockLeft (o .answer) lent)

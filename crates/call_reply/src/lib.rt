@@ -1,9 +1,9 @@
-// What a host is answered, and the calls of a client by value: what stands between a host's lent parts and the engine.
+// What a call answers a host, in numbers, and what it hands back beside that.
 use engine::Report;
 use memory::Counts;
+use memory::Turn;
 use memory::Txn;
 
-pub mod client_calls;
 pub mod replies;
 
 // The replica's numbers after the call, and document 01's number, 0 where it is accepted; so in the replies below. The counts stand first: behind a byte and padding
@@ -56,7 +56,7 @@ pub struct WorkReply {
     pub counts: Counts,
 }
 
-// A reply beside the record of the transaction's row after the call.
+// A reply, and the record of the transaction's row after the call.
 pub struct Changed {
     pub reply: Reply,
     pub row: Txn,
@@ -70,4 +70,23 @@ pub struct Begun {
 pub struct Asked {
     pub reply: AskReply,
     pub row: Txn,
+}
+
+// A reply, and the turn and all rows after the call.
+pub struct Made {
+    pub reply: Reply,
+    pub turn: Turn,
+    pub rows: [Txn; 6],
+}
+
+pub struct Sent {
+    pub number: u8,
+    pub turn: Turn,
+    pub rows: [Txn; 6],
+}
+
+pub struct Worked {
+    pub reply: WorkReply,
+    pub turn: Turn,
+    pub rows: [Txn; 6],
 }
