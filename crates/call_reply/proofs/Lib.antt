@@ -1,2 +1,3 @@
--- Replies from outcomes.
+-- Replies from outcomes, and calls with a lent table.
 pub mod ReplyLaws
+pub mod CalledLaws

@@ -35,7 +35,6 @@ use Rattle.memory.specs.declared.Txn.{Txn}
 use Rattle.memory.specs.declared.Turn.{Turn}
 use Rattle.memory.specs.Rows.{closed, rowAt, rowFrom, rowOf}
 use Rattle.host_table.specs.Table.{loaded, stored}
-use Rattle.host_table.specs.Turns.{moved}
 use Rattle.host_table.proofs.Lend.{MutAt, ShrAt, MutOf, ShrOf}
 use Rattle.host_table.proofs.Steps.{either}
 use Rattle.host_table.proofs.Answers.{answers}
@@ -49,7 +48,7 @@ use Rattle.host_table.proofs.row as row
 use Rattle.host_table.proofs.put as put
 use Rattle.host_table.proofs.end as end
 use Rattle.host_table.proofs.copy_turn as copy-turn
-use Rattle.host_table.proofs.move_turn as move-turn
+use Rattle.host_table.proofs.set_turn as set-turn
 
 module _ {M : Type 1} (𝓤 : URA M) (H : Heap 𝓤) (A : Atoms 𝓤) (mem : Memory → SProp 𝓤) (run : Routine → Fun 𝓤) where
   abbrev pub Load : Contract 𝓤
@@ -76,8 +75,8 @@ module _ {M : Type 1} (𝓤 : URA M) (H : Heap 𝓤) (A : Atoms 𝓤) (mem : Mem
   abbrev pub CopyTurn : Contract 𝓤
   CopyTurn = tripleOf 𝓤 H A copy-turn.signature (copy-turn.spec 𝓤 H A mem run)
 
-  abbrev pub MoveTurn : Contract 𝓤
-  MoveTurn = tripleOf 𝓤 H A move-turn.signature (move-turn.spec 𝓤 H A mem run)
+  abbrev pub SetTurn : Contract 𝓤
+  SetTurn = tripleOf 𝓤 H A set-turn.signature (set-turn.spec 𝓤 H A mem run)
 
 abbrev at-ref : {X : Type 0} → ℕ → ℕ → GName → X → RefT X
 at-ref b o δ h = record { ptr = (b, o); name = δ; now = h }
@@ -207,20 +206,20 @@ module _ {M : Type 1} (𝓤 : URA M) (H : Heap 𝓤) (A : Atoms 𝓤) (W : Given
     pub gives-copy : (ν : ℕ) (δ : GName) (u : Val) → ent 𝓤 (CopyTurn 𝓤 H A mem run .post (to-copy ν δ) u) (H .⇛ (guard 𝓤 (Is U.R h (u ∷ [])) (sep 𝓤 (A .lft (ν ∷ []) fullShare) (emp 𝓤))))
     gives-copy ν δ u = answers 𝓤 H A W copy-turn.ended (copy-turn.clauses 𝓤 H A mem run) (to-copy ν δ) h (λ r e. id⊢ 𝓤 _) u
 
-  -- ---- move_turn, by the number n
-  module _ (b o : ℕ) (h : Turn) (n : ℕ) (gn : n < 2 ^ 8) where
-    abbrev pub to-move : ℕ → GName → MoveTurn 𝓤 H A mem run .Ghost
-    to-move ν δ = (((ν ∷ [], tt), (fullShare, tt), tt, (at-ref b o δ h, (n, tt)), (vptr b o ∷ [], (vint w8 n ∷ [], tt))), tt)
+  -- ---- set_turn, to the turn t whose machine value is v
+  module _ (b o : ℕ) (h t : Turn) (v : Val) where
+    abbrev pub to-turn : ℕ → GName → SetTurn 𝓤 H A mem run .Ghost
+    to-turn ν δ = (((ν ∷ [], tt), (fullShare, tt), tt, (at-ref b o δ h, (t, tt)), (vptr b o ∷ [], (v ∷ [], tt))), tt)
 
-    pub asks-move : (ν : ℕ) (δ : GName) → ent 𝓤 (sep 𝓤 (A .lft (ν ∷ []) fullShare) (sem 𝓤 H A (MutOf U.R b o (ν ∷ []) δ h))) (MoveTurn 𝓤 H A mem run .pre (to-move ν δ))
-    asks-move ν δ =
+    pub asks-turn : Is U.R t (v ∷ []) → (ν : ℕ) (δ : GName) → ent 𝓤 (sep 𝓤 (A .lft (ν ∷ []) fullShare) (sem 𝓤 H A (MutOf U.R b o (ν ∷ []) δ h))) (SetTurn 𝓤 H A mem run .pre (to-turn ν δ))
+    asks-turn is ν δ =
         qed W (‵ (flft (ν ∷ []) fullShare) ∷ ‵ (MutOf U.R b o (ν ∷ []) δ h) ∷ []) ∵ nothing ! $ move ! (1 ∷ 0 ∷ []) $ join ! $
-        nothing ! $ owned ! u8 (Is u8) (uint-makes 𝓤 H A W w8) n _ (refl, gn) $ fjoin ! $ move ! (2 ∷ 0 ∷ []) $ fjoin ! $ move ! (1 ∷ 0 ∷ []) $ join ! $ frame ! $ done !
+        nothing ! $ owned ! U.R (Is U.R) (U.makes 𝓤 H A) t (v ∷ []) is $ fjoin ! $ move ! (2 ∷ 0 ∷ []) $ fjoin ! $ move ! (1 ∷ 0 ∷ []) $ join ! $ frame ! $ done !
 
-    pub gives-move : (ν : ℕ) (δ : GName) (u : Val) → ent 𝓤 (MoveTurn 𝓤 H A mem run .post (to-move ν δ) u) (H .⇛ (guard 𝓤 (u ≡ vunit) (sep 𝓤 (A .lft (ν ∷ []) fullShare) (sem 𝓤 H A (fres δ (U.R .coded .code (moved n h)))))))
-    gives-move ν δ u =
-        qed W (raw (MoveTurn 𝓤 H A mem run .post (to-move ν δ) u) ∷ []) ∵ updating ! $
+    pub gives-turn : (ν : ℕ) (δ : GName) (u : Val) → ent 𝓤 (SetTurn 𝓤 H A mem run .post (to-turn ν δ) u) (H .⇛ (guard 𝓤 (u ≡ vunit) (sep 𝓤 (A .lft (ν ∷ []) fullShare) (sem 𝓤 H A (fres δ (U.R .coded .code t))))))
+    gives-turn ν δ u =
+        qed W (raw (SetTurn 𝓤 H A mem run .post (to-turn ν δ) u) ∷ []) ∵ updating ! $
         use1 W (later (some (λ (r : Unit {0}). ((‵ (flft (ν ∷ []) fullShare) ⊛ ‵ ftrue) ⊛ ‵ (Nothing .own r (u ∷ [])))
-        ⊛ some (λ (ws : Turn × (Unit {0} × Unit {0})). ‵ (lasts move-turn.ended (ν ∷ [], tt) (to-move ν δ .0 .3) ws) ⊛ raw (fact 𝓤 (ws .0 ≡ moved n h)))))) (id⊢ 𝓤 _) $ await ! tt $ pick ! (λ r.
-        split ! $ move ! (1 ∷ []) $ pick ! (λ ws. split ! $ move ! (1 ∷ []) $ heard ! (ws .0 ≡ moved n h) (λ e. fsplit ! $ rewrite ! 0 (λ (l : Turn). ‵ (fres δ (U.R .coded .code l))) e refl $
+        ⊛ some (λ (ws : Turn × (Unit {0} × Unit {0})). ‵ (lasts set-turn.ended (ν ∷ [], tt) (to-turn ν δ .0 .3) ws) ⊛ raw (fact 𝓤 (ws .0 ≡ t)))))) (id⊢ 𝓤 _) $ await ! tt $ pick ! (λ r.
+        split ! $ move ! (1 ∷ []) $ pick ! (λ ws. split ! $ move ! (1 ∷ []) $ heard ! (ws .0 ≡ t) (λ e. fsplit ! $ rewrite ! 0 (λ (l : Turn). ‵ (fres δ (U.R .coded .code l))) e refl $
         move ! (2 ∷ []) $ split ! $ split ! $ move ! (2 ∷ []) $ peeks ! Nothing (Is Nothing) (shows 𝓤 H A Nothing) r (u ∷ []) (λ is. drop ! $ at-once ! $ check ! (ap only (nothing-tells r _ is)) $ keep ! (0 ∷ 2 ∷ []) $ done !))))

@@ -4,5 +4,4 @@ pub mod Steps
 pub mod Answers
 pub mod Rows
 pub mod Cursor
-pub mod OneTurn
 pub mod Callees

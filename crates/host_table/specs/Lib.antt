@@ -1,3 +1,2 @@
--- What the contracts of the thin functions over a lent table and turn say.
+-- What the contracts of the thin functions over a lent table say.
 pub mod Table
-pub mod Turns

@@ -1,12 +1,9 @@
 // The table and the turn as a host lends them: a slice of small records, and a record behind a reference. Each function is thin, and defined on a table of any length;
 // what is decided is decided by value elsewhere.
 ghost use mathlib.Core.Path.{_≡_};
-ghost use mathlib.Core.Bool.{false};
 ghost use lib.ListN.{set};
 ghost use Rattle.memory.specs.Rows.{closed, rowAt, rowFrom, rowOf};
-ghost use Rattle.memory.specs.Turns.{markSent, markApplying, advance};
 ghost use Rattle.host_table.specs.Table.{loaded, stored};
-ghost use Rattle.host_table.specs.Turns.{moved};
 use memory::Turn;
 use memory::Txn;
 
@@ -110,50 +107,9 @@ pub fn copy_turn(turn: &Turn) -> Turn
     *turn
 }
 
-pub fn mark_sent(turn: &mut Turn)
-    ensures { λ _. ⌜ now (turn .exit) ≡ markSent (now (turn .entry)) ⌝ }
+// The turn as a method of the cursor by value handed it back: the next slot, or a mark set.
+pub fn set_turn(turn: &mut Turn, to: Turn)
+    ensures { λ _. ⌜ now (turn .exit) ≡ to ⌝ }
 {
-    turn.sent = true;
-}
-
-pub fn mark_applying(turn: &mut Turn)
-    ensures { λ _. ⌜ now (turn .exit) ≡ markApplying (now (turn .entry)) ⌝ }
-{
-    turn.applying = true;
-}
-
-// The turn of a replica just made.
-pub fn restart(turn: &mut Turn)
-    ensures { λ _. ⌜ now (turn .exit) ≡ record { slot = 0; sent = false; applying = false } ⌝ }
-{
-    turn.slot = 0;
-    turn.sent = false;
-    turn.applying = false;
-}
-
-// The next slot, with both marks off: as the cursor by value says.
-pub fn advance(turn: &mut Turn)
-    ensures { λ _. ⌜ now (turn .exit) ≡ advance (now (turn .entry)) ⌝ }
-{
-    let t = *turn;
-    let next = t.advance();
-    *turn = next;
-}
-
-// What a call did to the turn, by its number: 1 sent, 2 applying, 3 advanced, 4 just made, any other nothing.
-pub fn move_turn(turn: &mut Turn, change: u8)
-    ensures { λ _. ⌜ now (turn .exit) ≡ moved change (now (turn .entry)) ⌝ }
-{
-    if change == 1 {
-        mark_sent(turn);
-    }
-    if change == 2 {
-        mark_applying(turn);
-    }
-    if change == 3 {
-        advance(turn);
-    }
-    if change == 4 {
-        restart(turn);
-    }
+    *turn = to;
 }

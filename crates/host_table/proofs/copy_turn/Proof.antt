@@ -1,4 +1,4 @@
--- `lent::copy_turn` meets its contract: a walk of its MIR. The borrow is looked into, the turn is read whole, and the borrow is shut.
+-- `host_table::copy_turn` meets its contract: a walk of its MIR. The borrow is looked into, the turn is read whole, and the borrow is shut.
 -- Assumes nothing.
 use mathlib.Core.Path.{refl}
 use Prim.Native.Nat.{ℕ}

@@ -1,4 +1,4 @@
--- `lent::load` meets its contract: a walk of its MIR. The length is tested; then the slice is looked into, and each row is taken out, read and put back.
+-- `host_table::load` meets its contract: a walk of its MIR. The length is tested; then the slice is looked into, and each row is taken out, read and put back.
 -- Assumes nothing.
 use mathlib.Core.Path.{_≡_, refl, sym, ap, _∙_}
 use mathlib.Core.Bool.{Bool, cond}

@@ -1,4 +1,4 @@
--- `lent::put` meets its contract: a walk of its MIR. Where the index is in the table, its row is taken out, stored to and put back; both ways meet at the table with the row set.
+-- `host_table::put` meets its contract: a walk of its MIR. Where the index is in the table, its row is taken out, stored to and put back; both ways meet at the table with the row set.
 -- Assumes nothing.
 use mathlib.Core.Path.{refl, sym}
 use Prim.Native.Nat.{ℕ, _<_, _^_, _*_}

@@ -1,4 +1,4 @@
--- `lent::row` meets its contract: a walk of its MIR. The index is tested; then the slice is looked into, and the row is taken out, read and put back.
+-- `host_table::row` meets its contract: a walk of its MIR. The index is tested; then the slice is looked into, and the row is taken out, read and put back.
 -- Assumes nothing.
 use mathlib.Core.Path.{_≡_, refl, sym}
 use Prim.Native.Nat.{ℕ, _<_, _^_, _*_}

@@ -1,4 +1,4 @@
--- `lent::scan` meets its contract: a walk of its MIR with the loop in it. The slice is looked into once, before the loop. Invariant: the search from row 0 is the search from row i; what is left of the length goes down.
+-- `host_table::scan` meets its contract: a walk of its MIR with the loop in it. The slice is looked into once, before the loop. Invariant: the search from row 0 is the search from row i; what is left of the length goes down.
 -- Assumes nothing.
 use mathlib.Core.Path.{_≡_, refl, sym, _∙_}
 use Prim.Native.Nat.{ℕ, _≤_, _<_, _^_, _*_, _+_, _-_}

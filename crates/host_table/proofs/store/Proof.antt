@@ -1,4 +1,4 @@
--- `lent::store` meets its contract: a walk of its MIR. The length is tested; then each element of the array, a local, is read, and stored in its row.
+-- `host_table::store` meets its contract: a walk of its MIR. The length is tested; then each element of the array, a local, is read, and stored in its row.
 -- Assumes nothing.
 use mathlib.Core.Path.{_≡_, refl, sym, ap, subst, _∙_}
 use mathlib.Core.Bool.{Bool, cond}

@@ -7,5 +7,5 @@ use Rattle.engine.specs.Calls.{Outcome, outcome}
 use Rattle.engine.specs.Calls.Answer.{refused}
 
 -- 1 where the table is not six rows, else the call's own step
-unfoldable pub called : Memory → Outcome → Outcome
-called m o = cond (eqb (length (m .txns .table)) 6) o (outcome (refused 1) m)
+unfoldable pub called : (Memory → Outcome) → Memory → Outcome
+called step m = cond (eqb (length (m .txns .table)) 6) (step m) (outcome (refused 1) m)

@@ -1,30 +1,19 @@
--- A call with a table of six rows is its step, with any other it is refused by 1; and the table after a withdrawal. Assumes nothing.
+-- Six rows loaded and stored, and the table after a withdrawal. Assumes nothing.
 use Prim.Native.Nat.{ℕ}
 use mathlib.Core.Path.{_≡_, refl}
 use mathlib.Core.List.{List}
-use borrow.Author.Tests.{eq-eqb, ne-eqb}
+use borrow.Author.Tests.{eq-eqb}
 use lib.ListN.{length, set}
 use Rattle.memory.specs.declared.Counts.{Counts}
 use Rattle.memory.specs.declared.Txn.{Txn}
 use Rattle.memory.specs.Memory.{Memory}
 use Rattle.memory.specs.Rows.{closed, rowOf}
-use Rattle.engine.specs.Calls.{Outcome, outcome}
-use Rattle.engine.specs.Calls.Answer.{refused}
+use Rattle.engine.specs.Calls.{Outcome}
 use Rattle.engine.specs.Client.{withdrawRefusal, withdrawAt, withdrawRow, withdrawStep}
 use Rattle.engine.proofs.Tests.{unless-by}
-use Rattle.call_client.specs.Lent.{withdrawParts}
+use Rattle.call_reply.specs.Parts.{withdrawParts}
 use Rattle.host_table.specs.Table.{loaded, stored}
 use Rattle.call_reply.specs.Replies.{number}
-use Rattle.replica.specs.Called.{called}
-
-module _ (m : Memory) (o : Outcome) where
-  pub called-six : length (m .txns .table) ≡ 6 → called m o ≡ o
-  unfolding called
-  called-six h = rw (eq-eqb (length (m .txns .table)) 6 h)
-
-  pub called-other : (length (m .txns .table) ≡ 6 → ⊥) → called m o ≡ outcome (refused 1) m
-  unfolding called
-  called-other h = rw (ne-eqb (length (m .txns .table)) 6 h)
 
 -- six rows are loaded and stored as they are
 pub loaded-six : (t : List Txn) → length t ≡ 6 → loaded t ≡ t
