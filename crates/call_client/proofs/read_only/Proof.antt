@@ -1,7 +1,7 @@
 -- `read_only` meets its contract.
 use borrow.Author.Needs.{needs}
-use Rattle.call_client.proofs.rows.read_only.Statement.{statement}
-use Rattle.call_client.proofs.rows.read_only.Tie as tie
+use Rattle.call_client.proofs.read_only.Statement.{statement}
+use Rattle.call_client.proofs.read_only.Tie as tie
 
 bump-requires : tie.Need-bump-requires
 bump-requires c κs = search needs
