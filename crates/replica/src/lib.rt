@@ -13,23 +13,16 @@ use call_client::begin;
 use call_client::read;
 use call_client::report;
 use call_client::withdraw;
-use call_deliver::deliver;
-use call_make::make;
 use call_reply::AskReply;
 use call_reply::BeginReply;
 use call_reply::ReadReply;
 use call_reply::Reply;
 use call_reply::ReportReply;
-use call_reply::WorkReply;
 use call_reply::replies::no_ask;
 use call_reply::replies::no_begin;
 use call_reply::replies::no_read;
 use call_reply::replies::no_report;
-use call_reply::replies::no_work;
 use call_reply::replies::replied;
-use call_send::send;
-use call_work::work;
-use call_write::write;
 use host_table::copy_turn;
 use host_table::end;
 use host_table::find;
@@ -37,60 +30,9 @@ use host_table::load;
 use host_table::put;
 use host_table::row;
 use host_table::scan;
-use host_table::set_turn;
-use host_table::store;
 use memory::Counts;
 use memory::Turn;
 use memory::Txn;
-
-#[no_mangle]
-pub extern "C" fn stemline_make(
-    table: &mut [Txn],
-    turn: &mut Turn,
-    counts: Counts,
-    n: u32,
-    own: u32,
-    start: &[i32],
-    queue: &mut [u32],
-    items: &mut [u8],
-    writes: &mut [i32],
-    snapshots: &mut [i32],
-    values: &mut [i32],
-    stamps: &mut [u32],
-    places: &mut [u8],
-    outbox: &mut [u8],
-) -> Reply
-    ensures { λ r. ⌜ (Gives reply
-        (called (λ x. makeStep x n own (now (start .entry)))
-        (allParts (now (turn .entry)) counts (now (table .entry)) (now (queue .entry)) (now (items .entry)) (now (writes .entry)) (now (snapshots .entry)) (now (values .entry)) (now (stamps .entry)) (now (places .entry)) (now (outbox .entry))))
-        r
-        (allParts (now (turn .exit)) (r .counts) (now (table .exit)) (now (queue .exit)) (now (items .exit)) (now (writes .exit)) (now (snapshots .exit)) (now (values .exit)) (now (stamps .exit)) (now (places .exit)) (now (outbox .exit)))) ⌝ }
-{
-    if table.len() != 6 {
-        return replied(1, counts);
-    }
-    let rows = load(table);
-    let now = copy_turn(turn);
-    let done = make(
-        rows,
-        now,
-        counts,
-        n,
-        own,
-        start,
-        queue,
-        items,
-        writes,
-        snapshots,
-        values,
-        stamps,
-        places,
-        outbox,
-    );
-    store(table, done.rows);
-    set_turn(turn, done.turn);
-    done.reply
-}
 
 #[no_mangle]
 pub extern "C" fn stemline_begin(
@@ -136,35 +78,6 @@ pub extern "C" fn stemline_read(
     let at = find(table, ticket);
     let t = row(table, at);
     read(at, t, items, writes, snapshots, item)
-}
-
-#[no_mangle]
-pub extern "C" fn stemline_write(
-    table: &mut [Txn],
-    turn: &Turn,
-    ticket: u32,
-    counts: Counts,
-    items: &mut [u8],
-    writes: &mut [i32],
-    stamps: &[u32],
-    item: u32,
-    value: i32,
-) -> Reply
-    ensures { λ r. ⌜ ((m : Memory) → Gives reply
-        (called (λ x. writeStep x ticket item value)
-        (writeParts m (now (turn .entry)) counts (now (table .entry)) (now (items .entry)) (now (writes .entry)) (now (stamps .entry))))
-        r
-        (writeParts m (now (turn .entry)) (r .counts) (now (table .exit)) (now (items .exit)) (now (writes .exit)) (now (stamps .entry)))) ⌝ }
-{
-    if table.len() != 6 {
-        return replied(1, counts);
-    }
-    let at = find(table, ticket);
-    let rows = load(table);
-    let now = copy_turn(turn);
-    let done = write(at, rows, now, counts, items, writes, stamps, item, value);
-    put(table, at, done.row);
-    done.reply
 }
 
 #[no_mangle]
@@ -226,81 +139,4 @@ pub extern "C" fn stemline_report(table: &[Txn], turn: &Turn, counts: Counts) ->
     let rows = load(table);
     let now = copy_turn(turn);
     report(rows, now, counts)
-}
-
-#[no_mangle]
-pub extern "C" fn stemline_send(
-    table: &mut [Txn],
-    turn: &mut Turn,
-    counts: Counts,
-    queue: &mut [u32],
-    items: &[u8],
-    writes: &[i32],
-    outbox: &mut [u8],
-    block: &mut [u8],
-) -> u8
-    ensures { λ r. ⌜ ((m : Memory) → GivesBlock
-        (called (λ x. sendStep x (now (block .entry)))
-        (sendParts m (now (turn .entry)) counts (now (table .entry)) (now (queue .entry)) (now (items .entry)) (now (writes .entry)) (now (outbox .entry))))
-        (now (block .entry))
-        r
-        (sendParts m (now (turn .exit)) counts (now (table .exit)) (now (queue .exit)) (now (items .entry)) (now (writes .entry)) (now (outbox .exit)))
-        (now (block .exit))) ⌝ }
-{
-    if table.len() != 6 {
-        return 1;
-    }
-    let rows = load(table);
-    let now = copy_turn(turn);
-    let done = send(rows, now, counts, queue, items, writes, outbox, block);
-    store(table, done.rows);
-    set_turn(turn, done.turn);
-    done.number
-}
-
-#[no_mangle]
-pub extern "C" fn stemline_deliver(
-    turn: &Turn,
-    counts: Counts,
-    places: &mut [u8],
-    outbox: &[u8],
-    bytes: &[u8],
-) -> u8
-    ensures { λ r. ⌜ ((m : Memory) → Gives number
-        (deliverStep
-        (deliverParts m (now (turn .entry)) counts (now (places .entry)) (now (outbox .entry)))
-        (now (bytes .entry)))
-        r
-        (deliverParts m (now (turn .entry)) counts (now (places .exit)) (now (outbox .entry)))) ⌝ }
-{
-    let now = copy_turn(turn);
-    deliver(now, counts, places, outbox, bytes)
-}
-
-#[no_mangle]
-pub extern "C" fn stemline_work(
-    table: &mut [Txn],
-    turn: &mut Turn,
-    counts: Counts,
-    queue: &mut [u32],
-    items: &[u8],
-    values: &mut [i32],
-    stamps: &mut [u32],
-    places: &mut [u8],
-) -> WorkReply
-    ensures { λ r. ⌜ ((m : Memory) → Gives workReply
-        (called workStep
-        (workParts m (now (turn .entry)) counts (now (table .entry)) (now (queue .entry)) (now (items .entry)) (now (values .entry)) (now (stamps .entry)) (now (places .entry))))
-        r
-        (workParts m (now (turn .exit)) (r .counts) (now (table .exit)) (now (queue .exit)) (now (items .entry)) (now (values .exit)) (now (stamps .exit)) (now (places .exit)))) ⌝ }
-{
-    if table.len() != 6 {
-        return no_work(1, counts);
-    }
-    let rows = load(table);
-    let now = copy_turn(turn);
-    let done = work(rows, now, counts, queue, items, values, stamps, places);
-    store(table, done.rows);
-    set_turn(turn, done.turn);
-    done.reply
 }

@@ -62,10 +62,10 @@ use Rattle.host_table.proofs.find.Met as find-thm
 use Rattle.host_table.proofs.row.Symbol as row-def
 use Rattle.host_table.proofs.row.Symbol.{name as #row}
 use Rattle.host_table.proofs.row.Met as row-thm
-use Rattle.call_reply.proofs.client_calls.read_on as call
-use Rattle.call_reply.proofs.client_calls.read_on.Symbol as call-def
-use Rattle.call_reply.proofs.client_calls.read_on.Symbol.{name as #call}
-use Rattle.call_reply.proofs.client_calls.read_on.Met as call-thm
+use Rattle.call_client.proofs.read as call
+use Rattle.call_client.proofs.read.Symbol as call-def
+use Rattle.call_client.proofs.read.Symbol.{name as #call}
+use Rattle.call_client.proofs.read.Met as call-thm
 use Rattle.replica.proofs.stemline_read.Key.{name as #own}
 use Rattle.replica.proofs.stemline_read as own
 use Rattle.replica.proofs.stemline_read.Statement as stated
@@ -192,7 +192,7 @@ stemline-read-spec 𝓤 H 𝓜 𝓖 𝓡 =
     entered 𝓤 H (tripleOf 𝓤 H (𝓖 .A) own.signature (own.spec 𝓤 H (𝓖 .A) (𝓜 .mem) (𝓡 .run)))
     (tables 𝓤 H 𝓜 𝓡 code.env .C) (tables 𝓤 H 𝓜 𝓡 code.env .Λ) #own code.function (code.unfolded 𝓤 H 𝓜 𝓡)
     (meets 𝓤 H (𝓖 .A) (givenOf 𝓤 H 𝓜 𝓖) (𝓜 .mem) (𝓡 .run) (tablesOf 𝓤 H 𝓜 (tables 𝓤 H 𝓜 𝓡 code.env))
-    (cited 𝓤 H (Refuse 𝓤 H (𝓖 .A) (𝓜 .mem) (𝓡 .run)) 𝓜 𝓡 code.env #refuse refuse-def.routine code.calls-calls·replies·no-read (refuse-thm.met 𝓤 H 𝓜 𝓖 𝓡))
-    (cited 𝓤 H (Find 𝓤 H (𝓖 .A) (𝓜 .mem) (𝓡 .run)) 𝓜 𝓡 code.env #find find-def.routine code.calls-lent·find (find-thm.met 𝓤 H 𝓜 𝓖 𝓡))
-    (cited 𝓤 H (Row 𝓤 H (𝓖 .A) (𝓜 .mem) (𝓡 .run)) 𝓜 𝓡 code.env #row row-def.routine code.calls-lent·row (row-thm.met 𝓤 H 𝓜 𝓖 𝓡))
-    (cited 𝓤 H (ByValue 𝓤 H (𝓖 .A) (𝓜 .mem) (𝓡 .run)) 𝓜 𝓡 code.env #call call-def.routine code.calls-calls·client-calls·read-on (call-thm.met 𝓤 H 𝓜 𝓖 𝓡)))
+    (cited 𝓤 H (Refuse 𝓤 H (𝓖 .A) (𝓜 .mem) (𝓡 .run)) 𝓜 𝓡 code.env #refuse refuse-def.routine code.calls-call-reply·replies·no-read (refuse-thm.met 𝓤 H 𝓜 𝓖 𝓡))
+    (cited 𝓤 H (Find 𝓤 H (𝓖 .A) (𝓜 .mem) (𝓡 .run)) 𝓜 𝓡 code.env #find find-def.routine code.calls-host-table·find (find-thm.met 𝓤 H 𝓜 𝓖 𝓡))
+    (cited 𝓤 H (Row 𝓤 H (𝓖 .A) (𝓜 .mem) (𝓡 .run)) 𝓜 𝓡 code.env #row row-def.routine code.calls-host-table·row (row-thm.met 𝓤 H 𝓜 𝓖 𝓡))
+    (cited 𝓤 H (ByValue 𝓤 H (𝓖 .A) (𝓜 .mem) (𝓡 .run)) 𝓜 𝓡 code.env #call call-def.routine code.calls-call-client·read (call-thm.met 𝓤 H 𝓜 𝓖 𝓡)))

@@ -67,10 +67,10 @@ use Rattle.host_table.proofs.load.Met as load-thm
 use Rattle.host_table.proofs.copy_turn.Symbol as copy-def
 use Rattle.host_table.proofs.copy_turn.Symbol.{name as #copy}
 use Rattle.host_table.proofs.copy_turn.Met as copy-thm
-use Rattle.call_reply.proofs.client_calls.report_on as call
-use Rattle.call_reply.proofs.client_calls.report_on.Symbol as call-def
-use Rattle.call_reply.proofs.client_calls.report_on.Symbol.{name as #call}
-use Rattle.call_reply.proofs.client_calls.report_on.Met as call-thm
+use Rattle.call_client.proofs.report as call
+use Rattle.call_client.proofs.report.Symbol as call-def
+use Rattle.call_client.proofs.report.Symbol.{name as #call}
+use Rattle.call_client.proofs.report.Met as call-thm
 use Rattle.replica.proofs.stemline_report.Key.{name as #own}
 use Rattle.replica.proofs.stemline_report as own
 use Rattle.replica.proofs.stemline_report.Statement as stated
@@ -197,7 +197,7 @@ stemline-report-spec 𝓤 H 𝓜 𝓖 𝓡 =
     entered 𝓤 H (tripleOf 𝓤 H (𝓖 .A) own.signature (own.spec 𝓤 H (𝓖 .A) (𝓜 .mem) (𝓡 .run)))
     (tables 𝓤 H 𝓜 𝓡 code.env .C) (tables 𝓤 H 𝓜 𝓡 code.env .Λ) #own code.function (code.unfolded 𝓤 H 𝓜 𝓡)
     (meets 𝓤 H (𝓖 .A) (givenOf 𝓤 H 𝓜 𝓖) (𝓜 .mem) (𝓡 .run) (tablesOf 𝓤 H 𝓜 (tables 𝓤 H 𝓜 𝓡 code.env))
-    (cited 𝓤 H (Refuse 𝓤 H (𝓖 .A) (𝓜 .mem) (𝓡 .run)) 𝓜 𝓡 code.env #refuse refuse-def.routine code.calls-calls·replies·no-report (refuse-thm.met 𝓤 H 𝓜 𝓖 𝓡))
-    (cited 𝓤 H (Load 𝓤 H (𝓖 .A) (𝓜 .mem) (𝓡 .run)) 𝓜 𝓡 code.env #load load-def.routine code.calls-lent·load (load-thm.met 𝓤 H 𝓜 𝓖 𝓡))
-    (cited 𝓤 H (CopyTurn 𝓤 H (𝓖 .A) (𝓜 .mem) (𝓡 .run)) 𝓜 𝓡 code.env #copy copy-def.routine code.calls-lent·copy-turn (copy-thm.met 𝓤 H 𝓜 𝓖 𝓡))
-    (cited 𝓤 H (ByValue 𝓤 H (𝓖 .A) (𝓜 .mem) (𝓡 .run)) 𝓜 𝓡 code.env #call call-def.routine code.calls-calls·client-calls·report-on (call-thm.met 𝓤 H 𝓜 𝓖 𝓡)))
+    (cited 𝓤 H (Refuse 𝓤 H (𝓖 .A) (𝓜 .mem) (𝓡 .run)) 𝓜 𝓡 code.env #refuse refuse-def.routine code.calls-call-reply·replies·no-report (refuse-thm.met 𝓤 H 𝓜 𝓖 𝓡))
+    (cited 𝓤 H (Load 𝓤 H (𝓖 .A) (𝓜 .mem) (𝓡 .run)) 𝓜 𝓡 code.env #load load-def.routine code.calls-host-table·load (load-thm.met 𝓤 H 𝓜 𝓖 𝓡))
+    (cited 𝓤 H (CopyTurn 𝓤 H (𝓖 .A) (𝓜 .mem) (𝓡 .run)) 𝓜 𝓡 code.env #copy copy-def.routine code.calls-host-table·copy-turn (copy-thm.met 𝓤 H 𝓜 𝓖 𝓡))
+    (cited 𝓤 H (ByValue 𝓤 H (𝓖 .A) (𝓜 .mem) (𝓡 .run)) 𝓜 𝓡 code.env #call call-def.routine code.calls-call-client·report (call-thm.met 𝓤 H 𝓜 𝓖 𝓡)))
