@@ -1,14 +1,15 @@
 // What a client may do, but for a write, at a row: `at` is any number, and `t` the record that the table has there, a free one past its end. Small parts go in and out by
 // value, large ones are lent. Each contract gives the reply and the memory after by the step at that row, of engine's `specs/Client.antt`, on every memory that has the parts
 // lent; every row and record are those of some table (`specs/Tables.antt`).
+ghost use Prim.Native.Nat.{_<_};
 ghost use mathlib.Core.Path.{_≡_};
 ghost use mathlib.Core.Bool.{true, false};
 ghost use mathlib.Core.List.{List};
-ghost use lib.ListN.{set};
+ghost use lib.ListN.{length, set};
 ghost use Rattle.memory.specs.declared.Txn.{Txn};
 ghost use Rattle.memory.specs.Memory.{Memory, bump, withReadOnly};
 ghost use Rattle.memory.specs.Rows.{closed, rowAt};
-ghost use Rattle.engine.specs.Client.{beginRow, readRow, askRow, withdrawRow, reportStep};
+ghost use Rattle.engine.specs.Client.{beginRow, valueFor, readRow, askRow, withdrawRow, reportStep};
 ghost use Rattle.call_reply.specs.Parts.{beginParts, readParts, askParts, withdrawParts, reportParts};
 ghost use Rattle.call_reply.specs.Replies.{Gives, reply, beginReply, readReply, askReply, reportReply};
 use call_reply::AskReply;
@@ -88,6 +89,20 @@ pub fn begin(at: usize, t: Txn, counts: Counts, values: &[i32], snapshots: &mut 
 }
 
 // What the transaction wrote last to the item, else the value at its snapshot.
+fn value_for(at: usize, t: Txn, items: &[u8], writes: &[i32], snapshots: &[i32], item: u8) -> i32
+    requires { ⌜ (length (now items) ≡ 48) × (length (now writes) ≡ 48) × (length (now snapshots) ≡ 768) × (at < 6) × (item < 128) ⌝ }
+    ensures { λ r. ⌜ ((m : Memory) (table : List Txn) → t ≡ rowAt table at →
+        r ≡ valueFor (readParts m table (now (items .entry)) (now (writes .entry)) (now (snapshots .entry))) at item) ⌝ }
+{
+    let n = write_count(t.writes);
+    let from = 8 * at;
+    let k = index_of(&items[from..from + n], item);
+    if k < n {
+        return writes[from + k];
+    }
+    snapshots[128 * at + item as usize]
+}
+
 pub fn read(
     at: usize,
     t: Txn,
@@ -120,18 +135,9 @@ pub fn read(
     if t.stage != 0 {
         return no_read(4);
     }
-    let n = write_count(t.writes);
-    let from = 8 * at;
-    let k = index_of(&items[from..from + n], item as u8);
-    if k < n {
-        return ReadReply {
-            number: 0,
-            value: writes[from + k],
-        };
-    }
     ReadReply {
         number: 0,
-        value: snapshots[128 * at + item as usize],
+        value: value_for(at, t, items, writes, snapshots, item as u8),
     }
 }
 

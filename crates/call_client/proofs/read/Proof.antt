@@ -1,8 +1,9 @@
 -- `read` meets its contract: each answer by its law.
 use mir.Facts.{toZ-ofZ}
+use Rattle.call_reply.specs.Parts.{readParts}
 use Rattle.call_reply.specs.Replies.{readReply}
 use Rattle.call_reply.proofs.ReplyLaws.{gives}
-use Rattle.call_client.proofs.ReadLaws.{read-items, read-writes, read-snapshots, read-item, read-absent, read-asked, read-own, read-old}
+use Rattle.call_client.proofs.ReadLaws.{read-items, read-writes, read-snapshots, read-item, read-absent, read-asked, read-taken}
 use borrow.Author.Needs.{needs}
 use Rattle.call_client.proofs.read.Statement.{statement}
 use Rattle.call_client.proofs.read.Tie as tie
@@ -43,64 +44,16 @@ no-read-requires-6 c κs = search needs
 returns-6 : tie.Need-returns-6
 returns-6 c = λ m table here. rw (c .no-read6 .ensures) (gives readReply (read-asked _ _ _ (c .before .before .before .before .before .before .before .if1 .left) (c .before .before .before .before .before .before .if2 .left) (c .before .before .before .before .before .if3 .left) (c .before .before .before .before .if4 .left) (c .before .before .before .if5 .left) (c .before .before .before .before .before .before .before .before .before .args .t) here (c .before .if6 .taken)))
 
-write-count-requires : tie.Need-write-count-requires
-write-count-requires c κs = search needs
+cast-value-for : tie.Need-cast-value-for
+cast-value-for c = search needs
 
-mul-from : tie.Need-mul-from
-mul-from c = search needs
-
-add-index-of : tie.Need-add-index-of
-add-index-of c = search needs
-
-sub-index-of : tie.Need-sub-index-of
-sub-index-of c = search needs
-
-part-index-of-start : tie.Need-part-index-of-start
-part-index-of-start c = search needs
-
-part-index-of-end : tie.Need-part-index-of-end
-part-index-of-end c = search needs
-
-cast-index-of : tie.Need-cast-index-of
-cast-index-of c = search needs
-
-index-of-requires : tie.Need-index-of-requires
-index-of-requires c κs = search needs
-
-add-t17 : tie.Need-add-t17
-add-t17 c = search needs
-
-mul-t18 : tie.Need-mul-t18
-mul-t18 c = search needs
-
-shared-slice-copy-out-t20 : tie.Need-shared-slice-copy-out-t20
-shared-slice-copy-out-t20 c = search needs
+value-for-requires : tie.Need-value-for-requires
+value-for-requires c κs = search needs
 
 returns-7 : tie.Need-returns-7
 returns-7 c = λ m table here.
-    let a = c .before .before .before .before .before .before .before .before .before .before .before .before .before .args in
-    gives readReply
-    (read-own _ _ _ (c .before .before .before .before .before .before .before .before .before .before .before .if1 .left) (c .before .before .before .before .before .before .before .before .before .before .if2 .left) (c .before .before .before .before .before .before .before .before .before .if3 .left) (c .before .before .before .before .before .before .before .before .if4 .left) (c .before .before .before .before .before .before .before .if5 .left) (a .t) here (c .before .before .before .before .before .if6 .left)
-    (c .before .before .before .before .write-count .result) (c .before .before .index-of .result) (c .before .before .before .before .write-count .ensures) (c .before .before .index-of .ensures) (c .before .if7 .taken) _ (toZ-ofZ (record { sfits = c .t20 .given })))
-
-mul-t10 : tie.Need-mul-t10
-mul-t10 c = search needs
-
-add-t21 : tie.Need-add-t21
-add-t21 c = search needs
-
-mul-t22 : tie.Need-mul-t22
-mul-t22 c = search needs
-
-shared-slice-copy-out-t24 : tie.Need-shared-slice-copy-out-t24
-shared-slice-copy-out-t24 c = search needs
-
-returns-8 : tie.Need-returns-8
-returns-8 c = λ m table here.
-    let a = c .before .before .before .before .before .before .before .before .before .before .before .before .before .args in
-    gives readReply
-    (read-old _ _ _ (c .before .before .before .before .before .before .before .before .before .before .before .if1 .left) (c .before .before .before .before .before .before .before .before .before .before .if2 .left) (c .before .before .before .before .before .before .before .before .before .if3 .left) (c .before .before .before .before .before .before .before .before .if4 .left) (c .before .before .before .before .before .before .before .if5 .left) (a .t) here (c .before .before .before .before .before .if6 .left)
-    (c .before .before .before .before .write-count .result) (c .before .before .index-of .result) (c .before .before .before .before .write-count .ensures) (c .before .before .index-of .ensures) (c .before .if7 .left) _ (toZ-ofZ (record { sfits = c .t24 .given })))
+    let a = c .before .before .before .before .before .before .before .before .before .args in
+    rw (toZ-ofZ (record { sfits = c .value-for .ok }), c .value-for .ensures m table here) (gives readReply (read-taken (readParts m table (a .items .now) (a .writes .now) (a .snapshots .now)) (a .at) (a .item) (c .before .before .before .before .before .before .before .if1 .left) (c .before .before .before .before .before .before .if2 .left) (c .before .before .before .before .before .if3 .left) (c .before .before .before .before .if4 .left) (c .before .before .before .if5 .left) (a .t) here (c .before .if6 .left)))
 
 pub read-spec : {M : Type 1} → statement M
 read-spec =
@@ -118,20 +71,6 @@ read-spec =
     returns-5
     no-read-requires-6
     returns-6
-    write-count-requires
-    mul-from
-    add-index-of
-    sub-index-of
-    part-index-of-start
-    part-index-of-end
-    cast-index-of
-    index-of-requires
-    add-t17
-    mul-t18
-    shared-slice-copy-out-t20
-    returns-7
-    mul-t10
-    add-t21
-    mul-t22
-    shared-slice-copy-out-t24
-    returns-8)
+    cast-value-for
+    value-for-requires
+    returns-7)
