@@ -132,7 +132,7 @@ packed low high b (suc y) P h =
 packed-at : (l : List ℕ) (f t x low high : ℕ) (P : ℕ → Bool) → high < 256 → f < t → t ≤ length l → x ≡ numberFrom (slice f t l)
     → (within low high (getD l f 0) && allZero (slice (f + 1) t l) && P (getD l f 0)) ≡ (within low high x && P x)
 packed-at l f t x low high P small h k e =
-    rw (e, number-more l f t h k, zero-number (slice (f + 1) t l)) (packed low high (getD l f 0) (numberFrom (slice (f + 1) t l)) P small)
+    rw (e, number-more l f (f + 1) t refl h k, zero-number (slice (f + 1) t l)) (packed low high (getD l f 0) (numberFrom (slice (f + 1) t l)) P small)
 
 -- ---- entries
 

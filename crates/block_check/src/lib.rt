@@ -1,11 +1,20 @@
 // The check: two sums over the 16-bit words of a block's first 508 bytes.
 ghost use mathlib.Core.Path.{_≡_};
-ghost use Prim.Native.Nat.{_%_, _≤_};
+ghost use Prim.Native.Nat.{_+_, _*_, _%_, _≤_, _<_};
 ghost use lib.ListN.{length};
-ghost use Rattle.block.specs.Check.{sumsOf, checkStep, checkMatches};
+ghost use Rattle.block.specs.Check.{word as wordOf, sumsOf, checkStep, checkMatches};
 use block::Checked;
 use block::Sums;
 use block::number16;
+
+// Document 01's w(i): the 16-bit word at byte 2·i.
+fn word(bytes: &[u8], i: usize) -> u16
+    requires { ⌜ 2 * i + 1 < length (now bytes) ⌝ }
+    ensures { λ r. ⌜ r ≡ wordOf (now (bytes .entry)) i ⌝ }
+{
+    let at = 2 * i;
+    number16(bytes[at], bytes[at + 1])
+}
 
 // The remainder. The branch is for the compiler alone: without it the writers add up one word at a time.
 fn reduced(x: u32) -> u16
@@ -35,19 +44,18 @@ fn sums(bytes: &[u8]) -> Sums
     let mut h: u32 = 0;
     let mut i: usize = 0;
     while i < 252 {
-        let at = 2 * i;
-        a += number16(bytes, at) as u32;
-        b += number16(bytes, at + 2) as u32;
-        c += number16(bytes, at + 4) as u32;
-        d += number16(bytes, at + 6) as u32;
+        a += word(bytes, i) as u32;
+        b += word(bytes, i + 1) as u32;
+        c += word(bytes, i + 2) as u32;
+        d += word(bytes, i + 3) as u32;
         e += a;
         f += b;
         g += c;
         h += d;
         i += 4;
     }
-    let y = number16(bytes, 504) as u32;
-    let z = number16(bytes, 506) as u32;
+    let y = word(bytes, 252) as u32;
+    let z = word(bytes, 253) as u32;
     let first = a + b + c + d + y + z;
     let second = 4 * (e + f + g + h) + 2 * a + b - d + 2 * y + z;
     Sums {
@@ -83,8 +91,8 @@ pub fn check_matches(block: &[u8]) -> bool
         return false;
     }
     let s = sums(block);
-    if s.first != number16(block, 508) {
+    if s.first != word(block, 254) {
         return false;
     }
-    s.second == number16(block, 510)
+    s.second == word(block, 255)
 }

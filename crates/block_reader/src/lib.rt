@@ -20,7 +20,7 @@ fn header(block: &[u8]) -> Header
         sender: block[1],
         replicas: block[2],
         count: block[3],
-        slot: number(block, 4),
+        slot: number(block[4], block[5], block[6], block[7]),
     }
 }
 
@@ -58,7 +58,7 @@ pub fn record_at(block: &[u8], j: usize) -> RecordHead
     }
     let at = 16 + 72 * j;
     RecordHead {
-        ticket: number(block, at),
+        ticket: number(block[at], block[at + 1], block[at + 2], block[at + 3]),
         writes: block[at + 4],
     }
 }
@@ -77,8 +77,15 @@ pub fn entry_at(block: &[u8], j: usize, e: usize) -> Entry
         return Entry { item: 0, value: 0 };
     }
     let at = 24 + 72 * j + 8 * e;
+    let from = at + 4;
+    let bits = number(
+        block[from],
+        block[from + 1],
+        block[from + 2],
+        block[from + 3],
+    );
     Entry {
         item: block[at],
-        value: to_value(number(block, at + 4)),
+        value: to_value(bits),
     }
 }
