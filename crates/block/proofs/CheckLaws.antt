@@ -10,8 +10,7 @@ use borrow.Author.Tests.{eq-eqb, eqb-true, ne-eqb}
 use lib.Dec.{eqb}
 use lib.ListN.{length, take, drop, take-append-drop, List·getD-append, length-append}
 use lib.Seq.{slice, length-take-le, length-slice}
-use Rattle.block.specs.declared.Sums.{Sums}
-use Rattle.block.specs.Check.{word, sumTo, weightedTo, firstCheck, secondCheck, checkBytes, checkMatches, sumsOf}
+use Rattle.block.specs.Check.{word, sumTo, weightedTo, firstCheck, secondCheck, checkBytes, checkMatches}
 use Rattle.block.specs.Numbers.{bytesOf, numberFrom}
 use Rattle.block.proofs.BoolLaws.{both, joined}
 use Rattle.block.proofs.ListLaws.{AllBytes, bytes-append, bytes-slice, slice-at, slice-end, cut, drop-slice}
@@ -41,12 +40,12 @@ module _ (a c : List ℕ) where
   secondCheck-append h = rw (weightedTo-append 254 h)
 
 -- so it is that of the first 508 bytes
-pub firstCheck-take : (b : List ℕ) → 508 ≤ length b → firstCheck (take 508 b) ≡ firstCheck b
+firstCheck-take : (b : List ℕ) → 508 ≤ length b → firstCheck (take 508 b) ≡ firstCheck b
 firstCheck-take b h =
     let l = length-take-le 508 b h in
     sym (ap firstCheck (sym (take-append-drop 508 b)) ∙ firstCheck-append (take 508 b) (drop 508 b) (omega arith))
 
-pub secondCheck-take : (b : List ℕ) → 508 ≤ length b → secondCheck (take 508 b) ≡ secondCheck b
+secondCheck-take : (b : List ℕ) → 508 ≤ length b → secondCheck (take 508 b) ≡ secondCheck b
 secondCheck-take b h =
     let l = length-take-le 508 b h in
     sym (ap secondCheck (sym (take-append-drop 508 b)) ∙ secondCheck-append (take 508 b) (drop 508 b) (omega arith))
@@ -196,38 +195,31 @@ two-weighed l k = rw (add-two k, add-one k)
 
 -- the last two words, of weights 2 and 1
 pub sums-end : (l : List ℕ) (f s : ℕ) → f ≡ sumTo l 252 → s ≡ weightedTo l 252 → (y z : ℕ) → y ≡ word l 252 → z ≡ word l 253
-    → record { first = (f + y + z) % 65535; second = (s + 2 * y + z) % 65535 } ≡ sumsOf l
-unfolding sumsOf firstCheck secondCheck
+    → ((f + y + z) % 65535 ≡ firstCheck l) × ((s + 2 * y + z) % 65535 ≡ secondCheck l)
+unfolding firstCheck secondCheck
 sums-end l f s sum weighted y z is-y is-z =
     let t = two-more l 252 in
     let w = two-weighed l 252 in
     let a : f + y + z ≡ sumTo l 254 = omega arith in
     let b : s + 2 * y + z ≡ weightedTo l 254 = omega arith in
-    rw (a, b)
+    (rw a, rw b)
 
--- the answers of a block's comparison with its own check: s is its check, f and g what it holds in its last four bytes
+-- the answers of a block's comparison with its own check: s and t are its check's numbers, f and g what it holds in its last four bytes
 module _ (b : List ℕ) where
   pub matches-short : (length b ≡ 512 → ⊥) → false ≡ checkMatches b
   unfolding checkMatches
   matches-short h = rw (ne-eqb (length b) 512 h)
 
-  module _ (long : length b ≡ 512) (s : Sums) (sums : s ≡ sumsOf b) (f : ℕ) (held : f ≡ word b 254) where
+  module _ (long : length b ≡ 512) (s : ℕ) (first : s ≡ firstCheck b) (f : ℕ) (held : f ≡ word b 254) where
     first-held : f ≡ numberFrom (slice 508 510 b)
     first-held = held ∙ sym (word-number b 508 254 refl (omega arith))
 
-    pub matches-first : (s .first ≡ f → ⊥) → false ≡ checkMatches b
-    unfolding checkMatches sumsOf
-    matches-first h = rw (eq-eqb (length b) 512 long, ← first-held, ← ap (λ (x : Sums). x .first) sums, ne-eqb (s .first) f h)
+    pub matches-first : (s ≡ f → ⊥) → false ≡ checkMatches b
+    unfolding checkMatches
+    matches-first h = rw (eq-eqb (length b) 512 long, ← first-held, ← first, ne-eqb s f h)
 
-    pub matches-second : s .first ≡ f → (g : ℕ) → g ≡ word b 255 → eqb (s .second) g ≡ checkMatches b
-    unfolding checkMatches sumsOf
-    matches-second h g e =
+    pub matches-second : s ≡ f → (t : ℕ) → t ≡ secondCheck b → (g : ℕ) → g ≡ word b 255 → eqb t g ≡ checkMatches b
+    unfolding checkMatches
+    matches-second h t second g e =
         let second-held : g ≡ numberFrom (slice 510 512 b) = e ∙ sym (word-number b 510 255 refl (omega arith)) in
-        rw (
-          eq-eqb (length b) 512 long,
-          ← first-held,
-          ← second-held,
-          ← ap (λ (x : Sums). x .first) sums,
-          ← ap (λ (x : Sums). x .second) sums,
-          eq-eqb (s .first) f h,
-        )
+        rw (eq-eqb (length b) 512 long, ← first-held, ← second-held, ← first, ← second, eq-eqb s f h)

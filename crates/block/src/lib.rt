@@ -30,20 +30,6 @@ pub struct RecordHead {
     pub writes: u8,
 }
 
-// The two sums of the check.
-#[repr(C)]
-pub struct Sums {
-    pub first: u16,
-    pub second: u16,
-}
-
-// A check, or the number of the refusal.
-#[repr(C)]
-pub struct Checked {
-    pub number: u8,
-    pub sums: Sums,
-}
-
 // What the reader answers, as numbers: the refusal's number, or 0 and the header.
 #[repr(C)]
 pub struct Answer {

@@ -2,10 +2,15 @@
 ghost use mathlib.Core.Path.{_≡_};
 ghost use Prim.Native.Nat.{_+_, _*_, _%_, _≤_, _<_};
 ghost use lib.ListN.{length};
-ghost use Rattle.block.specs.Check.{word as wordOf, sumsOf, checkStep, checkMatches};
-use block::Checked;
-use block::Sums;
+ghost use Rattle.block.specs.Check.{word as wordOf, firstCheck, secondCheck, checkMatches};
+ghost use Rattle.block.specs.Writing.{written, checkedStep};
 use block::number16;
+
+// The check: two 16-bit numbers.
+struct Check {
+    first: u16,
+    second: u16,
+}
 
 // Document 01's w(i): the 16-bit word at byte 2·i.
 fn word(bytes: &[u8], i: usize) -> u16
@@ -30,9 +35,9 @@ fn reduced(x: u32) -> u16
 // The sums run over all words and are reduced once: both stay below 2^32. Four words a turn, and no product: a to d sum every
 // fourth word, e to h sum those sums. Four times the latter give each word its weight, but for 2 and 1 too little in a and b
 // and 1 too much in d. The compiler makes one addition of each four.
-fn sums(bytes: &[u8]) -> Sums
+fn sums(bytes: &[u8]) -> Check
     requires { ⌜ 508 ≤ length (now bytes) ⌝ }
-    ensures { λ r. ⌜ r ≡ sumsOf (now (bytes .entry)) ⌝ }
+    ensures { λ r. ⌜ (r .first ≡ firstCheck (now (bytes .entry))) × (r .second ≡ secondCheck (now (bytes .entry))) ⌝ }
 {
     let mut a: u32 = 0;
     let mut b: u32 = 0;
@@ -58,28 +63,9 @@ fn sums(bytes: &[u8]) -> Sums
     let z = word(bytes, 253) as u32;
     let first = a + b + c + d + y + z;
     let second = 4 * (e + f + g + h) + 2 * a + b - d + 2 * y + z;
-    Sums {
+    Check {
         first: reduced(first),
         second: reduced(second),
-    }
-}
-
-// The check of 508 bytes; 1 for another length.
-pub fn check_of(bytes: &[u8]) -> Checked
-    ensures { λ r. ⌜ r ≡ checkStep (now (bytes .entry)) ⌝ }
-{
-    if bytes.len() != 508 {
-        return Checked {
-            number: 1,
-            sums: Sums {
-                first: 0,
-                second: 0,
-            },
-        };
-    }
-    Checked {
-        number: 0,
-        sums: sums(bytes),
     }
 }
 
@@ -95,4 +81,19 @@ pub fn check_matches(block: &[u8]) -> bool
         return false;
     }
     s.second == word(block, 255)
+}
+
+// The check, into a block's last four bytes; 1 for another length.
+pub fn write_check(block: &mut [u8]) -> u8
+    ensures { λ r. ⌜ written r (now (block .exit)) ≡ checkedStep (now (block .entry)) ⌝ }
+{
+    if block.len() != 512 {
+        return 1;
+    }
+    let s = sums(&*block);
+    block[508] = (s.first % 256) as u8;
+    block[509] = (s.first / 256) as u8;
+    block[510] = (s.second % 256) as u8;
+    block[511] = (s.second / 256) as u8;
+    0
 }

@@ -17,7 +17,7 @@ returns-2 : tie.Need-returns-2
 returns-2 c =
     let n = c .before .before in
     let s = n .before in
-    matches-first _ (s .before .if1 .left) (s .sums .result) (s .sums .ensures) (n .word .result) (n .word .ensures) (c .if2 .taken)
+    matches-first _ (s .before .if1 .left) (s .sums .result .first) (s .sums .ensures .0) (n .word .result) (n .word .ensures) (c .if2 .taken)
 
 word-requires-2 : tie.Need-word-requires-2
 word-requires-2 c κs = search needs
@@ -27,7 +27,7 @@ returns-3 c =
     let i = c .before .before in
     let n = i .before .before in
     let s = n .before in
-    matches-second _ (s .before .if1 .left) (s .sums .result) (s .sums .ensures) (n .word .result) (n .word .ensures) (i .if2 .left)
+    matches-second _ (s .before .if1 .left) (s .sums .result .first) (s .sums .ensures .0) (n .word .result) (n .word .ensures) (i .if2 .left) (s .sums .result .second) (s .sums .ensures .1)
     (c .before .word2 .result) (c .before .word2 .ensures)
 
 pub check-matches-spec : {M : Type 1} → statement M

@@ -1,6 +1,6 @@
 -- `header_fits` meets its contract: each test that fails makes `headerFits` false, and past them bytes 8 to 15 decide.
 -- Assumes nothing.
-use mathlib.Core.Path.{sym, _∙_}
+use mathlib.Core.Path.{sym}
 use native.Mathlib.Omega.{arith}
 use borrow.Author.Needs.{needs}
 use Rattle.block.proofs.FormLaws.{within-in, within-below, within-above, header-replicas, header-slot, header-sender, header-rest}

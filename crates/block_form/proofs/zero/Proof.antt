@@ -1,15 +1,13 @@
 -- `zero` meets its contract. The loop's invariant: the part is all zero just if its last eight bytes are, and all from `i` on.
 -- Assumes nothing.
-use Prim.Native.Nat.{_+_, _-_, _<_}
+use Prim.Native.Nat.{_-_, _<_}
 use mathlib.Core.Path.{_≡_, sym, _∙_}
 use mathlib.Core.Bool.{_&&_}
 use native.Mathlib.Omega.{arith}
 use borrow.Author.Needs.{needs}
 use lib.Dec.{eqb}
 use lib.ListN.{length, drop}
-use lib.Seq.{slice}
 use Rattle.block.specs.Form.{allZero}
-use Rattle.block.specs.Numbers.{numberFrom}
 use Rattle.block.proofs.FormLaws.{eight-start, eight-differ, eight-next, eight-end}
 use Rattle.block_form.proofs.zero.Statement.{statement}
 use Rattle.block_form.proofs.zero.Tie as tie
