@@ -4,7 +4,7 @@ ghost use mathlib.Core.List.{[], _∷_};
 ghost use mir.Syntax.{w32};
 ghost use mir.Val.{ofZ, toZ};
 ghost use Rattle.block.specs.Numbers.{numberFrom};
-ghost use Rattle.block.specs.Answers.{answerOf};
+ghost use Rattle.block.specs.Answers.{numberAndHeader};
 
 // An entry of a record: an item and its new value.
 #[repr(C)]
@@ -30,13 +30,6 @@ pub struct RecordHead {
     pub writes: u8,
 }
 
-// What the reader answers, as numbers: the refusal's number, or 0 and the header.
-#[repr(C)]
-pub struct Answer {
-    pub number: u8,
-    pub header: Header,
-}
-
 // What the reader answers.
 pub enum Read {
     Message(Header),
@@ -44,25 +37,13 @@ pub enum Read {
 }
 
 impl Read {
-    // The number and the header, zeros where it is refused.
-    pub fn answer(self) -> Answer
-        ensures { λ r. ⌜ r ≡ answerOf self ⌝ }
+    // The refusal's number, 0 for a message.
+    pub fn number(self) -> u8
+        ensures { λ r. ⌜ r ≡ numberAndHeader self .0 ⌝ }
     {
         match self {
-            Read::Message(header) => Answer {
-                number: 0,
-                header: header,
-            },
-            Read::Refused(number) => Answer {
-                number: number,
-                header: Header {
-                    kind: 0,
-                    sender: 0,
-                    replicas: 0,
-                    count: 0,
-                    slot: 0,
-                },
-            },
+            Read::Message(_) => 0,
+            Read::Refused(number) => number,
         }
     }
 }

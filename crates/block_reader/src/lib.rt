@@ -1,7 +1,7 @@
 // Reading a block: its header or a refusal, its records and their entries.
 ghost use mathlib.Core.Path.{_≡_};
 ghost use lib.ListN.{length};
-ghost use Rattle.block.specs.Answers.{answerOf, blockAnswer, headerOf, recordAt, entryAt};
+ghost use Rattle.block.specs.Answers.{numberAndHeader, blockRead, headerOf, recordAt, entryAt};
 use block::Entry;
 use block::Header;
 use block::Read;
@@ -26,7 +26,7 @@ fn header(block: &[u8]) -> Header
 
 // The header, or why the block is refused: 1 for another length, 14 for its check, 15 for its form.
 pub fn read_block(block: &[u8]) -> Read
-    ensures { λ r. ⌜ answerOf r ≡ blockAnswer (now (block .entry)) ⌝ }
+    ensures { λ r. ⌜ numberAndHeader r ≡ blockRead (now (block .entry)) ⌝ }
 {
     if block.len() != 512 {
         return Read::Refused(1);

@@ -129,7 +129,7 @@ pub fn deliver(
     }
     let read = read_block(bytes);
     let Read::Message(header) = read else {
-        return DeliverAnswer::Refused(read.answer().number);
+        return DeliverAnswer::Refused(read.number());
     };
     let number = refusal(turn, counts, header, &*places, outbox, bytes);
     if number != 0 {
