@@ -3,7 +3,7 @@
 use Prim.Native.Nat.{ℕ, zero, suc, _+_, _*_, _-_, _%_, _<_, _≤_}
 use mathlib.Core.Bool.{Bool, true, false, not, cond, _&&_, and-false, and-true, and-self, and-assoc, and-comm}
 use mathlib.Core.List.{List, [], _∷_, _++_}
-use mathlib.Core.Path.{_≡_, refl, sym, ap, _∙_}
+use mathlib.Core.Path.{_≡_, refl, sym, _∙_}
 use native.Mathlib.Nat.{add-zero, sub-self}
 use native.Mathlib.Numerals.{add-one}
 use native.Mathlib.Omega.{arith}
@@ -16,6 +16,7 @@ use Rattle.block.specs.Message.{Record, within, maxTicket, maxSlot, owne
 use Rattle.block.specs.Numbers.{numberFrom}
 use Rattle.block.proofs.ListLaws.{part-take, part-drop, lent, lent-slice, lent-rest, cut}
 use Rattle.block.proofs.NumberLaws.{number-more}
+use Rattle.block.proofs.ReadLaws.{length-entriesOf, length-recordsOf}
 
 -- ---- tests and conjunctions
 
@@ -132,7 +133,7 @@ packed low high b (suc y) P h =
 packed-at : (l : List ℕ) (f t x low high : ℕ) (P : ℕ → Bool) → high < 256 → f < t → t ≤ length l → x ≡ numberFrom (slice f t l)
     → (within low high (getD l f 0) && allZero (slice (f + 1) t l) && P (getD l f 0)) ≡ (within low high x && P x)
 packed-at l f t x low high P small h k e =
-    rw (e, number-more l f t h k, zero-number (slice (f + 1) t l)) (packed low high (getD l f 0) (numberFrom (slice (f + 1) t l)) P small)
+    rw (e, number-more l f (f + 1) t refl h k, zero-number (slice (f + 1) t l)) (packed low high (getD l f 0) (numberFrom (slice (f + 1) t l)) P small)
 
 -- ---- entries
 
@@ -181,16 +182,11 @@ entries-end low n l = rw (sub-self n, lent-rest (8 * n) l)
 abbrev pub recordGood : List ℕ → Bool
 recordGood l = recordFits (recordOf l) && recordPadded l
 
-length-entries : (n : ℕ) (l : List ℕ) → length (entriesOf n l) ≡ n
-unfolding entriesOf
-length-entries zero l = refl
-length-entries (suc n) l = ap suc (length-entries n (drop 8 l))
-
 module _ (l : List ℕ) (t : ℕ) (ticket : t ≡ numberFrom (take 4 l)) where
   record-is : recordGood l
       ≡ (within 1 maxTicket t && (within 1 8 (getD l 4 0) && allZero (slice 5 8 l) && entriesGood 0 (getD l 4 0) (lent 8 (length l) l)))
   unfolding recordFits recordOf recordPadded
-  record-is = rw (ticket, length-entries, and-record, lent-rest 8 l)
+  record-is = rw (ticket, length-entriesOf, and-record, lent-rest 8 l)
 
   pub record-ticket : within 1 maxTicket t ≡ false → recordGood l ≡ false
   record-ticket e = rw (record-is, e)
@@ -343,11 +339,6 @@ module _ (k n : ℕ) (l : List ℕ) where
 
 -- ---- the block
 
-length-records : (n : ℕ) (l : List ℕ) → length (recordsOf n l) ≡ n
-unfolding recordsOf
-length-records zero l = refl
-length-records (suc n) l = ap suc (length-records n (drop 72 l))
-
 pub form-length : (b : List ℕ) → (length b ≡ 512 → ⊥) → wellFormed b ≡ false
 unfolding wellFormed
 form-length b h = rw (ne-eqb (length b) 512 h)
@@ -355,7 +346,7 @@ form-length b h = rw (ne-eqb (length b) 512 h)
 module _ (b : List ℕ) (full : length b ≡ 512) where
   form-is : wellFormed b ≡ (headerFits b && restFits (getD b 0 0) (getD b 3 0) (lent 16 508 b))
   unfolding wellFormed valid messageOf padded headerFits
-  form-is = rw (eq-eqb (length b) 512 full, length-records, lent-slice 16 508 b (omega arith), and-block)
+  form-is = rw (eq-eqb (length b) 512 full, length-recordsOf, lent-slice 16 508 b (omega arith), and-block)
 
   pub form-header : headerFits b ≡ false → wellFormed b ≡ false
   form-header e = rw (form-is, e)

@@ -95,14 +95,27 @@ signed-valueOf l f e = fits-signed (toZ w32 (numberFrom l)) (sfits-toZ (four-fit
 
 -- ---- a number read from a part of a list, byte by byte
 
-module _ (l : List ℕ) (from to : ℕ) where
-  pub number-more : from < to → to ≤ length l → numberFrom (slice from to l) ≡ getD l from 0 + 256 * numberFrom (slice (from + 1) to l)
+module _ (l : List ℕ) where
+  pub number-more : (from next to : ℕ) → from + 1 ≡ next → from < to → to ≤ length l
+      → numberFrom (slice from to l) ≡ getD l from 0 + 256 * numberFrom (slice next to l)
   unfolding numberFrom
-  number-more h k = rw (slice-cons from to l 0 h k, add-one from)
+  number-more from next to e h k = rw (← e, slice-cons from to l 0 h k, add-one from)
 
-  pub number-none : from ≡ to → numberFrom (slice from to l) ≡ 0
+  pub number-none : (to : ℕ) → numberFrom (slice to to l) ≡ 0
   unfolding numberFrom
-  number-none e = rw (e, slice-empty to l)
+  number-none to = rw (slice-empty to l)
+
+  -- of four bytes
+  pub number-four : (at : ℕ) → at + 4 ≤ length l
+      → numberFrom (getD l at 0 ∷ getD l (at + 1) 0 ∷ getD l (at + 2) 0 ∷ getD l (at + 3) 0 ∷ []) ≡ numberFrom (slice at (at + 4) l)
+  unfolding numberFrom
+  number-four at h =
+      let p = number-more at (at + 1) (at + 4) refl (omega arith) h in
+      let q = number-more (at + 1) (at + 2) (at + 4) (omega arith) (omega arith) h in
+      let r = number-more (at + 2) (at + 3) (at + 4) (omega arith) (omega arith) h in
+      let s = number-more (at + 3) (at + 4) (at + 4) (omega arith) (omega arith) h in
+      let z = number-none (at + 4) in
+      omega arith
 
 -- and from two parts of m bytes each: 256 to the m is the weight of the upper
 pub number-halves : (l : List ℕ) (at m : ℕ) → at + 2 * m ≤ length l

@@ -11,9 +11,8 @@ use lib.ListN.{length, getD}
 use lib.Seq.{slice}
 use mir.Syntax.{w32}
 use mir.Val.{toZ}
-use Rattle.block.specs.declared.Answer.{Answer}
 use Rattle.block.specs.declared.Header.{Header}
-use Rattle.block.specs.Answers.{firstOf, blockRefusal, headerOf, noHeader, blockAnswer, recordAt, entryAt}
+use Rattle.block.specs.Answers.{firstOf, blockRefusal, headerOf, noHeader, blockRead, recordAt, entryAt}
 use Rattle.block.specs.Check.{checkMatches}
 use Rattle.block.specs.Form.{entryOf, wellFormed}
 use Rattle.block.specs.Numbers.{numberFrom, valueOf}
@@ -63,23 +62,20 @@ module _ (b : List ℕ) (j : ℕ) where
         )
 
 -- the answers of `read_block`
-abbrev refused : ℕ → Answer
-refused n = record { number = n; header = noHeader }
-
 module _ (b : List ℕ) where
-  pub read-short : (length b ≡ 512 → ⊥) → refused 1 ≡ blockAnswer b
-  unfolding blockAnswer blockRefusal firstOf
+  pub read-short : (length b ≡ 512 → ⊥) → (1, noHeader) ≡ blockRead b
+  unfolding blockRead blockRefusal firstOf
   read-short h = rw (ne-eqb (length b) 512 h)
 
   module _ (long : length b ≡ 512) where
-    pub read-damaged : checkMatches b ≡ false → refused 14 ≡ blockAnswer b
-    unfolding blockAnswer blockRefusal firstOf
+    pub read-damaged : checkMatches b ≡ false → (14, noHeader) ≡ blockRead b
+    unfolding blockRead blockRefusal firstOf
     read-damaged h = rw (eq-eqb (length b) 512 long, h)
 
-    pub read-malformed : checkMatches b ≡ true → wellFormed b ≡ false → refused 15 ≡ blockAnswer b
-    unfolding blockAnswer blockRefusal firstOf
+    pub read-malformed : checkMatches b ≡ true → wellFormed b ≡ false → (15, noHeader) ≡ blockRead b
+    unfolding blockRead blockRefusal firstOf
     read-malformed h k = rw (eq-eqb (length b) 512 long, h, k)
 
-    pub read-taken : checkMatches b ≡ true → wellFormed b ≡ true → (r : Header) → r ≡ headerOf b → record { number = 0; header = r } ≡ blockAnswer b
-    unfolding blockAnswer blockRefusal firstOf
+    pub read-taken : checkMatches b ≡ true → wellFormed b ≡ true → (r : Header) → r ≡ headerOf b → (0, r) ≡ blockRead b
+    unfolding blockRead blockRefusal firstOf
     read-taken h k r e = rw (eq-eqb (length b) 512 long, h, k, e)

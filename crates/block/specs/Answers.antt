@@ -9,7 +9,6 @@ use lib.Seq.{slice}
 use Rattle.block.specs.declared.Entry.{Entry}
 use Rattle.block.specs.declared.Header.{Header}
 use Rattle.block.specs.declared.RecordHead.{RecordHead}
-use Rattle.block.specs.declared.Answer.{Answer}
 use Rattle.block.specs.declared.Read.{Read}
 use Rattle.block.specs.declared.Read.the-variants.{Message, Refused}
 use Rattle.block.specs.Numbers.{numberFrom}
@@ -49,14 +48,14 @@ headerOf b = record {
 abbrev pub noHeader : Header
 noHeader = record { kind = 0; sender = 0; replicas = 0; count = 0; slot = 0 }
 
--- the reader: a number of document 01's table, or 0 and the header
-unfoldable pub blockAnswer : List ℕ → Answer
-blockAnswer b = record { number = blockRefusal b; header = cond (eqb (blockRefusal b) 0) (headerOf b) noHeader }
-
 -- the number and the header of each case of the reader's enum
-abbrev pub answerOf : Read → Answer
-answerOf (Message h) = record { number = 0; header = h }
-answerOf (Refused n) = record { number = n; header = noHeader }
+abbrev pub numberAndHeader : Read → ℕ × Header
+numberAndHeader (Message h) = (0, h)
+numberAndHeader (Refused n) = (n, noHeader)
+
+-- the reader: a number of document 01's table, or 0 and the header
+unfoldable pub blockRead : List ℕ → ℕ × Header
+blockRead b = (blockRefusal b, cond (eqb (blockRefusal b) 0) (headerOf b) noHeader)
 
 -- record j and entry e of a block, zeros where the block has none
 unfoldable pub recordAt : List ℕ → ℕ → RecordHead

@@ -11,11 +11,10 @@ use lib.ListN.{length, getD, set, take, drop, drop-of-length-le}
 use lib.Seq.{drop-cons, drop-drop, drop-length, paste, paste-suc, take-all, take-length}
 use borrow.Author.Tests.{eq-eqb, ne-eqb, lt-ltb, le-ltb, le-leb, lt-leb, eqb-true}
 use borrow.Rule.Slice.PartMut.{putMid, mid-len}
-use Rattle.block.specs.declared.Answer.{Answer}
 use Rattle.block.specs.declared.Header.{Header}
 use Rattle.block.specs.declared.Read.{Read}
 use Rattle.block.specs.declared.Read.the-variants as read
-use Rattle.block.specs.Answers.{Refusal, refuse, firstOf, blockRefusal, headerOf, noHeader, blockAnswer, answerOf}
+use Rattle.block.specs.Answers.{Refusal, refuse, firstOf, blockRefusal, headerOf, noHeader, blockRead, numberAndHeader}
 use Rattle.block.proofs.AnswerLaws.{is-taken}
 use Rattle.block.proofs.BoolLaws.{both}
 use Rattle.memory.specs.declared.Counts.{Counts}
@@ -79,23 +78,23 @@ lengths-long n places outbox bytes h =
 -- ---- the reader's answer
 
 -- a refusal has a number: a header that is read names two replicas at least
-reader-refused : (b : List ℕ) (r : Read) (n : ℕ) → r ≡ read.Refused n → answerOf r ≡ blockAnswer b → (n ≡ blockRefusal b) × (n ≡ 0 → ⊥)
-unfolding blockAnswer
+reader-refused : (b : List ℕ) (r : Read) (n : ℕ) → r ≡ read.Refused n → numberAndHeader r ≡ blockRead b → (n ≡ blockRefusal b) × (n ≡ 0 → ⊥)
+unfolding blockRead
 reader-refused b r n e h =
-    let a : answerOf (read.Refused n) ≡ blockAnswer b = rw e at h in
-    let k : n ≡ blockRefusal b = ap (λ (x : Answer). x .number) a in (
+    let a : numberAndHeader (read.Refused n) ≡ blockRead b = rw e at h in
+    let k : n ≡ blockRefusal b = ap (λ (x : ℕ × Header). x .0) a in (
       k,
       (λ z. let t = sym k ∙ z in
-          let o : noHeader ≡ headerOf b = rw t at (ap (λ (x : Answer). x .header) a) in
+          let o : noHeader ≡ headerOf b = rw t at (ap (λ (x : ℕ × Header). x .1) a) in
           omega (arith, taken-block b t .replicas, ap (λ (x : Header). x .replicas) o)),
     )
 
-pub reader-took : (b : List ℕ) (r : Read) (h : Header) → r ≡ read.Message h → answerOf r ≡ blockAnswer b → (blockRefusal b ≡ 0) × (h ≡ headerOf b)
-unfolding blockAnswer
+pub reader-took : (b : List ℕ) (r : Read) (h : Header) → r ≡ read.Message h → numberAndHeader r ≡ blockRead b → (blockRefusal b ≡ 0) × (h ≡ headerOf b)
+unfolding blockRead
 reader-took b r h e q =
-    let a : answerOf (read.Message h) ≡ blockAnswer b = rw e at q in
-    let k : blockRefusal b ≡ 0 = sym (ap (λ (x : Answer). x .number) a) in
-    (k, rw k at (ap (λ (x : Answer). x .header) a))
+    let a : numberAndHeader (read.Message h) ≡ blockRead b = rw e at q in
+    let k : blockRefusal b ≡ 0 = sym (ap (λ (x : ℕ × Header). x .0) a) in
+    (k, rw k at (ap (λ (x : ℕ × Header). x .1) a))
 
 past-first : (r : Refusal) (l : List Refusal) → r .holds ≡ false → firstOf (r ∷ l) ≡ firstOf l
 unfolding firstOf
@@ -127,8 +126,8 @@ module _ (m : Memory) (bytes : List ℕ) where
         let p = past-first _ _ (ap not (eq-eqb (length bytes) 512 (lengths-long _ (m .blocks .places) (m .blocks .outbox) bytes long .bytes))) in
         p ∙ reader-first _ _ _ (λ z. h (p ∙ z)) ∙ sym (past-first _ _ (ap not long))
 
-    pub deliver-unread : (r : Read) (n : ℕ) → r ≡ read.Refused n → answerOf r ≡ blockAnswer bytes → (a : Answer) → a ≡ answerOf r
-        → outcome (refused (a .number)) m ≡ deliverStep m bytes
+    pub deliver-unread : (r : Read) (n : ℕ) → r ≡ read.Refused n → numberAndHeader r ≡ blockRead bytes → (a : ℕ) → a ≡ numberAndHeader r .0
+        → outcome (refused a) m ≡ deliverStep m bytes
     deliver-unread r n e h a q =
         let k = reader-refused bytes r n e h in
         rw (q, e) (deliver-refused n (k .0 ∙ unread (λ z. k .1 (k .0 ∙ z))) (k .1))

@@ -118,7 +118,7 @@ pub fn deliver(turn: Turn, counts: Counts, places: &mut [u8], outbox: &[u8], byt
     }
     let read = read_block(bytes);
     let Read::Message(header) = read else {
-        return read.answer().number;
+        return read.number();
     };
     let number = refusal(turn, counts, header, &*places, outbox, bytes);
     if number != 0 {

@@ -12,7 +12,7 @@ ghost use Rattle.engine.specs.Calls.{outcome};
 ghost use Rattle.engine.specs.Moves.{sendRow, messageFor, sendRefusal, sendStep};
 ghost use Rattle.call_send.specs.Lent.{sendAnswer, sendParts, blockLeft, writesetIn, headerWith};
 use block::Header;
-use block_writer::write_check;
+use block_check::write_check;
 use block_writer::write_header;
 use block_writer::write_record;
 use memory::Counts;

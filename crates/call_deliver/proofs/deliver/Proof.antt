@@ -36,15 +36,15 @@ enum-known-read c = search needs
 enum-told : tie.Need-enum-told
 enum-told c = search needs
 
-answer-requires : tie.Need-answer-requires
-answer-requires c κs = search needs
+number-requires : tie.Need-number-requires
+number-requires c κs = search needs
 
 returns-2 : tie.Need-returns-2
 returns-2 c = λ m.
     let t = c .before in
     let b = t .before .before in
     gives number
-    (deliver-unread _ _ (fit (b .before)) (b .read-block .result) _ (t .enum-told .given .1) (b .read-block .ensures) (c .answer .result) (c .answer .ensures))
+    (deliver-unread _ _ (fit (b .before)) (b .read-block .result) _ (t .enum-told .given .1) (b .read-block .ensures) (c .number .result) (c .number .ensures))
 
 -- the reader took the bytes, and the header is theirs
 took : (c : tie.After-read)
@@ -124,7 +124,7 @@ deliver-spec =
     read-block-requires
     enum-known-read
     enum-told
-    answer-requires
+    number-requires
     returns-2
     refusal-requires
     same-length

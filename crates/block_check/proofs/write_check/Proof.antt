@@ -1,28 +1,19 @@
--- `write_check` meets its contract: the sums of the first 508 bytes are the block's. Assumes nothing.
+-- `write_check` meets its contract: four stores behind the 508 bytes. Assumes nothing.
 use native.Mathlib.Omega.{arith}
 use borrow.Author.Tests.{eq-eqb, ne-eqb}
 use borrow.Author.Needs.{needs}
 use lib.ListN.{length-set}
 use Rattle.block.specs.Writing.{checkedStep}
 use Rattle.block.proofs.WriteLaws.{check-put}
-use Rattle.block_writer.proofs.write_check.Statement.{statement}
-use Rattle.block_writer.proofs.write_check.Tie as tie
+use Rattle.block_check.proofs.write_check.Statement.{statement}
+use Rattle.block_check.proofs.write_check.Tie as tie
 
 returns : tie.Need-returns
 unfolding checkedStep
 returns c = rw (ne-eqb _ 512 (c .if1 .taken))
 
-sub-check-of : tie.Need-sub-check-of
-sub-check-of c = search needs
-
-part-check-of-start : tie.Need-part-check-of-start
-part-check-of-start c = search needs
-
-part-check-of-end : tie.Need-part-check-of-end
-part-check-of-end c = search needs
-
-check-of-requires : tie.Need-check-of-requires
-check-of-requires c κs = search needs
+sums-requires : tie.Need-sums-requires
+sums-requires c κs = search needs
 
 cast-block : tie.Need-cast-block
 cast-block c = search needs
@@ -54,20 +45,17 @@ same-length c = search needs
 returns-2 : tie.Need-returns-2
 unfolding checkedStep
 returns-2 c =
-    let s = c .before .before .before .before .before in
-    let b = s .before .before .before in
+    let s = c .before .before .before .before in
+    let b = s .before .before in
     let h = b .if1 .left in
-    rw (eq-eqb _ 512 h, ← check-put (b .before .before .args .block .now) (s .check-of .result) h (s .check-of .ensures))
+    rw (eq-eqb _ 512 h, ← check-put (b .before .before .args .block .now) _ _ h (s .sums .ensures .0) (s .sums .ensures .1))
 
 pub write-check-spec : {M : Type 1} → statement M
 write-check-spec =
     tie.close
     (tie.spec
     returns
-    sub-check-of
-    part-check-of-start
-    part-check-of-end
-    check-of-requires
+    sums-requires
     cast-block
     slice-write-block
     cast-block-2
