@@ -33,4 +33,5 @@ worked-cases = record {
   own-early = refl;
   aborted = refl;
   stale = refl;
+  committed = refl;
 }
