@@ -30,6 +30,7 @@ pub mod RestartLaws
 pub mod ShapeRestart
 -- the theorems
 pub mod Refusals
+pub mod WorkFrame
 pub mod Frames
 pub mod Shapes
 pub mod Reports
