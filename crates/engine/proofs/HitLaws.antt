@@ -17,7 +17,7 @@ use Rattle.engine.proofs.Tests.{cond-by, clash}
 
 -- ---- tickets among others, rising
 
-has-rising : (t x : ℕ) (l : List ℕ) → has t (insertRising x l) ≡ cond (eqb x t) true (has t l)
+pub has-rising : (t x : ℕ) (l : List ℕ) → has t (insertRising x l) ≡ cond (eqb x t) true (has t l)
 unfolding has insertRising
 has-rising t x [] = refl
 has-rising t x (y ∷ ys) = go (ltb x y) (has-rising t x ys)

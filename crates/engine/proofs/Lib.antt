@@ -33,6 +33,9 @@ pub mod Refusals
 pub mod WorkFrame
 pub mod Frames
 pub mod Shapes
+pub mod Rising
+pub mod ReadBack
+pub mod Claims
 pub mod Reports
 pub mod Queues
 pub mod Worked

@@ -1,36 +1,29 @@
 -- What a work may change. Assumes nothing.
-use Prim.Native.Nat.{ℕ, _<_}
-use mathlib.Core.Path.{_≡_, refl, sym, _∙_}
-use mathlib.Core.Bool.{Bool, true, false}
+use Prim.Native.Nat.{ℕ}
+use mathlib.Core.Path.{_≡_, refl, _∙_}
+use mathlib.Core.Bool.{Bool}
 use mathlib.Core.Logic.{_⊎_, inl, inr}
 use mathlib.Core.List.{List, [], _∷_}
 use native.Mathlib.Nat.{zero-add}
 use native.Mathlib.Omega.{arith}
-use lib.Dec.{eqb}
 use lib.IntN.{ℤ, pos}
 use lib.ListN.{length, set, length-set, List·getD-eq-default}
 use lib.Seq.{getD-set-same, getD-set-other}
-use borrow.Author.Tests.{eqb-false}
 use Rattle.block.specs.declared.Entry.{Entry}
 use Rattle.memory.specs.declared.Turn.{Turn}
 use Rattle.memory.specs.declared.Txn.{Txn}
 use Rattle.memory.specs.Memory.{Blocks, Memory, bump}
-use Rattle.memory.specs.Rows.{closed, rowOf, rowAt, has}
+use Rattle.memory.specs.Rows.{closed, rowOf, rowAt}
 use Rattle.memory.specs.Turns.{placeStart}
 use Rattle.engine.specs.Moves.{blockAtTurn, writesetAt, applied, stamped, isHit, afterAborts, isLast, passNext, commitWriteset}
 use Rattle.engine.specs.Frames.{SameBut, SameButItems, WorkFrame}
-use Rattle.engine.proofs.Tests.{cond-by, same-by, less-by, clash}
+use Rattle.engine.proofs.Tests.{cond-by, same-by, less-by}
+use Rattle.engine.proofs.HasLaws.{has-not}
 use Rattle.engine.proofs.PartLaws.{set-but}
 use Rattle.engine.proofs.RowLaws.{others}
 use Rattle.engine.proofs.HitLaws.{length-aborts, aborts-at}
 
 -- ---- values and stamps
-
-has-not : (x y : ℕ) (ys : List ℕ) → has x (y ∷ ys) ≡ false → (x ≡ y → ⊥) × (has x ys ≡ false)
-unfolding has
-has-not x y ys =
-    cond-by (λ (b : Bool). b ≡ false → (x ≡ y → ⊥) × (has x ys ≡ false)) (eqb y x) (λ e h. clash {b = true} refl h)
-    (λ e h. ((λ q. eqb-false y x e (sym q)), h))
 
 applied-but : (es : List Entry) (l : List ℤ) → SameButItems (pos 0) es l (applied es l)
 unfolding applied
