@@ -34,4 +34,7 @@ worked-cases = record {
   aborted = refl;
   stale = refl;
   committed = refl;
+  early = refl;
+  sent-holds = refl;
+  sent-once = refl;
 }

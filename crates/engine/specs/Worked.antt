@@ -94,3 +94,8 @@ pub record WorkedCases : Type 0 where
       ∷ got (pos 7)
       ∷ got (pos 8)
       ∷ []
+  -- what document 01's wrong replicas get wrong: a block that comes early waits for its turn; a sent transaction keeps its locks; one asked after a send
+  -- brings no second block for the slot
+  pub early : numbers (fresh 3 0) (deliver (nextBlock 3 2 2) ∷ work ∷ []) ≡ 0 ∷ 21 ∷ []
+  pub sent-holds : numbers (fresh 2 0) (begin ∷ begin ∷ write 1 5 (pos 7) ∷ ask 1 ∷ send (replicate 512 0) ∷ write 2 5 (pos 8) ∷ []) ≡ replicate 5 0 ++ (8 ∷ [])
+  pub sent-once : numbers (fresh 2 0) (send (replicate 512 0) ∷ begin ∷ write 1 5 (pos 7) ∷ ask 1 ∷ send (replicate 512 0) ∷ []) ≡ replicate 4 0 ++ (12 ∷ [])
