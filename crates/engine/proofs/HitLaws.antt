@@ -17,7 +17,7 @@ use Rattle.engine.proofs.Tests.{cond-by, clash}
 
 -- ---- tickets among others, rising
 
-has-rising : (t x : ℕ) (l : List ℕ) → has t (insertRising x l) ≡ cond (eqb x t) true (has t l)
+pub has-rising : (t x : ℕ) (l : List ℕ) → has t (insertRising x l) ≡ cond (eqb x t) true (has t l)
 unfolding has insertRising
 has-rising t x [] = refl
 has-rising t x (y ∷ ys) = go (ltb x y) (has-rising t x ys)
@@ -55,7 +55,7 @@ module _ (es : List Entry) (items : List ℕ) where
   aborts-at r (t ∷ ts) (suc k) h = rw (add-suc r k, ← suc-add r k) (aborts-at (suc r) ts k (le-of-suc-le-suc h))
 
   pub hit-open : (r : ℕ) (t : Txn) → isHit es items r t ≡ true → isOpen t ≡ true
-  hit-open r t e = both (isOpen t) (ltb (t .stage) 2 && shares (itemsOf r t items) es) e .left
+  hit-open r t e = both (isOpen t) _ e .left
 
   -- an open row is afterAborts or its ticket is among those hit
   pub aborts-open : (r : ℕ) (ts : List Txn) → openCount (afterAborts es items r ts) + length (hitTickets es items r ts) ≡ openCount ts

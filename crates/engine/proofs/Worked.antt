@@ -33,4 +33,8 @@ worked-cases = record {
   own-early = refl;
   aborted = refl;
   stale = refl;
+  committed = refl;
+  early = refl;
+  sent-holds = refl;
+  sent-once = refl;
 }

@@ -9,5 +9,6 @@ pub mod Restart
 pub mod Worked
 pub mod Frames
 pub mod Shape
+pub mod Claims
 pub mod History
 pub mod Restarts
