@@ -15,7 +15,7 @@ use Rattle.engine.specs.Calls.{Answer}
 use Rattle.engine.specs.Calls.Answer.{refused, made, began, got, wrote, queued, readOnly, withdrew, reported, sent, kept, worked, restarted}
 use Rattle.engine.specs.Step.{Call, step}
 use Rattle.engine.proofs.RestartLaws.{AllGood, good-taken}
-use Rattle.protocol.specs.Lists.{pick, opt}
+use Rattle.protocol.specs.Lists.{opt}
 use Rattle.protocol.specs.Writesets.{Message}
 use Rattle.protocol.specs.Journal.{Journal, journal}
 use Rattle.protocol.specs.Blocks.{join}
@@ -138,7 +138,7 @@ module _ (n : ℕ) (start : List ℤ) (least : 2 ≤ n) (most : n ≤ 6) (long :
       s : J′ .safe ≤ length (J′ .kept)
       s = subst (λ (j : Journal ℤ). j .safe ≤ length (j .kept)) (update-same J (c .at) J′) (I .inv .journals (c .at) .safe)
 
-      by : (b : Bool) → 512 * pick b d′ (g .disks k) .safe ≤ pick b (floorAfter (fl (c .at)) (d′ .journal) (did n start g c .answer)) (fl k)
+      by : (b : Bool) → 512 * cond b d′ (g .disks k) .safe ≤ cond b (floorAfter (fl (c .at)) (d′ .journal) (did n start g c .answer)) (fl k)
       by true = floor-by (g .disks (c .at)) (fl (c .at)) (c .does) (did n start g c .answer) (low (c .at)) (safe-bytes n d′ J′ H′ s)
       by false = low k
 

@@ -32,7 +32,6 @@ use Rattle.engine.proofs.Steps.{begin-by, read-by, write-by, ask-by, withdraw-b
 use Rattle.engine.proofs.Shaping.{bumps}
 use Rattle.engine.proofs.ShapeTurn.{Working, working}
 use Rattle.engine.proofs.RestartLaws.{AllGood, good-none, good-cons, good-taken, reads-good, reads-first}
-use Rattle.protocol.specs.Lists.{pick}
 use Rattle.protocol.specs.Writesets.{Message}
 use Rattle.protocol.specs.Replica.{Event}
 use Rattle.protocol.specs.Journal.{Journal, journal, append, Cut, journalAfter, appended}
@@ -104,7 +103,7 @@ one-block n b g = record { blocks = b ∷ []; bytes = append-nil b; good = good-
 
 -- the turn leaves the slot of b, from `slot` to `turn`
 left-block : (n : ℕ) (b : List ℕ) → isGood n b ≡ true → (mine last : Bool) (slot turn : ℕ) → turn ≡ cond last (suc slot) slot
-    → AppendedBlocks n (cond last (cond mine [] b) []) (pick mine none (pick (eqb turn slot) none (some (messageIn b))))
+    → AppendedBlocks n (cond last (cond mine [] b) []) (cond mine none (cond (eqb turn slot) none (some (messageIn b))))
 left-block n b g true true slot turn e = no-block n
 left-block n b g true false slot turn e = no-block n
 left-block n b g false true slot turn e = rw (ne-eqb turn slot (λ q. let w : ⊥ = omega arith in w)) (one-block n b g)

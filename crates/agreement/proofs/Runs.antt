@@ -19,7 +19,7 @@ use Rattle.engine.specs.Step.Call.{begin, read, write, ask, withdraw, report, s
 use Rattle.engine.specs.Restart.{blocksIn, lastOwn, restartStep}
 use Rattle.engine.proofs.Tests.{cond-by}
 use Rattle.engine.proofs.Steps.{begin-by, read-by, write-by, ask-by, withdraw-by, send-by, deliver-by, work-by, restart-by}
-use Rattle.protocol.specs.Lists.{pick, opt, update, Mem}
+use Rattle.protocol.specs.Lists.{opt, update, Mem}
 use Rattle.protocol.specs.Writesets.{Message}
 use Rattle.protocol.specs.Replica.{Event}
 use Rattle.protocol.specs.Journal.{Journal, journal, journalAfter, appended}
@@ -162,7 +162,7 @@ module _ (n : ℕ) (start : List ℤ) (least : 2 ≤ n) (most : n ≤ 6) (long :
     disks = λ k. by k (eqb k (c .at));
   }
     where
-      by : (k : ℕ) (b : Bool) → OnDisk n (pick b (diskAfter (g .disks (c .at)) (c .does) (did n start g c .answer)) (g .disks k)) (pick b (journalNext (J (c .at)) (c .at) (g .memories (c .at)) (c .does)) (J k))
+      by : (k : ℕ) (b : Bool) → OnDisk n (cond b (diskAfter (g .disks (c .at)) (c .does) (did n start g c .answer)) (g .disks k)) (cond b (journalNext (J (c .at)) (c .at) (g .memories (c .at)) (c .does)) (J k))
       by k true = disk-next (g .disks (c .at)) (J (c .at)) (K .disks (c .at)) (c .at) (g .memories (c .at)) (K .sound (c .at) (h .0)) (c .does)
       by k false = K .disks k
 

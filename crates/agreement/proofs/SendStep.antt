@@ -23,7 +23,6 @@ use Rattle.engine.specs.Step.{step}
 use Rattle.engine.specs.Step.Call.{send}
 use Rattle.engine.proofs.Tests.{not-first}
 use Rattle.engine.proofs.Steps.{send-by}
-use Rattle.protocol.specs.Lists.{pick}
 use Rattle.protocol.specs.Replica.{Setup, transactions, Replica, replica, handedOut, Outcome, outcome}
 use Rattle.protocol.specs.Moves as model
 use Rattle.protocol.specs.Moves.{markSent, sendTxn, outgoing, sendStep}
@@ -57,7 +56,7 @@ map-through d g f h (a ∷ w) e = rw (e 0 (omega arith), map-through d g f h w (
 module _ {over : ℕ} (m : Memory) (S : Shape over m) where
   -- the writeset of an open row is that of its transaction
   writeset-is : (t : ℕ) → rowOf t (m .txns .table) < 6
-      → group.writesetOf (engine.writesetOf (m .txns) t) ≡ model.writesetOf (openTxns (m .txns)) t
+      → group.writesetFrom (engine.writesetOf (m .txns) t) ≡ model.writesetOf (openTxns (m .txns)) t
   unfolding engine.writesetOf txnOf
   writeset-is t h = rw (find-row m S t h)
 
@@ -67,7 +66,7 @@ module _ {over : ℕ} (m : Memory) (S : Shape over m) where
       let w = waiting (m .txns .queue) in
       rw (
         e,
-        map-through 0 group.writesetOf (engine.writesetOf (m .txns))
+        map-through 0 group.writesetFrom (engine.writesetOf (m .txns))
             (model.writesetOf (openTxns (m .txns))) w (λ k h. writeset-is (getD w k 0) (asked-row m S k h .0)),
       )
 
@@ -77,13 +76,9 @@ module _ {over : ℕ} (m : Memory) (S : Shape over m) where
 abbrev sentTxns : Transactions → Transactions
 sentTxns x = record { table = map sendRow (x .table); queue = replicate 6 0; items = x .items; writes = x .writes; snapshots = x .snapshots }
 
-as-picked : (b : Bool) (n k : ℕ) → cond b n k ≡ pick b n k
-as-picked true n k = refl
-as-picked false n k = refl
-
 sent-row : (x : Transactions) (r : ℕ) (t : Txn) → txnOf (sentTxns x) r (sendRow t) ≡ sendTxn (txnOf x r t)
 unfolding txnOf
-sent-row x r t = rw (as-picked (eqb (t .stage) 1) 2 (t .stage))
+sent-row x r t = refl
 
 sent-rows : (x : Transactions) (r : ℕ) (ts : List Txn) → rowsFrom (sentTxns x) r (map sendRow ts) ≡ map sendTxn (rowsFrom x r ts)
 unfolding rowsFrom

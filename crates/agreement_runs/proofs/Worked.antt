@@ -1,7 +1,7 @@
 -- The runs, computed from the definitions. Assumes nothing.
 use Prim.Native.Nat.{ℕ, _*_}
 use mathlib.Core.Path.{_≡_, refl, sym, ap, _∙_, subst}
-use mathlib.Core.Bool.{Bool, true, false, not, _&&_}
+use mathlib.Core.Bool.{Bool, true, false, not, _&&_, cond}
 use mathlib.Core.List.{List, [], _∷_, _++_}
 use lib.Dec.{ltb, leb, eqb}
 use native.Mathlib.Omega.{arith}
@@ -28,7 +28,7 @@ use Rattle.engine.specs.Step.{Call, step}
 use Rattle.engine.specs.Step.Call.{report, send, deliver}
 use Rattle.engine.specs.Restart.{isGood, blocksFrom, firstBlocks, writesetsFrom, commitAll, commitBlocks, highestTicket, highestOwn, ownWritesets, lastOwn, restartedMemory, restartRefusal, restartStep}
 use Rattle.engine.proofs.Tests.{clash}
-use Rattle.protocol.specs.Lists.{pick, Mem, any}
+use Rattle.protocol.specs.Lists.{Mem, any}
 use Rattle.protocol.specs.Observer.{sequence, applyAll}
 use Rattle.protocol.proofs.ListLaws.{any-true, any-false}
 use Rattle.agreement.specs.Group as group
@@ -111,7 +111,7 @@ module _ (n : ℕ) (start : List ℤ) where
   no-restart [] g e = tt
   no-restart (c ∷ cs) g e = go (c .does) e (no-restart cs (next n start g c))
     where
-      go : (d : GroupCall) → pick (isRestart d) true (any (λ c. isRestart (c .does)) cs) ≡ false
+      go : (d : GroupCall) → cond (isRestart d) true (any (λ c. isRestart (c .does)) cs) ≡ false
           → (any (λ c. isRestart (c .does)) cs ≡ false → AllLent (next n start g c) cs) → LentAt g (c .at) d × AllLent (next n start g c) cs
       go (call x) f ih = (tt, ih f)
       go (restart j l) f ih = clash {b = true} refl f

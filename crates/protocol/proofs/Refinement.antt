@@ -1,12 +1,11 @@
 -- From a machine to the model: a machine that refines the model agrees. Assumes nothing.
 use Prim.Native.Nat.{ℕ}
 use mathlib.Core.Path.{_∙_, _≡_, ap, refl, subst, sym}
-use mathlib.Core.Bool.{Bool, false, true}
+use mathlib.Core.Bool.{Bool, false, true, cond}
 use mathlib.Core.Option.{Option, none, some}
 use mathlib.Core.List.{List, [], _++_, _∷_, append-assoc, append-nil}
 use lib.Dec.{eqb}
 use borrow.Author.Tests.{eqb-false, eqb-true}
-use Rattle.protocol.specs.Lists.{pick}
 use Rattle.protocol.specs.Writesets.{Message}
 use Rattle.protocol.specs.Replica.{Setup, Cursor, Replica, Event, refused, Outcome}
 use Rattle.protocol.specs.Journal.{Journal, Cut, journalAfter, appended}
@@ -168,18 +167,18 @@ module _ {X : Type 0} (S : Setup X) where
             m′ : Memory
             m′ = did .memory
 
-            one : (j : ℕ) (b : Bool) → eqb j k ≡ b → ReplicaInv S D′ (pick b p′ (g .observed j)) j (view j (pick b m′ (g .memories j)))
+            one : (j : ℕ) (b : Bool) → eqb j k ≡ b → ReplicaInv S D′ (cond b p′ (g .observed j)) j (view j (cond b m′ (g .memories j)))
             one j true e = subst (λ (i : ℕ). ReplicaInv S D′ p′ i (view i m′)) (sym (eqb-true j k e)) (kept .mine)
             one j false e = kept .others j (eqb-false j k e) (g .observed j) (view j (g .memories j)) (H .inv .each j)
 
-            two : (j : ℕ) → Member j → (b : Bool) → eqb j k ≡ b → Sound j (pick b m′ (g .memories j))
+            two : (j : ℕ) → Member j → (b : Bool) → eqb j k ≡ b → Sound j (cond b m′ (g .memories j))
             two j h true e = subst (λ (i : ℕ). Sound i m′) (sym (eqb-true j k e)) (stays k m (a .command) (H .sound k (a .here)))
             two j h false e = H .sound j h
 
             J′ : Journal X
             J′ = journalAfter J (appendedBy S M k m (a .command)) (did .event)
 
-            three : (j : ℕ) (b : Bool) → eqb j k ≡ b → Journaled S D′ j (view j (pick b m′ (g .memories j)) .cursor .turn) (pick b J′ (g .journals j))
+            three : (j : ℕ) (b : Bool) → eqb j k ≡ b → Journaled S D′ j (view j (cond b m′ (g .memories j)) .cursor .turn) (cond b J′ (g .journals j))
             three j true e = subst (λ (i : ℕ). Journaled S D′ i (view i m′ .cursor .turn) J′) (sym (eqb-true j k e)) journaled
             three j false e = journal-others S D k p (did .event) (kept .whole .inOrder) j (eqb-false j k e) (view j (g .memories j) .cursor .turn) (g .journals j) (H .inv .journals j)
 
