@@ -22,7 +22,7 @@ use Rattle.protocol.specs.Blocks.{join}
 use Rattle.protocol.specs.Machine.{MachineSystem, CommandPremise, runCommands}
 use Rattle.protocol.proofs.ListLaws.{update-same}
 use Rattle.protocol.proofs.Refinement.{MachineInv, inv-commands}
-use Rattle.agreement.specs.Group.{messageIn, GroupCall, valueIn, Disk, diskAfter, Group, CallAt, did, next, run, Calls, Lent}
+use Rattle.agreement.specs.Group.{messageIn, GroupCall, argumentsOf, Disk, diskAfter, Group, CallAt, did, next, run, Calls, Lent}
 use Rattle.agreement.specs.Floor.{floorAfter, LentAbove, floorsNext, floorsRun, FloorPremise}
 use Rattle.agreement.proofs.View.{setup, Sound, Owed}
 use Rattle.agreement.proofs.JournalView.{OnDisk}
@@ -71,7 +71,7 @@ floor-by d floor c kept h u = h
 floor-by d floor c (worked s) h u = h
 floor-by d floor c (restarted k b) h u = go (eqb (getD b 0 0) 0) u
   where
-    go : (z : Bool) → 512 * safeWith d b z ≤ length (diskAfter d c (restarted k b) .journal) → 512 * safeWith d b z ≤ cond z floor (length (diskAfter d c (restarted k b) .journal))
+    go : (z : Bool) → 512 * safeWith d b z ≤ length (diskAfter d c (restarted k b) .journal) → 512 * safeWith d b z ≤ opt (cond z none (some b)) floor (λ (l : List ℕ). length (diskAfter d c (restarted k b) .journal))
     go true u = h
     go false u = u
 
@@ -101,7 +101,7 @@ module _ (n : ℕ) (start : List ℤ) (least : 2 ≤ n) (most : n ≤ 6) (long :
 
   -- the first call's premise, as the machine's
   first : (fl : ℕ → ℕ) (g : Group) (c : CallAt) (cs : List CallAt) → FloorPremise n start fl g (c ∷ cs) → (J : ℕ → Journal ℤ) → Holds J g
-      → ((k : ℕ) → 512 * g .disks k .safe ≤ fl k) → (h : (c .at < n) × (signed32 (valueIn (c .does)) ≡ true))
+      → ((k : ℕ) → 512 * g .disks k .safe ≤ fl k) → (h : (c .at < n) × (signed32 (argumentsOf (c .does) .value) ≡ true))
       → CommandPremise (setup n start) (machine n start least most long owes) (machineOf n start least most long owes J g) (command n start least most long owes c h ∷ [])
   unfolding run floorsRun CommandPremise
   first fl g c cs A J K low h = (
@@ -114,7 +114,7 @@ module _ (n : ℕ) (start : List ℤ) (least : 2 ≤ n) (most : n ≤ 6) (long :
     tt,
   )
 
-  inv-next : (J : ℕ → Journal ℤ) (g : Group) (c : CallAt) (h : (c .at < n) × (signed32 (valueIn (c .does)) ≡ true)) → Inv J g
+  inv-next : (J : ℕ → Journal ℤ) (g : Group) (c : CallAt) (h : (c .at < n) × (signed32 (argumentsOf (c .does) .value) ≡ true)) → Inv J g
       → CommandPremise (setup n start) (machine n start least most long owes) (machineOf n start least most long owes J g) (command n start least most long owes c h ∷ [])
       → Inv (journalsNext n start least most long owes J g c) (next n start g c)
   unfolding runCommands

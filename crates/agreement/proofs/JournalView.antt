@@ -38,11 +38,12 @@ use Rattle.protocol.specs.Journal.{Journal, journal, append, Cut, journalAfter,
 use Rattle.protocol.specs.Blocks.{join, readBlocks}
 use Rattle.protocol.proofs.BlockLaws.{cut-of-bytes}
 use Rattle.protocol.proofs.SequenceLaws.{map-append}
-use Rattle.agreement.specs.Group.{messageIn, call, restart, heard, heardRestart, Disk, disk, appendedIn, diskAfter, Lent}
+use Rattle.agreement.specs.Group.{messageIn, call, restart, heard, Disk, disk, appendedIn, diskAfter, Lent}
 use Rattle.agreement.proofs.View.{setup, placeAt, view, Sound}
 use Rattle.agreement.proofs.PlaceView.{place-taken}
 use Rattle.agreement.proofs.Sendable.{sendable}
 use Rattle.agreement.proofs.RestartView.{read-enough}
+use Rattle.agreement.proofs.RestartAnswers.{NoRestart, no-restart}
 use Rattle.agreement.proofs.RestartStep.{lentMessages}
 
 -- ---- blocks joined
@@ -111,7 +112,7 @@ left-block n b g false false slot turn e = rw (eq-eqb turn slot e) (no-block n)
 
 module _ (n : ℕ) (start : List ℤ) (m : Memory) (s : Sound n m) where
   abbrev Appends : Call → Outcome → Type 0
-  Appends c o = AppendedBlocks n (appendedIn (o .answer)) (appended (setup n start) (view m) (o .memory .turn .slot) (heard c (o .answer)))
+  Appends c o = AppendedBlocks n (appendedIn (o .answer)) (appended (setup n start) (view m) (o .memory .turn .slot) (heard (call c) (o .answer)))
 
   abbrev b : List ℕ
   b = blockAtTurn m
@@ -175,7 +176,7 @@ module _ (n : ℕ) (d : Disk) (J : Journal ℤ) (H : OnDisk n d J) where
     safe = refl;
   }
 
-  worked-journal : (more : Option (Message ℤ)) (c : Call) (w : Step) → journalAfter J more (heard c (worked w)) ≡ journal (append (J .kept) more) (J .safe)
+  worked-journal : (more : Option (Message ℤ)) (c : Call) (w : Step) → journalAfter J more (heard (call c) (worked w)) ≡ journal (append (J .kept) more) (J .safe)
   unfolding heard journalAfter
   worked-journal more c w = cond-by (λ (e : Event ℤ). journalAfter J more e ≡ journal (append (J .kept) more) (J .safe)) (eqb (w .ticket) 0) (λ q. refl) (λ q. refl)
 
@@ -183,34 +184,34 @@ module _ (n : ℕ) (d : Disk) (J : Journal ℤ) (H : OnDisk n d J) where
   stays more A = subst (λ (l : List ℕ). OnDisk n (disk l (d .safe)) (journal (append (J .kept) more) (J .safe))) (append-nil (d .journal)) (rw (H .safe) (grows [] more A (J .safe)))
 
   -- by what is answered; `more` is what the model appends
-  disk-by : (c : Call) (a : Answer) (more : Option (Message ℤ)) → AppendedBlocks n (appendedIn a) more → OnDisk n (diskAfter d (call c) a) (journalAfter J more (heard c a))
+  disk-by : (c : Call) (a : Answer) (more : Option (Message ℤ)) → AppendedBlocks n (appendedIn a) more → NoRestart a → OnDisk n (diskAfter d (call c) a) (journalAfter J more (heard (call c) a))
   unfolding heard journalAfter join
-  disk-by c (refused k) more A = stays more A
-  disk-by c made more A = stays more A
-  disk-by c (began t) more A = stays more A
-  disk-by c (got v) more A = stays more A
-  disk-by c wrote more A = stays more A
-  disk-by c queued more A = stays more A
-  disk-by c readOnly more A = stays more A
-  disk-by c withdrew more A = stays more A
-  disk-by c (reported r) more A = stays more A
-  disk-by c (sent l) more A = grows l more A (suc (messageIn l .slot))
-  disk-by c kept more A = stays more A
-  disk-by c (worked w) more A = rw (worked-journal more c w, H .safe) (grows (w .append) more A (J .safe))
-  disk-by c (restarted k l) more A = record { blocks = []; bytes = sym (take-nil (512 * k)); good = good-none n; says = refl; safe = rw (H .safe) refl }
+  disk-by c (refused k) more A q = stays more A
+  disk-by c made more A q = stays more A
+  disk-by c (began t) more A q = stays more A
+  disk-by c (got v) more A q = stays more A
+  disk-by c wrote more A q = stays more A
+  disk-by c queued more A q = stays more A
+  disk-by c readOnly more A q = stays more A
+  disk-by c withdrew more A q = stays more A
+  disk-by c (reported r) more A q = stays more A
+  disk-by c (sent l) more A q = grows l more A (suc (messageIn l .slot))
+  disk-by c kept more A q = stays more A
+  disk-by c (worked w) more A q = rw (worked-journal more c w, H .safe) (grows (w .append) more A (J .safe))
+  disk-by c (restarted k l) more A q = absurd q
 
   pub disk-call : (start : List ℤ) (m : Memory) → Sound n m → (c : Call)
-      → let o = step m c in OnDisk n (diskAfter d (call c) (o .answer)) (journalAfter J (appended (setup n start) (view m) (o .memory .turn .slot) (heard c (o .answer))) (heard c (o .answer)))
-  disk-call start m s c = disk-by c (step m c .answer) _ (appends n start m s c)
+      → let o = step m c in OnDisk n (diskAfter d (call c) (o .answer)) (journalAfter J (appended (setup n start) (view m) (o .memory .turn .slot) (heard (call c) (o .answer))) (heard (call c) (o .answer)))
+  disk-call start m s c = disk-by c (step m c .answer) _ (appends n start m s c) (no-restart m c)
 
   pub disk-restart : (start : List ℤ) (m : Memory) (k : ℕ) (bytes l : List ℕ)
       → let o = restartStep m n k start bytes l in OnDisk n (diskAfter d (restart bytes l) (o .answer))
-      (journalAfter J (appended (setup n start) (view m) (o .memory .turn .slot) (heardRestart bytes (o .answer))) (heardRestart bytes (o .answer)))
-  unfolding heardRestart journalAfter appended
+      (journalAfter J (appended (setup n start) (view m) (o .memory .turn .slot) (heard (restart bytes l) (o .answer))) (heard (restart bytes l) (o .answer)))
+  unfolding heard journalAfter appended
   disk-restart start m k bytes l =
       let first = reads-first n 0 (length bytes / 512) bytes in
       restart-by (λ (o : Outcome). OnDisk n (diskAfter d (restart bytes l) (o .answer))
-      (journalAfter J (appended (setup n start) (view m) (o .memory .turn .slot) (heardRestart bytes (o .answer))) (heardRestart bytes (o .answer)))) m n k start bytes l
+      (journalAfter J (appended (setup n start) (view m) (o .memory .turn .slot) (heard (restart bytes l) (o .answer))) (heard (restart bytes l) (o .answer)))) m n k start bytes l
       (λ e. record {
         blocks = blocksIn n bytes;
         bytes = ap join (sym first) ∙ join-first (length (blocksIn n bytes)) bytes;
@@ -223,14 +224,14 @@ module _ (n : ℕ) (d : Disk) (J : Journal ℤ) (H : OnDisk n d J) where
   -- ---- what a cut leaves
 
   pub lent-cut : (start : List ℤ) (m : Memory) → Sound n m → (bytes : List ℕ) (L : Lent m d bytes)
-      → let o = step m (L .ended) in Cut J (appended (setup n start) (view m) (o .memory .turn .slot) (heard (L .ended) (o .answer))) (lentMessages n bytes)
+      → let o = step m (L .ended) in Cut J (appended (setup n start) (view m) (o .memory .turn .slot) (heard (call (L .ended)) (o .answer))) (lentMessages n bytes)
   lent-cut start m s bytes L =
       subst (Cut J more) (sym same)
       (cut-of-bytes 512 (omega arith) (isGood n) messageIn J more most (G .blocks) (omega arith) (λ x q. (is-taken x (good-taken n x (G .good x q)) .long, G .good x q)) (G .says) (L .cut .count)
       (rw (← part) (let h = L .cut .enough in let e = H .safe in omega arith)))
     where
       more : Option (Message ℤ)
-      more = appended (setup n start) (view m) (step m (L .ended) .memory .turn .slot) (heard (L .ended) (step m (L .ended) .answer))
+      more = appended (setup n start) (view m) (step m (L .ended) .memory .turn .slot) (heard (call (L .ended)) (step m (L .ended) .answer))
 
       G : OnDisk n (disk (d .journal ++ appendedIn (step m (L .ended) .answer)) 0) (journal (append (J .kept) more) 0)
       G = grows (appendedIn (step m (L .ended) .answer)) more (appends n start m s (L .ended)) 0

@@ -21,6 +21,7 @@ pub mod SendStep
 pub mod DeliverStep
 pub mod WorkStep
 pub mod RestartView
+pub mod RestartAnswers
 pub mod RestartStep
 -- the journals
 pub mod JournalView

@@ -28,7 +28,7 @@ use Rattle.protocol.specs.System.{HandedOut}
 use Rattle.protocol.specs.Machine.{Machine, CommandClaim, MachineSystem, CommandAt, afterCommand, runCommands, CommandLent, CommandPremise, CommandClaims}
 use Rattle.protocol.proofs.ListLaws.{update-by, mem-map}
 use Rattle.protocol.proofs.SequenceLaws.{map-append}
-use Rattle.agreement.specs.Group.{messageIn, GroupCall, call, restart, valueIn, performed, givenIn, heard, heardRestart, told, Disk, diskAfter, Group, CallAt, fresh, did, blocksAfter, next, run, Comes, Calls, Lent}
+use Rattle.agreement.specs.Group.{messageIn, GroupCall, call, restart, performed, argumentsOf, givenIn, heard, Disk, diskAfter, Group, CallAt, fresh, did, blocksAfter, next, run, Comes, Calls, Lent}
 use Rattle.agreement.proofs.View.{setup, view, Sound, meant, Owed}
 use Rattle.agreement.proofs.RestartStep.{meantBy}
 use Rattle.agreement.proofs.JournalView.{OnDisk, empty-disk, disk-call, disk-restart, lent-cut}
@@ -36,18 +36,18 @@ use Rattle.agreement.proofs.Replicas.{SoundAt, stays, made-sound, repli
 
 -- ---- the messages of the blocks handed out
 
-work-message : (B : List (Message ℤ)) (s : Step) → messagesAfter B (heard work (worked s)) ≡ B
+work-message : (B : List (Message ℤ)) (c : GroupCall) (s : Step) → messagesAfter B (heard c (worked s)) ≡ B
 unfolding heard messagesAfter
-work-message B s = cond-by (λ (e : Event ℤ). messagesAfter B e ≡ B) (eqb (s .ticket) 0) (λ q. refl) (λ q. refl)
+work-message B c s = cond-by (λ (e : Event ℤ). messagesAfter B e ≡ B) (eqb (s .ticket) 0) (λ q. refl) (λ q. refl)
 
-given-message : (B : List (List ℕ)) (b : List ℕ) → opt (givenIn b) (map messageIn B) (λ w. map messageIn B ++ (w ∷ [])) ≡ map messageIn (cond (eqb (getD b 0 0) 0) B (B ++ (b ∷ [])))
+given-message : (B : List (List ℕ)) (b : List ℕ) → opt (givenIn b) (map messageIn B) (λ w. map messageIn B ++ (w ∷ [])) ≡ map messageIn (opt (cond (eqb (getD b 0 0) 0) none (some b)) B (λ c. B ++ (c ∷ [])))
 given-message B b = go (eqb (getD b 0 0) 0)
   where
-    go : (z : Bool) → opt (cond z none (some (messageIn b))) (map messageIn B) (λ (w : Message ℤ). map messageIn B ++ (w ∷ [])) ≡ map messageIn (cond z B (B ++ (b ∷ [])))
+    go : (z : Bool) → opt (cond z none (some (messageIn b))) (map messageIn B) (λ (w : Message ℤ). map messageIn B ++ (w ∷ [])) ≡ map messageIn (opt (cond z none (some b)) B (λ (c : List ℕ). B ++ (c ∷ [])))
     go true = refl
     go false = sym (map-append messageIn B (b ∷ []))
 
-messages-after : (B : List (List ℕ)) (c : Call) (a : Answer) → messagesAfter (map messageIn B) (heard c a) ≡ map messageIn (blocksAfter B a)
+messages-after : (B : List (List ℕ)) (c : GroupCall) (a : Answer) → messagesAfter (map messageIn B) (heard c a) ≡ map messageIn (blocksAfter B a)
 unfolding heard messagesAfter
 messages-after B c (refused n) = refl
 messages-after B c made = refl
@@ -60,23 +60,15 @@ messages-after B c withdrew = refl
 messages-after B c (reported r) = refl
 messages-after B c (sent b) = sym (map-append messageIn B (b ∷ []))
 messages-after B c kept = refl
-messages-after B c (worked s) = work-message (map messageIn B) s
+messages-after B c (worked s) = work-message (map messageIn B) c s
 messages-after B c (restarted k b) = given-message B b
-
-told-messages : (B : List (List ℕ)) (n k : ℕ) (start : List ℤ) (m : Memory) (c : GroupCall)
-    → let a = performed n start k m c .answer in messagesAfter (map messageIn B) (told c a) ≡ map messageIn (blocksAfter B a)
-unfolding heardRestart messagesAfter
-told-messages B n k start m (call c) = messages-after B c (step m c .answer)
-told-messages B n k start m (restart j l) =
-    restart-by (λ (o : Outcome). messagesAfter (map messageIn B) (heardRestart j (o .answer)) ≡ map messageIn (blocksAfter B (o .answer))) m n k start j l
-    (λ e. given-message B (lastOwn k (replicate 512 0) (blocksIn n j))) (λ e. refl)
 
 -- ---- the premise
 
 -- no answer but a deliver's is a block kept
 module _ (B : List (Message ℤ)) where
   abbrev Handed : Call → Outcome → Type 0
-  Handed c o = HandedOut B (heard c (o .answer))
+  Handed c o = HandedOut B (heard (call c) (o .answer))
 
   work-handed : (t : ℕ) (x y : Event ℤ) → HandedOut B x → HandedOut B y → HandedOut B (cond (eqb t 0) x y)
   work-handed t x y f g = cond-by (HandedOut B) (eqb t 0) (λ q. f) (λ q. g)
@@ -94,9 +86,9 @@ module _ (B : List (Message ℤ)) where
       deliver-by (λ (o : Outcome). (o .answer ≡ kept → Mem (messageIn b) B) → Handed (deliver b) o) m b (λ e g. g refl) (λ e g. tt) (f b refl)
   handed m work f = work-by (Handed work) m (λ e k. tt) (λ e k. work-handed (recordAt (blockAtTurn m) (m .counts .done) .ticket) _ _ tt tt) (λ e. tt)
 
-  pub restart-handed : (n k : ℕ) (start : List ℤ) (m : Memory) (j l : List ℕ) → HandedOut B (heardRestart j (restartStep m n k start j l .answer))
-  unfolding heardRestart
-  restart-handed n k start m j l = restart-by (λ (o : Outcome). HandedOut B (heardRestart j (o .answer))) m n k start j l (λ e. tt) (λ e. tt)
+  pub restart-handed : (n k : ℕ) (start : List ℤ) (m : Memory) (j l : List ℕ) → HandedOut B (heard (restart j l) (restartStep m n k start j l .answer))
+  unfolding heard
+  restart-handed n k start m j l = restart-by (λ (o : Outcome). HandedOut B (heard (restart j l) (o .answer))) m n k start j l (λ e. tt) (λ e. tt)
 
 -- ---- a run
 
@@ -111,7 +103,7 @@ module _ (n : ℕ) (start : List ℤ) (least : 2 ≤ n) (most : n ≤ 6) (long :
   abbrev pub machineOf : (ℕ → Journal ℤ) → Group → MachineSystem (setup n start) machine
   machineOf J g = record { memories = g .memories; journals = J; observed = g .observed; handouts = g .handouts; messages = map messageIn (g .blocks) }
 
-  abbrev pub command : (c : CallAt) → (c .at < n) × (signed32 (valueIn (c .does)) ≡ true) → CommandAt (setup n start) machine
+  abbrev pub command : (c : CallAt) → (c .at < n) × (signed32 (argumentsOf (c .does) .value) ≡ true) → CommandAt (setup n start) machine
   command c h = record { at = c .at; here = h .0; command = record { call = c .does; value = h .1 } }
 
   unfoldable pub commands : (cs : List CallAt) → Calls n cs → List (CommandAt (setup n start) machine)
@@ -120,7 +112,7 @@ module _ (n : ℕ) (start : List ℤ) (least : 2 ≤ n) (most : n ≤ 6) (long :
 
   -- the model's journal after a call
   abbrev pub journalNext : Journal ℤ → ℕ → Memory → GroupCall → Journal ℤ
-  journalNext J k m c = let o = performed n start k m c in journalAfter J (appended (setup n start) (view m) (o .memory .turn .slot) (told c (o .answer))) (told c (o .answer))
+  journalNext J k m c = let o = performed n start k m c in journalAfter J (appended (setup n start) (view m) (o .memory .turn .slot) (heard c (o .answer))) (heard c (o .answer))
 
   abbrev pub journalsNext : (ℕ → Journal ℤ) → Group → CallAt → ℕ → Journal ℤ
   journalsNext J g c = update J (c .at) (journalNext (J (c .at)) (c .at) (g .memories (c .at)) (c .does))
@@ -129,11 +121,11 @@ module _ (n : ℕ) (start : List ℤ) (least : 2 ≤ n) (most : n ≤ 6) (long :
   journalsRun J g [] = J
   journalsRun J g (c ∷ cs) = journalsRun (journalsNext J g c) (next n start g c) cs
 
-  pub one : (J : ℕ → Journal ℤ) (g : Group) (c : CallAt) (h : (c .at < n) × (signed32 (valueIn (c .does)) ≡ true))
+  pub one : (J : ℕ → Journal ℤ) (g : Group) (c : CallAt) (h : (c .at < n) × (signed32 (argumentsOf (c .does) .value) ≡ true))
       → afterCommand (setup n start) machine (machineOf J g) (command c h) ≡ machineOf (journalsNext J g c) (next n start g c)
   one J g c h =
       ap (λ (l : List (Message ℤ)). record { memories = next n start g c .memories; journals = journalsNext J g c; observed = next n start g c .observed; handouts = next n start g c .handouts; messages = l })
-      (told-messages (g .blocks) n (c .at) start (g .memories (c .at)) (c .does))
+      (messages-after (g .blocks) (c .does) (did n start g c .answer))
 
   pub runs : (cs : List CallAt) (f : Calls n cs) (J : ℕ → Journal ℤ) (g : Group) → runCommands (setup n start) machine (machineOf J g) (commands cs f) ≡ machineOf (journalsRun J g cs) (run n start g cs)
   unfolding runCommands commands run journalsRun
@@ -155,7 +147,7 @@ module _ (n : ℕ) (start : List ℤ) (least : 2 ≤ n) (most : n ≤ 6) (long :
   disk-next d J H k m s (call c) = disk-call n d J H start m (s .sound) c
   disk-next d J H k m s (restart j l) = disk-restart n d J H start m k j l
 
-  pub kept-next : (J : ℕ → Journal ℤ) (g : Group) → Kept J g → (c : CallAt) → (c .at < n) × (signed32 (valueIn (c .does)) ≡ true) → Kept (journalsNext J g c) (next n start g c)
+  pub kept-next : (J : ℕ → Journal ℤ) (g : Group) → Kept J g → (c : CallAt) → (c .at < n) × (signed32 (argumentsOf (c .does) .value) ≡ true) → Kept (journalsNext J g c) (next n start g c)
   kept-next J g K c h = record {
     sound = update-by (λ (k : ℕ) (m : Memory). k < n → Good k m) (g .memories) (c .at) (did n start g c .memory)
         (λ l. stays n start least most long owes (c .at) (g .memories (c .at)) (c .does) (h .1) (K .sound (c .at) (h .0))) (λ j d. K .sound j);
@@ -191,7 +183,7 @@ module _ (n : ℕ) (start : List ℤ) (least : 2 ≤ n) (most : n ≤ 6) (long :
     lent : (j l : List ℕ) → c .does ≡ restart j l → Lent (g .memories (c .at)) (g .disks (c .at)) j
 
   pub handed-at : (B : List (List ℕ)) (k : ℕ) (m : Memory) (c : GroupCall) → ((b : List ℕ) → c ≡ call (deliver b) → step m (deliver b) .answer ≡ kept → Mem b B)
-      → HandedOut (map messageIn B) (told c (performed n start k m c .answer))
+      → HandedOut (map messageIn B) (heard c (performed n start k m c .answer))
   handed-at B k m (call c) f = handed (map messageIn B) m c (λ b e q. mem-map messageIn B b (f b (ap call e) q))
   handed-at B k m (restart j l) f = restart-handed (map messageIn B) n k start m j l
 
@@ -238,7 +230,7 @@ module _ (n : ℕ) (start : List ℤ) (least : 2 ≤ n) (most : n ≤ 6) (long :
 
   -- with the group g before it
   abbrev pub Said : List (Placed ℤ) → Group → CallAt → Type 0
-  Said F g c = CommandClaim (setup n start) F (g .handouts) (g .observed (c .at)) (c .at) (some (meantBy n (c .does))) (told (c .does) (did n start g c .answer))
+  Said F g c = CommandClaim (setup n start) F (g .handouts) (g .observed (c .at)) (c .at) (some (meantBy n (c .does))) (heard (c .does) (did n start g c .answer))
 
   unfoldable AllSaid : List (Placed ℤ) → Group → List CallAt → Type 0
   AllSaid F g [] = Unit

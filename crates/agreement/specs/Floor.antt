@@ -12,30 +12,18 @@ use Rattle.engine.specs.Calls.{Answer}
 use Rattle.engine.specs.Calls.Answer.{refused, made, began, got, wrote, queued, readOnly, withdrew, reported, sent, kept, worked, restarted}
 use Rattle.engine.specs.Step.{Call, step}
 use Rattle.engine.specs.Step.Call.{deliver}
-use Rattle.protocol.specs.Lists.{update, Mem}
-use Rattle.agreement.specs.Group.{valueOf, call, restart, Disk, appendedIn, diskAfter, Group, CallAt, fresh, did, next, run, Comes, Calls}
+use Rattle.protocol.specs.Lists.{opt, update, Mem}
+use Rattle.agreement.specs.Group.{call, restart, argumentsOf, handedOutIn, Disk, appendedIn, diskAfter, Group, CallAt, fresh, did, next, run, Comes, Calls}
 use Rattle.agreement.specs.Statement.{Agreement}
 
 -- how many bytes the journal had when the last own block was handed out; a block given back is handed out
 abbrev pub floorAfter : ℕ → List ℕ → Answer → ℕ
-floorAfter floor journal (refused n) = floor
-floorAfter floor journal made = floor
-floorAfter floor journal (began t) = floor
-floorAfter floor journal (got v) = floor
-floorAfter floor journal wrote = floor
-floorAfter floor journal queued = floor
-floorAfter floor journal readOnly = floor
-floorAfter floor journal withdrew = floor
-floorAfter floor journal (reported r) = floor
-floorAfter floor journal (sent b) = length journal
-floorAfter floor journal kept = floor
-floorAfter floor journal (worked s) = floor
-floorAfter floor journal (restarted c b) = cond (eqb (getD b 0 0) 0) floor (length journal)
+floorAfter floor journal a = opt (handedOutIn a) floor (λ b. length journal)
 
 -- what a cut leaves of the bytes appended and of those that the call there which it ended appended
 pub record LentAbove (m : Memory) (d : Disk) (floor : ℕ) (journal : List ℕ) : Type 0 where
   pub ended : Call
-  pub value : signed32 (valueOf ended) ≡ true
+  pub value : signed32 (argumentsOf (call ended) .value) ≡ true
   pub count : ℕ
   pub part : journal ≡ take count (d .journal ++ appendedIn (step m ended .answer))
   pub enough : floor ≤ length journal
