@@ -28,6 +28,6 @@ pub mod JournalView
 -- the replicas as a machine of the protocol, its runs, the theorem
 pub mod Replicas
 pub mod Runs
-pub mod FloorLaws
+pub mod Premises
 pub mod Agreement
 pub mod Theorem

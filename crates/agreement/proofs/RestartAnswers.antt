@@ -1,5 +1,4 @@
 -- No call but a restart answers as a restart does. Assumes nothing.
-use mathlib.Core.List.{List}
 use Rattle.memory.specs.Memory.{Memory}
 use Rattle.engine.specs.Calls.{Answer, Outcome}
 use Rattle.engine.specs.Calls.Answer.{refused, made, began, got, wrote, queued, readOnly, withdrew, reported, sent, kept, worked, restarted}

@@ -1,5 +1,5 @@
 -- A group of replicas with its observer and their journals, and lists of calls.
-use Prim.Native.Nat.{ℕ, suc, _*_, _≤_, _<_, max}
+use Prim.Native.Nat.{ℕ, _*_, _≤_, _<_}
 use mathlib.Core.Path.{_≡_}
 use mathlib.Core.Bool.{true, cond}
 use mathlib.Core.Option.{Option, none, some}
@@ -94,62 +94,6 @@ heard c kept = accepted (messageIn (argumentsOf c .bytes))
 heard c (worked s) = cond (eqb (s .ticket) 0) (passed (s .sender) (s .aborted)) (committed (s .sender) (s .ticket) (s .aborted))
 heard c (restarted k b) = Event.restarted (map messageIn (firstBlocks k (journalIn c))) (givenIn b)
 
--- ---- the journals, from what calls answer
-
--- what a replica's disk has: all bytes appended, and how many of its blocks a cut leaves at least, up to the last own one handed out
-pub record Disk : Type 0 where
-  pub journal : List ℕ
-  pub safe : ℕ
-
-abbrev pub disk : List ℕ → ℕ → Disk
-disk l n = record { journal = l; safe = n }
-
--- the bytes that a call appends: a send's block; another's, where the turn leaves its slot
-abbrev pub appendedIn : Answer → List ℕ
-appendedIn (refused n) = []
-appendedIn made = []
-appendedIn (began t) = []
-appendedIn (got v) = []
-appendedIn wrote = []
-appendedIn queued = []
-appendedIn readOnly = []
-appendedIn withdrew = []
-appendedIn (reported r) = []
-appendedIn (sent b) = b
-appendedIn kept = []
-appendedIn (worked s) = s .append
-appendedIn (restarted c b) = []
-
--- a restart's journal goes on behind the last block committed
-abbrev pub diskAfter : Disk → GroupCall → Answer → Disk
-diskAfter d c (refused n) = d
-diskAfter d c made = d
-diskAfter d c (began t) = d
-diskAfter d c (got v) = d
-diskAfter d c wrote = d
-diskAfter d c queued = d
-diskAfter d c readOnly = d
-diskAfter d c withdrew = d
-diskAfter d c (reported r) = d
-diskAfter d c (sent b) = disk (d .journal ++ b) (suc (messageIn b .slot))
-diskAfter d c kept = d
-diskAfter d c (worked s) = disk (d .journal ++ s .append) (d .safe)
-diskAfter d c (restarted k b) = disk (take (512 * k) (journalIn c)) (opt (givenIn b) (d .safe) (λ m. max (d .safe) (suc (m .slot))))
-
--- ---- the group
-
--- blocks: those handed out, in order, also by a restart
-pub record Group : Type 0 where
-  pub memories : ℕ → Memory
-  pub disks : ℕ → Disk
-  pub observed : ℕ → Observed ℤ
-  pub handouts : List (Handout ℤ)
-  pub blocks : List (List ℕ)
-
-pub record CallAt : Type 0 where
-  pub at : ℕ
-  pub does : GroupCall
-
 -- the block that a call hands out: a send's; a restart's, unless it is zeros
 abbrev pub handedOutIn : Answer → Option (List ℕ)
 handedOutIn (refused n) = none
@@ -165,6 +109,49 @@ handedOutIn (sent b) = some b
 handedOutIn kept = none
 handedOutIn (worked s) = none
 handedOutIn (restarted c b) = cond (eqb (getD b 0 0) 0) none (some b)
+
+-- ---- the journals, from what calls answer
+
+-- what a replica's disk has: the bytes appended, and how many there were when the last own block was handed out
+pub record Disk : Type 0 where
+  pub journal : List ℕ
+  pub floor : ℕ
+
+abbrev pub disk : List ℕ → ℕ → Disk
+disk l n = record { journal = l; floor = n }
+
+-- a send appends its block, a work another's where the turn leaves its slot; a restart's journal goes on behind the last block committed
+abbrev pub journalAfter : List ℕ → GroupCall → Answer → List ℕ
+journalAfter l c (refused n) = l
+journalAfter l c made = l
+journalAfter l c (began t) = l
+journalAfter l c (got v) = l
+journalAfter l c wrote = l
+journalAfter l c queued = l
+journalAfter l c readOnly = l
+journalAfter l c withdrew = l
+journalAfter l c (reported r) = l
+journalAfter l c (sent b) = l ++ b
+journalAfter l c kept = l
+journalAfter l c (worked s) = l ++ s .append
+journalAfter l c (restarted k b) = take (512 * k) (journalIn c)
+
+abbrev pub diskAfter : Disk → GroupCall → Answer → Disk
+diskAfter d c a = let l = journalAfter (d .journal) c a in disk l (opt (handedOutIn a) (d .floor) (λ b. length l))
+
+-- ---- the group
+
+-- blocks: those handed out, in order, also by a restart
+pub record Group : Type 0 where
+  pub memories : ℕ → Memory
+  pub disks : ℕ → Disk
+  pub observed : ℕ → Observed ℤ
+  pub handouts : List (Handout ℤ)
+  pub blocks : List (List ℕ)
+
+pub record CallAt : Type 0 where
+  pub at : ℕ
+  pub does : GroupCall
 
 abbrev pub blocksAfter : List (List ℕ) → Answer → List (List ℕ)
 blocksAfter B a = opt (handedOutIn a) B (λ b. B ++ (b ∷ []))
@@ -207,22 +194,23 @@ Comes cs before c = (after : List CallAt) × (cs ≡ before ++ (c ∷ after))
 abbrev pub Calls : ℕ → List CallAt → Type 0
 Calls n cs = (c : CallAt) → Mem c cs → (c .at < n) × (signed32 (argumentsOf (c .does) .value) ≡ true)
 
--- the journal is what a cut leaves of the bytes appended and of those that one more call appended: a first part with every own block handed out
-pub record Cut (d : Disk) (more journal : List ℕ) : Type 0 where
-  pub count : ℕ
-  pub part : journal ≡ take count (d .journal ++ more)
-  pub enough : 512 * d .safe ≤ length journal
-
--- the call there that the cut ended, of any kind
+-- a cut leaves a first part of what was appended, also by the call there which it ended, of any kind, and never less than the floor
 pub record Lent (m : Memory) (d : Disk) (journal : List ℕ) : Type 0 where
   pub ended : Call
   pub value : signed32 (argumentsOf (call ended) .value) ≡ true
-  pub cut : Cut d (appendedIn (step m ended .answer)) journal
+  pub count : ℕ
+  pub part : journal ≡ take count (journalAfter (d .journal) (call ended) (step m ended .answer))
+  pub enough : d .floor ≤ length journal
 
-pub record Premise (n : ℕ) (start : List ℤ) (cs : List CallAt) : Type 0 where
+-- of a list of calls from the group g
+pub record PremiseFrom (n : ℕ) (start : List ℤ) (g : Group) (cs : List CallAt) : Type 0 where
   -- bytes that a deliver accepts equal a block handed out earlier in the list
   pub delivered : (before : List CallAt) (k : ℕ) (bytes : List ℕ) → Comes cs before (record { at = k; does = call (deliver bytes) })
-      → step (run n start (fresh n start) before .memories k) (deliver bytes) .answer ≡ kept → Mem bytes (run n start (fresh n start) before .blocks)
-  -- a restart is lent what a cut leaves
-  pub lent : (before : List CallAt) (k : ℕ) (journal block : List ℕ) → Comes cs before (record { at = k; does = restart journal block })
-      → Lent (run n start (fresh n start) before .memories k) (run n start (fresh n start) before .disks k) journal
+      → step (run n start g before .memories k) (deliver bytes) .answer ≡ kept → Mem bytes (run n start g before .blocks)
+  -- a restart that is accepted was lent what a cut leaves
+  pub lent : (before : List CallAt) (k : ℕ) (journal block : List ℕ) (count : ℕ) (given : List ℕ) → Comes cs before (record { at = k; does = restart journal block })
+      → restartStep (run n start g before .memories k) n k start journal block .answer ≡ restarted count given
+      → Lent (run n start g before .memories k) (run n start g before .disks k) journal
+
+abbrev pub Premise : ℕ → List ℤ → List CallAt → Type 0
+Premise n start cs = PremiseFrom n start (fresh n start) cs

@@ -2,4 +2,3 @@
 -- `protocol/specs/Observer.antt`.
 pub mod Group
 pub mod Statement
-pub mod Floor

@@ -1,5 +1,5 @@
 -- The runs, computed from the definitions. Assumes nothing.
-use Prim.Native.Nat.{ℕ, _*_}
+use Prim.Native.Nat.{ℕ}
 use mathlib.Core.Path.{_≡_, refl, sym, ap, _∙_, subst}
 use mathlib.Core.Bool.{Bool, true, false, not, _&&_, cond}
 use mathlib.Core.List.{List, [], _∷_, _++_}
@@ -22,7 +22,7 @@ use Rattle.memory.specs.Turns.{placeStart}
 use Rattle.engine.specs.Calls.{Answer}
 use Rattle.engine.specs.Calls.Answer.{refused, made, began, got, wrote, queued, readOnly, withdrew, reported, sent, kept, worked, restarted}
 use Rattle.engine.specs.Make.{madeMemory, placesFit, partsFit}
-use Rattle.engine.specs.Client.{beginRefusal, beginAt, beginRow, writeRefusal, rewriteAt, insertWrite, staleAt, writeRow, askRefusal, readOnlyAt, queueAt, askRow, reportOf}
+use Rattle.engine.specs.Client.{beginRefusal, beginAt, beginRow, writeRefusal, rewriteAt, insertWrite, staleAt, writeRow, askRefusal, readOnlyAt, queueAt, askRow, reportOf, reportStep}
 use Rattle.engine.specs.Moves.{waiting, writesetOf, messageFor, sendRefusal, sendNow, sendStep, sameBytes, deliverRefusal, deliverNow, deliverStep, entriesFor, applied, stamped, shares, afterAborts, insertRising, hitTickets, without, workRefusal, passNext, commitWriteset, workStep}
 use Rattle.engine.specs.Step.{Call, step}
 use Rattle.engine.specs.Step.Call.{report, send, deliver}
@@ -98,7 +98,7 @@ module _ (n : ℕ) (start : List ℤ) where
         let s = known-at before (record { at = k; does = call (deliver bytes) }) (h .0) (fresh n start) (subst (λ (l : List CallAt). allKnown (fresh n start) l ≡ true) (h .1) e) in
         let m = any-true (sameBytes bytes) _ (subst (λ (o : Answer). known (run n start (fresh n start) before .blocks) (deliver bytes) o ≡ true) a s) in
         subst (λ (b : List ℕ). Mem b (run n start (fresh n start) before .blocks)) (sym (same-bytes bytes (m .0) (m .1 .1))) (m .1 .0);
-    lent = λ before k j l h. lent-at before (record { at = k; does = restart j l }) (h .0) (fresh n start) (subst (AllLent (fresh n start)) (h .1) L);
+    lent = λ before k j l x b h q. lent-at before (record { at = k; does = restart j l }) (h .0) (fresh n start) (subst (AllLent (fresh n start)) (h .1) L);
   }
 
   -- a list with no restart
@@ -177,11 +177,13 @@ forgery-calls = calls-met 3 forgery refl
 
 -- what a restart is lent, by computing
 lent-by : (m : Memory) (d : Disk) (journal : List ℕ) (ended : Call) (count : ℕ) → signed32 (group.argumentsOf (call ended) .value) ≡ true
-    → sameBytes journal (take count (d .journal ++ group.appendedIn (step m ended .answer))) ≡ true → leb (512 * d .safe) (length journal) ≡ true → Lent m d journal
+    → sameBytes journal (take count (group.journalAfter (d .journal) (call ended) (step m ended .answer))) ≡ true → leb (d .floor) (length journal) ≡ true → Lent m d journal
 lent-by m d journal ended count v e f = record {
   ended = ended;
   value = v;
-  cut = record { count = count; part = same-bytes _ _ e; enough = leb-true _ _ f };
+  count = count;
+  part = same-bytes _ _ e;
+  enough = leb-true _ _ f;
 }
 
 outage-known : allKnown 3 zeros (fresh 3 zeros) outages ≡ true
@@ -189,7 +191,7 @@ unfolding bytesOf numberFrom valueBytes valueOf word sumTo weightedTo firstCheck
 outage-known = refl
 
 outage-lent : AllLent 3 zeros (fresh 3 zeros) outages
-unfolding bytesOf numberFrom valueBytes valueOf word sumTo weightedTo firstCheck secondCheck checkBytes checkMatches ownerOf within kindFits entriesFit recordFits recordsFit ticketAbsent ticketsDiffer valid signed32 entryBytes entriesBytes recordBytes recordsBytes headerFor headerBytes bodyBytes blockOf entryOf entriesOf recordOf recordsOf messageOf allZero entriesPadded recordPadded recordsPadded padded wellFormed firstOf headerOf recordAt entryAt entriesFrom bump rowFrom rowOf freeRow indexFrom has holderFrom countBelow placeStart madeMemory beginRefusal beginAt beginRow writeRefusal rewriteAt insertWrite staleAt writeRow askRefusal readOnlyAt queueAt askRow reportOf waiting writesetOf messageFor sendRefusal sendNow sendStep sameBytes deliverRefusal deliverNow deliverStep entriesFor applied stamped shares afterAborts insertRising hitTickets without workRefusal passNext commitWriteset workStep step run any allKnown AllLent isGood blocksFrom firstBlocks writesetsFrom commitAll commitBlocks highestTicket highestOwn ownWritesets lastOwn restartedMemory restartRefusal restartStep placesFit partsFit openCount messageIn blockRefusal heard
+unfolding bytesOf numberFrom valueBytes valueOf word sumTo weightedTo firstCheck secondCheck checkBytes checkMatches ownerOf within kindFits entriesFit recordFits recordsFit ticketAbsent ticketsDiffer valid signed32 entryBytes entriesBytes recordBytes recordsBytes headerFor headerBytes bodyBytes blockOf entryOf entriesOf recordOf recordsOf messageOf allZero entriesPadded recordPadded recordsPadded padded wellFormed firstOf headerOf recordAt entryAt entriesFrom bump rowFrom rowOf freeRow indexFrom has holderFrom countBelow placeStart madeMemory beginRefusal beginAt beginRow writeRefusal rewriteAt insertWrite staleAt writeRow askRefusal readOnlyAt queueAt askRow reportOf reportStep waiting writesetOf messageFor sendRefusal sendNow sendStep sameBytes deliverRefusal deliverNow deliverStep entriesFor applied stamped shares afterAborts insertRising hitTickets without workRefusal passNext commitWriteset workStep step run any allKnown AllLent isGood blocksFrom firstBlocks writesetsFrom commitAll commitBlocks highestTicket highestOwn ownWritesets lastOwn restartedMemory restartRefusal restartStep placesFit partsFit openCount messageIn blockRefusal heard
 outage-lent = (
   tt,
   (
