@@ -31,3 +31,5 @@ pub mod Runs
 pub mod Premises
 pub mod Agreement
 pub mod Theorem
+-- what holds with no premise
+pub mod Handed

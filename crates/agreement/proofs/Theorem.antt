@@ -24,7 +24,7 @@ use Rattle.agreement.proofs.Runs.{machine, fresh-kept}
 use Rattle.agreement.proofs.Premises.{premise}
 use Rattle.agreement.proofs.Agreement.{agreement-from}
 
-owes : (n : ℕ) (start : List ℤ) (m : Memory) → Sound n m → (c : Call) → Owed n start m c (step m c)
+pub owes : (n : ℕ) (start : List ℤ) (m : Memory) → Sound n m → (c : Call) → Owed n start m c (step m c)
 owes n start m s begin = begin-owes n start m s
 owes n start m s (read t i) = read-owes n start m s t i
 owes n start m s (write t i v) = write-owes n start m s t i v
