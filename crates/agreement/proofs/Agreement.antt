@@ -131,7 +131,7 @@ module _ (n : ℕ) (start : List ℤ) (least : 2 ≤ n) (most : n ≤ 6) (long :
     unfolding heard
     committing z =
         rw (ne-eqb (s .ticket) 0 z) at
-        (subst (λ (o : Answer). WorkClaim F (run n start (fresh n start) before .handouts) seen k (heard work o)) a (at-call before (record { at = k; does = call work }) e))
+        (subst (λ (o : Answer). WorkClaim F (run n start (fresh n start) before .handouts) seen k (heard (call work) o)) a (at-call before (record { at = k; does = call work }) e))
 
     -- a work that names a ticket as aborted commits a writeset
     naming : (t : ℕ) → Mem t (s .aborted) → s .ticket ≡ 0 → ⊥
@@ -140,13 +140,13 @@ module _ (n : ℕ) (start : List ℤ) (least : 2 ≤ n) (most : n ≤ 6) (long :
   reading : (before : List CallAt) (k t i : ℕ) (v : ℤ) → Comes cs before (record { at = k; does = call (read t i) })
       → step (groupAfter n start cs before .memories k) (read t i) .answer ≡ got v → ReadClaim (setup n start) F (run n start (fresh n start) before .observed k) t i (Rattle.protocol.specs.Replica.Event.got t i v)
   unfolding heard
-  reading before k t i v e a = subst (λ (o : Answer). ReadClaim (setup n start) F (run n start (fresh n start) before .observed k) t i (heard (read t i) o)) a (at-call before (record { at = k; does = call (read t i) }) e)
+  reading before k t i v e a = subst (λ (o : Answer). ReadClaim (setup n start) F (run n start (fresh n start) before .observed k) t i (heard (call (read t i)) o)) a (at-call before (record { at = k; does = call (read t i) }) e)
 
   writing : (before : List CallAt) (k t i : ℕ) (v : ℤ) → Comes cs before (record { at = k; does = call (write t i v) })
       → step (groupAfter n start cs before .memories k) (write t i v) .answer ≡ refused 9 → NotHandedOut (run n start (fresh n start) before .handouts) k t
   unfolding heard
   writing before k t i v e a =
-      subst (λ (o : Answer). WriteClaim (run n start (fresh n start) before .handouts) k t (heard (write t i v) o)) a (at-call before (record { at = k; does = call (write t i v) }) e) refl
+      subst (λ (o : Answer). WriteClaim (run n start (fresh n start) before .handouts) k t (heard (call (write t i v)) o)) a (at-call before (record { at = k; does = call (write t i v) }) e) refl
 
   agrees : (k : ℕ) → Agrees start F (g .handouts) (g .observed k) (g .memories k .store .values) (reportOf (g .memories k))
   unfolding reportOf

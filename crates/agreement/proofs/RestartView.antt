@@ -23,7 +23,7 @@ use Rattle.engine.specs.Restart.{isGood, blocksFrom, writesetsFrom, writesetsIn
 use Rattle.engine.proofs.Tests.{clash, less-by, bump-is}
 use Rattle.engine.proofs.ShapeWriteset.{length-stamped}
 use Rattle.engine.proofs.RestartLaws.{AllGood, good-taken}
-use Rattle.protocol.specs.Lists.{pick, opt}
+use Rattle.protocol.specs.Lists.{opt}
 use Rattle.protocol.specs.Writesets.{Message}
 use Rattle.protocol.specs.Replica.{Store}
 use Rattle.protocol.specs.Journal as model
@@ -38,7 +38,7 @@ use Rattle.agreement.proofs.BlockView.{counted, writeset-read, sender-s
 
 -- b is torn (t), good (g), of the next slot (e)
 read-one : (t g e : Bool) (b : List ℕ) (bs rs : List (List ℕ)) (s : ℕ) → (t ≡ true → g ≡ false) → eqb (messageIn b .slot) s ≡ e → map messageIn bs ≡ inSlotOrder (suc s) (map messageIn rs)
-    → map messageIn (cond (g && e) (b ∷ bs) []) ≡ inSlotOrder s (map messageIn (pick t [] (pick g (b ∷ rs) [])))
+    → map messageIn (cond (g && e) (b ∷ bs) []) ≡ inSlotOrder s (map messageIn (cond t [] (cond g (b ∷ rs) [])))
 unfolding inSlotOrder
 read-one true true e b bs rs s h q r = clash {b = true} refl (h refl)
 read-one true false e b bs rs s h q r = refl
@@ -73,7 +73,7 @@ read-enough good (suc f) (suc g) bytes h u =
     less-by (length bytes) 512
     (λ s. rw (lt-ltb (length bytes) 512 s) refl)
     (λ s. let d = length-drop 512 bytes in
-    ap (λ (l : List (List ℕ)). pick (ltb (length bytes) 512) [] (pick (good (take 512 bytes)) (take 512 bytes ∷ l) []))
+    ap (λ (l : List (List ℕ)). cond (ltb (length bytes) 512) [] (cond (good (take 512 bytes)) (take 512 bytes ∷ l) []))
     (read-enough good f g (drop 512 bytes) (omega arith) (omega arith)))
 
 -- ---- their writesets
@@ -99,23 +99,19 @@ unfolding highestTicket model.highestTicket
 highest-same [] = refl
 highest-same (w ∷ ws) = rw (highest-same ws)
 
-as-picked : {A : Type 0} (b : Bool) (x y : A) → cond b x y ≡ pick b x y
-as-picked true x y = refl
-as-picked false x y = refl
-
 pub highest-own : (n k : ℕ) (bs : List (List ℕ)) → AllGood n bs → highestOwn k bs ≡ highestOf k (map messageIn bs)
 unfolding highestOwn highestOf messageIn
 highest-own n k [] g = refl
 highest-own n k (b ∷ bs) g =
     let e = good-taken n b (g b (List·Memᴰ·head refl)) in
     let a = highest-own n k bs (λ c q. g c (List·Memᴰ·tail q)) in
-    rw (a, as-picked (isFrom k b) (highestTicket (writesetsIn b)) 0, writesets-read b e, highest-same (messageOf b .records), ← sender-seen b) refl
+    rw (a, writesets-read b e, highest-same (messageOf b .records), ← sender-seen b) refl
 
 given-some : (b : List ℕ) → blockRefusal b ≡ 0 → givenIn b ≡ some (messageIn b)
 given-some b e = rw (ne-eqb (getD b 0 0) 0 (kind-some b e)) refl
 
 given-one : (o : Option (Message ℤ)) (mine : Bool) (b d : List ℕ) → givenIn b ≡ some (messageIn b)
-    → opt o (givenIn (cond mine b d)) some ≡ opt (opt o (pick mine (some (messageIn b)) none) some) (givenIn d) some
+    → opt o (givenIn (cond mine b d)) some ≡ opt (opt o (cond mine (some (messageIn b)) none) some) (givenIn d) some
 given-one none true b d e = e
 given-one none false b d e = refl
 given-one (some m) mine b d e = refl
@@ -126,7 +122,7 @@ given-last n k d [] g = refl
 given-last n k d (b ∷ bs) g =
     given-last n k (cond (isFrom k b) b d) bs (λ c q. g c (List·Memᴰ·tail q))
     ∙ given-one (lastOf k (map messageIn bs)) (isFrom k b) b d (given-some b (good-taken n b (g b (List·Memᴰ·head refl))))
-    ∙ ap (λ (s : ℕ). opt (opt (lastOf k (map messageIn bs)) (pick (eqb s k) (some (messageIn b)) none) some) (givenIn d) some) (sym (sender-seen b))
+    ∙ ap (λ (s : ℕ). opt (opt (lastOf k (map messageIn bs)) (cond (eqb s k) (some (messageIn b)) none) some) (givenIn d) some) (sym (sender-seen b))
 
 -- ---- commits, values and stamps
 

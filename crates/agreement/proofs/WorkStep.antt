@@ -38,7 +38,7 @@ use Rattle.protocol.specs.Client.{findTxn, without}
 use Rattle.protocol.specs.Moves.{advance, cursorAfter, storeAfter, afterAborts, afterEnd, conflicts, abortedBy, isSent, clearTurn, blocksAfter, commitStep, workStep}
 use Rattle.protocol.specs.System.{step}
 use Rattle.protocol.specs.Machine.{Alike}
-use Rattle.agreement.specs.Group.{writeOf, writesetFrom, messageIn, heard}
+use Rattle.agreement.specs.Group.{writeOf, writesetFrom, messageIn, call, heard}
 use Rattle.agreement.proofs.View.{setup, placeAt, openTxns, cursorOf, storeOf, blocksOf, view, Sound, Owed, follows, txnOf}
 use Rattle.agreement.proofs.ClientStep.{refused-owes}
 use Rattle.agreement.proofs.RowView.{find-row}
@@ -51,7 +51,7 @@ use Rattle.agreement.proofs.AbortLaws.{queue-kept, rows-beside, Staged,
 
 module _ (S : Setup ℤ) (r : Replica ℤ) (a : Message ℤ) (found : r .blocks .places (S .place (r .cursor .turn)) ≡ some a) where
   model-next : length (a .writesets) ≡ 0
-      → workStep S r ≡ outcome (replica (r .own) (advance (r .cursor)) (r .store) (r .transactions) (clearTurn S (r .cursor) (r .blocks))) (passed (a .sender))
+      → workStep S r ≡ outcome (replica (r .own) (advance (r .cursor)) (r .store) (r .transactions) (clearTurn S (r .cursor) (r .blocks))) (passed (a .sender) [])
   unfolding workStep
   model-next z = rw (found, eq-eqb (length (a .writesets)) 0 z)
 
@@ -73,7 +73,7 @@ module _ (S : Setup ℤ) (r : Replica ℤ) (a : Message ℤ) (found : r .blocks 
 
 -- ---- one fact each
 
-heard-committed : (s : Step) → (s .ticket ≡ 0 → ⊥) → heard work (worked s) ≡ Rattle.protocol.specs.Replica.Event.committed (s .sender) (s .ticket) (s .aborted)
+heard-committed : (s : Step) → (s .ticket ≡ 0 → ⊥) → heard (call work) (worked s) ≡ Rattle.protocol.specs.Replica.Event.committed (s .sender) (s .ticket) (s .aborted)
 unfolding heard
 heard-committed s d = rw (ne-eqb (s .ticket) 0 d)
 
@@ -96,7 +96,7 @@ cursor-same t done total false false u e = let z : done + 1 ≡ suc done = omega
 
 -- what the model does at a call is what the outcome shows
 owed-by : (n : ℕ) (start : List ℤ) (m : Memory) (o : Outcome) (q : Rattle.protocol.specs.Replica.Outcome ℤ) → workStep (setup n start) (view m) ≡ q
-    → heard work (o .answer) ≡ q .event → Alike (q .replica) (view (o .memory)) → Owed n start m work o
+    → heard (call work) (o .answer) ≡ q .event → Alike (q .replica) (view (o .memory)) → Owed n start m work o
 unfolding step
 owed-by n start m o q e a b = follows (rw e a) (rw e b)
 
@@ -122,7 +122,7 @@ module _ (start : List ℤ) {over : ℕ} (m : Memory) (S : Shape over m) (k : Wo
   unfolding passNext heard
   next-owes h =
       owed-by n start m (passNext m) _ (model-next (setup n start) (view m) (messageIn b) found (count-seen b ∙ taken-block b taken .next h))
-      (ap passed (sym (sender-seen b)))
+      (ap (λ (i : ℕ). passed i []) (sym (sender-seen b)))
       (record {
         own = refl;
         cursor = rw (bumps m S .slot);

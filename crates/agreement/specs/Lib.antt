@@ -2,4 +2,6 @@
 -- `protocol/specs/Observer.antt`.
 pub mod Group
 pub mod Statement
-pub mod Floor
+-- what holds with no premise
+pub mod Handed
+pub mod SixRows

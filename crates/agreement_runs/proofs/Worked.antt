@@ -1,7 +1,7 @@
 -- The runs, computed from the definitions. Assumes nothing.
-use Prim.Native.Nat.{ℕ, _*_}
+use Prim.Native.Nat.{ℕ}
 use mathlib.Core.Path.{_≡_, refl, sym, ap, _∙_, subst}
-use mathlib.Core.Bool.{Bool, true, false, not, _&&_}
+use mathlib.Core.Bool.{Bool, true, false, not, _&&_, cond}
 use mathlib.Core.List.{List, [], _∷_, _++_}
 use lib.Dec.{ltb, leb, eqb}
 use native.Mathlib.Omega.{arith}
@@ -22,17 +22,17 @@ use Rattle.memory.specs.Turns.{placeStart}
 use Rattle.engine.specs.Calls.{Answer}
 use Rattle.engine.specs.Calls.Answer.{refused, made, began, got, wrote, queued, readOnly, withdrew, reported, sent, kept, worked, restarted}
 use Rattle.engine.specs.Make.{madeMemory, placesFit, partsFit}
-use Rattle.engine.specs.Client.{beginRefusal, beginAt, beginRow, writeRefusal, rewriteAt, insertWrite, staleAt, writeRow, askRefusal, readOnlyAt, queueAt, askRow, reportOf}
+use Rattle.engine.specs.Client.{beginRefusal, beginAt, beginRow, writeRefusal, rewriteAt, insertWrite, staleAt, writeRow, askRefusal, readOnlyAt, queueAt, askRow, reportOf, reportStep}
 use Rattle.engine.specs.Moves.{waiting, writesetOf, messageFor, sendRefusal, sendNow, sendStep, sameBytes, deliverRefusal, deliverNow, deliverStep, entriesFor, applied, stamped, shares, afterAborts, insertRising, hitTickets, without, workRefusal, passNext, commitWriteset, workStep}
 use Rattle.engine.specs.Step.{Call, step}
 use Rattle.engine.specs.Step.Call.{report, send, deliver}
 use Rattle.engine.specs.Restart.{isGood, blocksFrom, firstBlocks, writesetsFrom, commitAll, commitBlocks, highestTicket, highestOwn, ownWritesets, lastOwn, restartedMemory, restartRefusal, restartStep}
 use Rattle.engine.proofs.Tests.{clash}
-use Rattle.protocol.specs.Lists.{pick, Mem, any}
+use Rattle.protocol.specs.Lists.{Mem, any}
 use Rattle.protocol.specs.Observer.{sequence, applyAll}
 use Rattle.protocol.proofs.ListLaws.{any-true, any-false}
 use Rattle.agreement.specs.Group as group
-use Rattle.agreement.specs.Group.{messageIn, Disk, Group, GroupCall, call, restart, CallAt, fresh, run, did, next, heard, heardRestart, Calls, Lent, Premise}
+use Rattle.agreement.specs.Group.{messageIn, Disk, Group, GroupCall, call, restart, CallAt, fresh, run, did, next, heard, Calls, Lent, Premise}
 use Rattle.agreement_runs.specs.Worked.{zeros, story, forgery, outages, after, Held, held, holding, storyValues, WorkedRuns}
 use Rattle.agreement.proofs.Theorem.{agreement}
 
@@ -59,7 +59,7 @@ known B c readOnly = true
 known B c withdrew = true
 known B c (reported r) = true
 known B c (sent b) = true
-known B c kept = any (sameBytes (group.bytesOf c)) B
+known B c kept = any (sameBytes (group.argumentsOf (call c) .bytes)) B
 known B c (worked s) = true
 known B c (restarted k b) = true
 
@@ -98,7 +98,7 @@ module _ (n : ℕ) (start : List ℤ) where
         let s = known-at before (record { at = k; does = call (deliver bytes) }) (h .0) (fresh n start) (subst (λ (l : List CallAt). allKnown (fresh n start) l ≡ true) (h .1) e) in
         let m = any-true (sameBytes bytes) _ (subst (λ (o : Answer). known (run n start (fresh n start) before .blocks) (deliver bytes) o ≡ true) a s) in
         subst (λ (b : List ℕ). Mem b (run n start (fresh n start) before .blocks)) (sym (same-bytes bytes (m .0) (m .1 .1))) (m .1 .0);
-    lent = λ before k j l h. lent-at before (record { at = k; does = restart j l }) (h .0) (fresh n start) (subst (AllLent (fresh n start)) (h .1) L);
+    lent = λ before k j l x b h q. lent-at before (record { at = k; does = restart j l }) (h .0) (fresh n start) (subst (AllLent (fresh n start)) (h .1) L);
   }
 
   -- a list with no restart
@@ -111,17 +111,17 @@ module _ (n : ℕ) (start : List ℤ) where
   no-restart [] g e = tt
   no-restart (c ∷ cs) g e = go (c .does) e (no-restart cs (next n start g c))
     where
-      go : (d : GroupCall) → pick (isRestart d) true (any (λ c. isRestart (c .does)) cs) ≡ false
+      go : (d : GroupCall) → cond (isRestart d) true (any (λ c. isRestart (c .does)) cs) ≡ false
           → (any (λ c. isRestart (c .does)) cs ≡ false → AllLent (next n start g c) cs) → LentAt g (c .at) d × AllLent (next n start g c) cs
       go (call x) f ih = (tt, ih f)
       go (restart j l) f ih = clash {b = true} refl f
 
 abbrev astray : ℕ → CallAt → Bool
-astray n c = not (ltb (c .at) n && signed32 (group.valueIn (c .does)))
+astray n c = not (ltb (c .at) n && signed32 (group.argumentsOf (c .does) .value))
 
 calls-met : (n : ℕ) (cs : List CallAt) → any (astray n) cs ≡ false → Calls n cs
 calls-met n cs e c m =
-    let h = both (ltb (c .at) n) (signed32 (group.valueIn (c .does))) (not-false _ (any-false (astray n) cs e c m)) in
+    let h = both (ltb (c .at) n) (signed32 (group.argumentsOf (c .does) .value)) (not-false _ (any-false (astray n) cs e c m)) in
     (ltb-true (c .at) n (h .left), h .right)
 
 -- ---- the runs
@@ -176,20 +176,22 @@ unfolding any signed32
 forgery-calls = calls-met 3 forgery refl
 
 -- what a restart is lent, by computing
-lent-by : (m : Memory) (d : Disk) (journal : List ℕ) (ended : Call) (count : ℕ) → signed32 (group.valueOf ended) ≡ true
-    → sameBytes journal (take count (d .journal ++ group.appendedIn (step m ended .answer))) ≡ true → leb (512 * d .safe) (length journal) ≡ true → Lent m d journal
+lent-by : (m : Memory) (d : Disk) (journal : List ℕ) (ended : Call) (count : ℕ) → signed32 (group.argumentsOf (call ended) .value) ≡ true
+    → sameBytes journal (take count (group.journalAfter (d .journal) (call ended) (step m ended .answer))) ≡ true → leb (d .floor) (length journal) ≡ true → Lent m d journal
 lent-by m d journal ended count v e f = record {
   ended = ended;
   value = v;
-  cut = record { count = count; part = same-bytes _ _ e; enough = leb-true _ _ f };
+  count = count;
+  part = same-bytes _ _ e;
+  enough = leb-true _ _ f;
 }
 
 outage-known : allKnown 3 zeros (fresh 3 zeros) outages ≡ true
-unfolding bytesOf numberFrom valueBytes valueOf word sumTo weightedTo firstCheck secondCheck checkBytes checkMatches ownerOf within kindFits entriesFit recordFits recordsFit ticketAbsent ticketsDiffer valid signed32 entryBytes entriesBytes recordBytes recordsBytes headerFor headerBytes bodyBytes blockOf entryOf entriesOf recordOf recordsOf messageOf allZero entriesPadded recordPadded recordsPadded padded wellFormed firstOf headerOf recordAt entryAt entriesFrom bump rowFrom rowOf freeRow indexFrom has holderFrom countBelow placeStart madeMemory beginRefusal beginAt beginRow writeRefusal rewriteAt insertWrite staleAt writeRow askRefusal readOnlyAt queueAt askRow reportOf waiting writesetOf messageFor sendRefusal sendNow sendStep sameBytes deliverRefusal deliverNow deliverStep entriesFor applied stamped shares afterAborts insertRising hitTickets without workRefusal passNext commitWriteset workStep step run any allKnown AllLent isGood blocksFrom firstBlocks writesetsFrom commitAll commitBlocks highestTicket highestOwn ownWritesets lastOwn restartedMemory restartRefusal restartStep placesFit partsFit openCount messageIn blockRefusal heard heardRestart
+unfolding bytesOf numberFrom valueBytes valueOf word sumTo weightedTo firstCheck secondCheck checkBytes checkMatches ownerOf within kindFits entriesFit recordFits recordsFit ticketAbsent ticketsDiffer valid signed32 entryBytes entriesBytes recordBytes recordsBytes headerFor headerBytes bodyBytes blockOf entryOf entriesOf recordOf recordsOf messageOf allZero entriesPadded recordPadded recordsPadded padded wellFormed firstOf headerOf recordAt entryAt entriesFrom bump rowFrom rowOf freeRow indexFrom has holderFrom countBelow placeStart madeMemory beginRefusal beginAt beginRow writeRefusal rewriteAt insertWrite staleAt writeRow askRefusal readOnlyAt queueAt askRow reportOf waiting writesetOf messageFor sendRefusal sendNow sendStep sameBytes deliverRefusal deliverNow deliverStep entriesFor applied stamped shares afterAborts insertRising hitTickets without workRefusal passNext commitWriteset workStep step run any allKnown AllLent isGood blocksFrom firstBlocks writesetsFrom commitAll commitBlocks highestTicket highestOwn ownWritesets lastOwn restartedMemory restartRefusal restartStep placesFit partsFit openCount messageIn blockRefusal heard
 outage-known = refl
 
 outage-lent : AllLent 3 zeros (fresh 3 zeros) outages
-unfolding bytesOf numberFrom valueBytes valueOf word sumTo weightedTo firstCheck secondCheck checkBytes checkMatches ownerOf within kindFits entriesFit recordFits recordsFit ticketAbsent ticketsDiffer valid signed32 entryBytes entriesBytes recordBytes recordsBytes headerFor headerBytes bodyBytes blockOf entryOf entriesOf recordOf recordsOf messageOf allZero entriesPadded recordPadded recordsPadded padded wellFormed firstOf headerOf recordAt entryAt entriesFrom bump rowFrom rowOf freeRow indexFrom has holderFrom countBelow placeStart madeMemory beginRefusal beginAt beginRow writeRefusal rewriteAt insertWrite staleAt writeRow askRefusal readOnlyAt queueAt askRow reportOf waiting writesetOf messageFor sendRefusal sendNow sendStep sameBytes deliverRefusal deliverNow deliverStep entriesFor applied stamped shares afterAborts insertRising hitTickets without workRefusal passNext commitWriteset workStep step run any allKnown AllLent isGood blocksFrom firstBlocks writesetsFrom commitAll commitBlocks highestTicket highestOwn ownWritesets lastOwn restartedMemory restartRefusal restartStep placesFit partsFit openCount messageIn blockRefusal heard heardRestart
+unfolding bytesOf numberFrom valueBytes valueOf word sumTo weightedTo firstCheck secondCheck checkBytes checkMatches ownerOf within kindFits entriesFit recordFits recordsFit ticketAbsent ticketsDiffer valid signed32 entryBytes entriesBytes recordBytes recordsBytes headerFor headerBytes bodyBytes blockOf entryOf entriesOf recordOf recordsOf messageOf allZero entriesPadded recordPadded recordsPadded padded wellFormed firstOf headerOf recordAt entryAt entriesFrom bump rowFrom rowOf freeRow indexFrom has holderFrom countBelow placeStart madeMemory beginRefusal beginAt beginRow writeRefusal rewriteAt insertWrite staleAt writeRow askRefusal readOnlyAt queueAt askRow reportOf reportStep waiting writesetOf messageFor sendRefusal sendNow sendStep sameBytes deliverRefusal deliverNow deliverStep entriesFor applied stamped shares afterAborts insertRising hitTickets without workRefusal passNext commitWriteset workStep step run any allKnown AllLent isGood blocksFrom firstBlocks writesetsFrom commitAll commitBlocks highestTicket highestOwn ownWritesets lastOwn restartedMemory restartRefusal restartStep placesFit partsFit openCount messageIn blockRefusal heard
 outage-lent = (
   tt,
   (
@@ -241,15 +243,15 @@ outage-lent = (
 )
 
 outage-0 : held outages 0 ≡ holding (set zeros 10 (pos 80)) 1
-unfolding bytesOf numberFrom valueBytes valueOf word sumTo weightedTo firstCheck secondCheck checkBytes checkMatches ownerOf within kindFits entriesFit recordFits recordsFit ticketAbsent ticketsDiffer valid signed32 entryBytes entriesBytes recordBytes recordsBytes headerFor headerBytes bodyBytes blockOf entryOf entriesOf recordOf recordsOf messageOf allZero entriesPadded recordPadded recordsPadded padded wellFormed firstOf headerOf recordAt entryAt entriesFrom bump rowFrom rowOf freeRow indexFrom has holderFrom countBelow placeStart madeMemory beginRefusal beginAt beginRow writeRefusal rewriteAt insertWrite staleAt writeRow askRefusal readOnlyAt queueAt askRow reportOf waiting writesetOf messageFor sendRefusal sendNow sendStep sameBytes deliverRefusal deliverNow deliverStep entriesFor applied stamped shares afterAborts insertRising hitTickets without workRefusal passNext commitWriteset workStep step run any allKnown AllLent isGood blocksFrom firstBlocks writesetsFrom commitAll commitBlocks highestTicket highestOwn ownWritesets lastOwn restartedMemory restartRefusal restartStep placesFit partsFit openCount messageIn blockRefusal heard heardRestart
+unfolding bytesOf numberFrom valueBytes valueOf word sumTo weightedTo firstCheck secondCheck checkBytes checkMatches ownerOf within kindFits entriesFit recordFits recordsFit ticketAbsent ticketsDiffer valid signed32 entryBytes entriesBytes recordBytes recordsBytes headerFor headerBytes bodyBytes blockOf entryOf entriesOf recordOf recordsOf messageOf allZero entriesPadded recordPadded recordsPadded padded wellFormed firstOf headerOf recordAt entryAt entriesFrom bump rowFrom rowOf freeRow indexFrom has holderFrom countBelow placeStart madeMemory beginRefusal beginAt beginRow writeRefusal rewriteAt insertWrite staleAt writeRow askRefusal readOnlyAt queueAt askRow reportOf waiting writesetOf messageFor sendRefusal sendNow sendStep sameBytes deliverRefusal deliverNow deliverStep entriesFor applied stamped shares afterAborts insertRising hitTickets without workRefusal passNext commitWriteset workStep step run any allKnown AllLent isGood blocksFrom firstBlocks writesetsFrom commitAll commitBlocks highestTicket highestOwn ownWritesets lastOwn restartedMemory restartRefusal restartStep placesFit partsFit openCount messageIn blockRefusal heard
 outage-0 = refl
 
 outage-1 : held outages 1 ≡ holding (set zeros 10 (pos 80)) 1
-unfolding bytesOf numberFrom valueBytes valueOf word sumTo weightedTo firstCheck secondCheck checkBytes checkMatches ownerOf within kindFits entriesFit recordFits recordsFit ticketAbsent ticketsDiffer valid signed32 entryBytes entriesBytes recordBytes recordsBytes headerFor headerBytes bodyBytes blockOf entryOf entriesOf recordOf recordsOf messageOf allZero entriesPadded recordPadded recordsPadded padded wellFormed firstOf headerOf recordAt entryAt entriesFrom bump rowFrom rowOf freeRow indexFrom has holderFrom countBelow placeStart madeMemory beginRefusal beginAt beginRow writeRefusal rewriteAt insertWrite staleAt writeRow askRefusal readOnlyAt queueAt askRow reportOf waiting writesetOf messageFor sendRefusal sendNow sendStep sameBytes deliverRefusal deliverNow deliverStep entriesFor applied stamped shares afterAborts insertRising hitTickets without workRefusal passNext commitWriteset workStep step run any allKnown AllLent isGood blocksFrom firstBlocks writesetsFrom commitAll commitBlocks highestTicket highestOwn ownWritesets lastOwn restartedMemory restartRefusal restartStep placesFit partsFit openCount messageIn blockRefusal heard heardRestart
+unfolding bytesOf numberFrom valueBytes valueOf word sumTo weightedTo firstCheck secondCheck checkBytes checkMatches ownerOf within kindFits entriesFit recordFits recordsFit ticketAbsent ticketsDiffer valid signed32 entryBytes entriesBytes recordBytes recordsBytes headerFor headerBytes bodyBytes blockOf entryOf entriesOf recordOf recordsOf messageOf allZero entriesPadded recordPadded recordsPadded padded wellFormed firstOf headerOf recordAt entryAt entriesFrom bump rowFrom rowOf freeRow indexFrom has holderFrom countBelow placeStart madeMemory beginRefusal beginAt beginRow writeRefusal rewriteAt insertWrite staleAt writeRow askRefusal readOnlyAt queueAt askRow reportOf waiting writesetOf messageFor sendRefusal sendNow sendStep sameBytes deliverRefusal deliverNow deliverStep entriesFor applied stamped shares afterAborts insertRising hitTickets without workRefusal passNext commitWriteset workStep step run any allKnown AllLent isGood blocksFrom firstBlocks writesetsFrom commitAll commitBlocks highestTicket highestOwn ownWritesets lastOwn restartedMemory restartRefusal restartStep placesFit partsFit openCount messageIn blockRefusal heard
 outage-1 = refl
 
 outage-2 : held outages 2 ≡ holding (set zeros 10 (pos 80)) 1
-unfolding bytesOf numberFrom valueBytes valueOf word sumTo weightedTo firstCheck secondCheck checkBytes checkMatches ownerOf within kindFits entriesFit recordFits recordsFit ticketAbsent ticketsDiffer valid signed32 entryBytes entriesBytes recordBytes recordsBytes headerFor headerBytes bodyBytes blockOf entryOf entriesOf recordOf recordsOf messageOf allZero entriesPadded recordPadded recordsPadded padded wellFormed firstOf headerOf recordAt entryAt entriesFrom bump rowFrom rowOf freeRow indexFrom has holderFrom countBelow placeStart madeMemory beginRefusal beginAt beginRow writeRefusal rewriteAt insertWrite staleAt writeRow askRefusal readOnlyAt queueAt askRow reportOf waiting writesetOf messageFor sendRefusal sendNow sendStep sameBytes deliverRefusal deliverNow deliverStep entriesFor applied stamped shares afterAborts insertRising hitTickets without workRefusal passNext commitWriteset workStep step run any allKnown AllLent isGood blocksFrom firstBlocks writesetsFrom commitAll commitBlocks highestTicket highestOwn ownWritesets lastOwn restartedMemory restartRefusal restartStep placesFit partsFit openCount messageIn blockRefusal heard heardRestart
+unfolding bytesOf numberFrom valueBytes valueOf word sumTo weightedTo firstCheck secondCheck checkBytes checkMatches ownerOf within kindFits entriesFit recordFits recordsFit ticketAbsent ticketsDiffer valid signed32 entryBytes entriesBytes recordBytes recordsBytes headerFor headerBytes bodyBytes blockOf entryOf entriesOf recordOf recordsOf messageOf allZero entriesPadded recordPadded recordsPadded padded wellFormed firstOf headerOf recordAt entryAt entriesFrom bump rowFrom rowOf freeRow indexFrom has holderFrom countBelow placeStart madeMemory beginRefusal beginAt beginRow writeRefusal rewriteAt insertWrite staleAt writeRow askRefusal readOnlyAt queueAt askRow reportOf waiting writesetOf messageFor sendRefusal sendNow sendStep sameBytes deliverRefusal deliverNow deliverStep entriesFor applied stamped shares afterAborts insertRising hitTickets without workRefusal passNext commitWriteset workStep step run any allKnown AllLent isGood blocksFrom firstBlocks writesetsFrom commitAll commitBlocks highestTicket highestOwn ownWritesets lastOwn restartedMemory restartRefusal restartStep placesFit partsFit openCount messageIn blockRefusal heard
 outage-2 = refl
 
 outage-calls : Calls 3 outages
