@@ -156,6 +156,16 @@ pub record CallAt : Type 0 where
 abbrev pub blocksAfter : List (List ℕ) → Answer → List (List ℕ)
 blocksAfter B a = opt (handedOutIn a) B (λ b. B ++ (b ∷ []))
 
+-- the group after a call with this outcome
+abbrev pub nextBy : Outcome → Group → CallAt → Group
+nextBy o g c = record {
+  memories = update (g .memories) (c .at) (o .memory);
+  disks = update (g .disks) (c .at) (diskAfter (g .disks (c .at)) (c .does) (o .answer));
+  observed = update (g .observed) (c .at) (observedAfter (g .observed (c .at)) (heard (c .does) (o .answer)));
+  handouts = handoutsAfter (g .handouts) (c .at) (g .observed (c .at)) (heard (c .does) (o .answer));
+  blocks = blocksAfter (g .blocks) (o .answer);
+}
+
 module _ (n : ℕ) (start : List ℤ) where
   -- n replicas just made, numbers 0 to n − 1, the same values
   abbrev pub fresh : Group
@@ -172,13 +182,7 @@ module _ (n : ℕ) (start : List ℤ) where
   did g c = performed n start (c .at) (g .memories (c .at)) (c .does)
 
   abbrev pub next : Group → CallAt → Group
-  next g c = record {
-    memories = update (g .memories) (c .at) (did g c .memory);
-    disks = update (g .disks) (c .at) (diskAfter (g .disks (c .at)) (c .does) (did g c .answer));
-    observed = update (g .observed) (c .at) (observedAfter (g .observed (c .at)) (heard (c .does) (did g c .answer)));
-    handouts = handoutsAfter (g .handouts) (c .at) (g .observed (c .at)) (heard (c .does) (did g c .answer));
-    blocks = blocksAfter (g .blocks) (did g c .answer);
-  }
+  next g c = nextBy (did g c) g c
 
   unfoldable pub run : Group → List CallAt → Group
   run g [] = g

@@ -13,6 +13,7 @@ use call_client::begin;
 use call_client::read;
 use call_client::report;
 use call_client::withdraw;
+use call_deliver::deliver;
 use call_reply::AskReply;
 use call_reply::BeginReply;
 use call_reply::ReadReply;
@@ -23,6 +24,7 @@ use call_reply::replies::no_begin;
 use call_reply::replies::no_read;
 use call_reply::replies::no_report;
 use call_reply::replies::replied;
+use call_write::write;
 use host_table::copy_turn;
 use host_table::end;
 use host_table::find;
@@ -78,6 +80,35 @@ pub extern "C" fn stemline_read(
     let at = find(table, ticket);
     let t = row(table, at);
     read(at, t, items, writes, snapshots, item)
+}
+
+#[no_mangle]
+pub extern "C" fn stemline_write(
+    table: &mut [Txn],
+    turn: &Turn,
+    ticket: u32,
+    counts: Counts,
+    items: &mut [u8],
+    writes: &mut [i32],
+    stamps: &[u32],
+    item: u32,
+    value: i32,
+) -> Reply
+    ensures { λ r. ⌜ ((m : Memory) → Gives reply
+        (called (λ x. writeStep x ticket item value)
+        (writeParts m (now (turn .entry)) counts (now (table .entry)) (now (items .entry)) (now (writes .entry)) (now (stamps .entry))))
+        r
+        (writeParts m (now (turn .entry)) (r .counts) (now (table .exit)) (now (items .exit)) (now (writes .exit)) (now (stamps .entry)))) ⌝ }
+{
+    if table.len() != 6 {
+        return replied(1, counts);
+    }
+    let at = find(table, ticket);
+    let rows = load(table);
+    let now = copy_turn(turn);
+    let done = write(at, rows, now, counts, items, writes, stamps, item, value);
+    put(table, at, done.row);
+    done.reply
 }
 
 #[no_mangle]
@@ -139,4 +170,23 @@ pub extern "C" fn stemline_report(table: &[Txn], turn: &Turn, counts: Counts) ->
     let rows = load(table);
     let now = copy_turn(turn);
     report(rows, now, counts)
+}
+
+#[no_mangle]
+pub extern "C" fn stemline_deliver(
+    turn: &Turn,
+    counts: Counts,
+    places: &mut [u8],
+    outbox: &[u8],
+    bytes: &[u8],
+) -> u8
+    ensures { λ r. ⌜ ((m : Memory) → Gives number
+        (deliverStep
+        (deliverParts m (now (turn .entry)) counts (now (places .entry)) (now (outbox .entry)))
+        (now (bytes .entry)))
+        r
+        (deliverParts m (now (turn .entry)) counts (now (places .exit)) (now (outbox .entry)))) ⌝ }
+{
+    let now = copy_turn(turn);
+    deliver(now, counts, places, outbox, bytes)
 }
