@@ -44,17 +44,17 @@ bytesOf-numberFrom (suc n) (x ∷ xs) f e =
     let rest : (x + 256 * numberFrom xs) / 256 ≡ numberFrom xs = omega (arith, f .each 0) in
     rw (low, rest, bytesOf-numberFrom n xs (bytes-tail f) (omega arith))
 
-pub numberOf-below : (n : ℕ) (l : List ℕ) → AllBytes l → length l ≤ n → numberFrom l < 256 ^ n
+pub numberFrom-below : (n : ℕ) (l : List ℕ) → AllBytes l → length l ≤ n → numberFrom l < 256 ^ n
 unfolding numberFrom
-numberOf-below n [] f e = one-le-pow n 256 (omega arith)
-numberOf-below zero (x ∷ xs) f e = absurd (not-suc-le-zero e)
-numberOf-below (suc n) (x ∷ xs) f e =
-    omega (arith, f .each 0, pow-succ' 256 n, numberOf-below n xs (bytes-tail f) (le-of-suc-le-suc e))
+numberFrom-below n [] f e = one-le-pow n 256 (omega arith)
+numberFrom-below zero (x ∷ xs) f e = absurd (not-suc-le-zero e)
+numberFrom-below (suc n) (x ∷ xs) f e =
+    omega (arith, f .each 0, pow-succ' 256 n, numberFrom-below n xs (bytes-tail f) (le-of-suc-le-suc e))
 
-pub numberOf-append : (l k : List ℕ) → numberFrom (l ++ k) ≡ numberFrom l + 256 ^ length l * numberFrom k
+pub numberFrom-append : (l k : List ℕ) → numberFrom (l ++ k) ≡ numberFrom l + 256 ^ length l * numberFrom k
 unfolding numberFrom
-numberOf-append [] k = omega arith
-numberOf-append (x ∷ xs) k = rw (numberOf-append xs k, pow-succ' 256 (length xs)) (simp (mul-add, mul-assoc) (omega arith))
+numberFrom-append [] k = omega arith
+numberFrom-append (x ∷ xs) k = rw (numberFrom-append xs k, pow-succ' 256 (length xs)) (simp (mul-add, mul-assoc) (omega arith))
 
 -- ---- signed values in four bytes
 
@@ -69,7 +69,7 @@ fits-signed (pos n) h = lt-ltb n 2147483648 (h .sfits)
 fits-signed (negsuc n) h = lt-ltb n 2147483648 (h .sfits)
 
 four-fit : (l : List ℕ) → AllBytes l → length l ≤ 4 → Fits w32 (numberFrom l)
-four-fit l f e = record { fits = numberOf-below 4 l f e }
+four-fit l f e = record { fits = numberFrom-below 4 l f e }
 
 pub length-valueBytes : (v : ℤ) → length (valueBytes v) ≡ 4
 unfolding valueBytes
@@ -123,4 +123,4 @@ pub number-halves : (l : List ℕ) (at m : ℕ) → at + 2 * m ≤ length l
 number-halves l at m h =
     let e : at + m + m ≡ at + 2 * m = omega arith in
     let size : length (slice at (at + m) l) ≡ m = length-slice at (at + m) l (omega arith) ∙ omega arith in
-    rw (e, slice-split at (at + m) (at + 2 * m) l (omega arith) (omega arith), numberOf-append, size)
+    rw (e, slice-split at (at + m) (at + 2 * m) l (omega arith) (omega arith), numberFrom-append, size)

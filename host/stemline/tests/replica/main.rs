@@ -1,6 +1,7 @@
 //! The replica of the static library beside the second model, and by itself.
 
 mod altered;
+mod blocks;
 mod both;
 mod ends;
 mod groups;
