@@ -1,7 +1,7 @@
 -- The rows that another's writeset hits, and their tickets. Assumes nothing.
 use Prim.Native.Nat.{ℕ, zero, suc, _+_, _<_}
 use mathlib.Core.Path.{_≡_, refl, sym, ap, _∙_}
-use mathlib.Core.Bool.{Bool, true, false, cond, _&&_}
+use mathlib.Core.Bool.{Bool, true, false, cond}
 use mathlib.Core.List.{List, [], _∷_}
 use native.Mathlib.Nat.{add-zero, add-suc, suc-add, le-of-suc-le-suc, not-suc-le-zero}
 use native.Mathlib.Omega.{arith}
@@ -11,8 +11,8 @@ use borrow.Author.Tests.{eqb-true, eq-eqb, not-true}
 use Rattle.block.specs.declared.Entry.{Entry}
 use Rattle.block.proofs.BoolLaws.{both, not-so}
 use Rattle.memory.specs.declared.Txn.{Txn}
-use Rattle.memory.specs.Rows.{closed, isOpen, openCount, rowAt, itemsOf, has}
-use Rattle.engine.specs.Moves.{shares, isHit, afterAborts, insertRising, hitTickets}
+use Rattle.memory.specs.Rows.{closed, isOpen, openCount, rowAt, has}
+use Rattle.engine.specs.Moves.{isHit, afterAborts, insertRising, hitTickets}
 use Rattle.engine.proofs.Tests.{cond-by, clash}
 
 -- ---- tickets among others, rising

@@ -36,6 +36,11 @@ pub mod Shapes
 pub mod Rising
 pub mod ReadBack
 pub mod Claims
+pub mod SentLaws
+pub mod SentClient
+pub mod SentSend
+pub mod SentWork
+pub mod Sent
 pub mod Reports
 pub mod Queues
 pub mod Worked

@@ -26,10 +26,10 @@ module _ {over : ℕ} (m : Memory) (bytes : List ℕ) (S : Shape over m) (k : De
   abbrev new : List ℕ
   new = paste old (placeStart n (headerOf bytes .slot)) bytes 512
 
-  same : blockIn n (headerOf bytes .slot) new ≡ bytes
+  pub same : blockIn n (headerOf bytes .slot) new ≡ bytes
   same = block-kept n old (omega (arith, S .ranges .least)) (S .lengths .places) (headerOf bytes .slot) bytes (k .long)
 
-  beside : (s : ℕ) → m .turn .slot ≤ s → s < m .turn .slot + n → (s ≡ headerOf bytes .slot → ⊥) → blockIn n s new ≡ blockIn n s old
+  pub beside : (s : ℕ) → m .turn .slot ≤ s → s < m .turn .slot + n → (s ≡ headerOf bytes .slot → ⊥) → blockIn n s new ≡ blockIn n s old
   beside s p q d =
       block-beside n old (omega (arith, S .ranges .least)) (S .lengths .places) (m .turn .slot) s (headerOf bytes .slot) bytes (k .long) p q (k .low) (k .high) d
 

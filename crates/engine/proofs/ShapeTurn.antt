@@ -66,11 +66,11 @@ module _ {over : ℕ} (m : Memory) (S : Shape over m) (w : Working m) where
   abbrev new : List ℕ
   new = emptied n turn old
 
-  beside : (s : ℕ) → suc turn ≤ s → s < turn + n → blockIn n s new ≡ blockIn n s old
+  pub beside : (s : ℕ) → suc turn ≤ s → s < turn + n → blockIn n s new ≡ blockIn n s old
   beside s p q =
       emptied-beside n old (omega (arith, S .ranges .least)) (S .lengths .places) turn s turn (omega arith) q (omega arith) (omega arith) (λ e. omega arith)
 
-  again : isEmpty n (turn + n) new ≡ true
+  pub again : isEmpty n (turn + n) new ≡ true
   again = ap (λ (k : ℕ). eqb (getD new k 0) 0) (place-again n turn) ∙ emptied-empty n old (omega (arith, S .ranges .least)) (S .lengths .places) turn
 
   waits-after : (s : ℕ) → suc turn ≤ s → s < suc turn + n → isEmpty n s new ≡ false

@@ -41,7 +41,7 @@ stamped-but c (e ∷ es) l i h =
 
 -- ---- rows
 
-abbrev SameOrClosed : List Txn → List Txn → ℕ → Type 0
+abbrev pub SameOrClosed : List Txn → List Txn → ℕ → Type 0
 SameOrClosed l k i = (rowAt k i ≡ rowAt l i) ⊎ (rowAt k i ≡ closed)
 
 set-closed : (l : List Txn) (r i : ℕ) → SameOrClosed l (set l r closed) i
@@ -50,7 +50,7 @@ set-closed l r i =
     (λ h. same-by i r (λ e. inr (rw e (getD-set-same l r closed closed (omega arith)))) (λ d. inl (others l r closed i d)))
     (λ h. inr (List·getD-eq-default (set l r closed) closed (rw (length-set l r closed) h)))
 
-aborts-closed : (es : List Entry) (items : List ℕ) (l : List Txn) (i : ℕ) → SameOrClosed l (afterAborts es items 0 l) i
+pub aborts-closed : (es : List Entry) (items : List ℕ) (l : List Txn) (i : ℕ) → SameOrClosed l (afterAborts es items 0 l) i
 aborts-closed es items l i =
     less-by i (length l)
     (λ h. rw (rw zero-add at (aborts-at es items 0 l i h))

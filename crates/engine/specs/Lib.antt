@@ -10,5 +10,6 @@ pub mod Worked
 pub mod Frames
 pub mod Shape
 pub mod Claims
+pub mod Sent
 pub mod History
 pub mod Restarts
