@@ -31,9 +31,8 @@ use Rattle.engine.proofs.Tests.{clash}
 use Rattle.protocol.specs.Lists.{Mem, any}
 use Rattle.protocol.specs.Observer.{sequence, applyAll}
 use Rattle.protocol.proofs.ListLaws.{any-true, any-false}
-use Rattle.agreement.specs.Group as group
-use Rattle.agreement.specs.Group.{messageIn, Disk, Group, GroupCall, call, restart, CallAt, fresh, run, did, next, heard, Calls, Lent, Premise}
-use Rattle.agreement_runs.specs.Worked.{zeros, story, forgery, outages, after, Held, held, holding, storyValues, WorkedRuns}
+use Rattle.agreement.specs.Group.{GroupCall, call, restart, argumentsOf, messageIn, heard, Disk, journalAfter, Group, CallAt, fresh, run, did, next, Comes, Calls, Lent, Premise}
+use Rattle.agreement_runs.specs.Worked.{zeros, story, forgery, outages, after, Held, held, holding, storyValues, outageValues, WorkedRuns}
 use Rattle.agreement.proofs.Theorem.{agreement}
 
 -- ---- the premise as a test
@@ -48,7 +47,7 @@ same-bytes (x ∷ xs) (y ∷ ys) e =
     rw (eqb-true x y (h .left), same-bytes xs ys (h .right))
 
 -- a block that is kept is one of those handed out
-abbrev known : List (List ℕ) → Call → Answer → Bool
+abbrev known : List (List ℕ) → GroupCall → Answer → Bool
 known B c (refused n) = true
 known B c made = true
 known B c (began t) = true
@@ -59,69 +58,73 @@ known B c readOnly = true
 known B c withdrew = true
 known B c (reported r) = true
 known B c (sent b) = true
-known B c kept = any (sameBytes (group.argumentsOf (call c) .bytes)) B
+known B c kept = any (sameBytes (argumentsOf c .bytes)) B
 known B c (worked s) = true
 known B c (restarted k b) = true
 
-abbrev knownIn : List (List ℕ) → GroupCall → Answer → Bool
-knownIn B (call c) a = known B c a
-knownIn B (restart j l) a = true
+-- for each restart of a list, the call that the cut ended, and how many bytes it left
+record Outage : Type 0 where
+  ended : Call
+  count : ℕ
+
+abbrev outage : Call → ℕ → Outage
+outage c n = record { ended = c; count = n }
+
+abbrev lentAfter : Memory → Disk → List ℕ → Outage → Bool
+lentAfter m d journal h =
+    signed32 (argumentsOf (call (h .ended)) .value)
+    && (sameBytes journal (take (h .count) (journalAfter (d .journal) (call (h .ended)) (step m (h .ended) .answer))) && leb (d .floor) (length journal))
+
+abbrev lentIn : Group → ℕ → GroupCall → List Outage → Bool
+lentIn g k (call c) hs = true
+lentIn g k (restart j l) [] = false
+lentIn g k (restart j l) (h ∷ hs) = lentAfter (g .memories k) (g .disks k) j h
+
+abbrev outagesLeft : GroupCall → List Outage → List Outage
+outagesLeft (call c) hs = hs
+outagesLeft (restart j l) [] = []
+outagesLeft (restart j l) (h ∷ hs) = hs
+
+lent-by : (g : Group) (k : ℕ) (j l : List ℕ) (hs : List Outage) → lentIn g k (restart j l) hs ≡ true → Lent (g .memories k) (g .disks k) j
+lent-by g k j l [] e = clash {b = false} e refl
+lent-by g k j l (h ∷ hs) e =
+    let a = both (signed32 (argumentsOf (call (h .ended)) .value)) _ e in
+    let b = both (sameBytes j _) _ (a .right) in
+    record { ended = h .ended; value = a .left; count = h .count; part = same-bytes _ _ (b .left); enough = leb-true _ _ (b .right) }
 
 module _ (n : ℕ) (start : List ℤ) where
-  unfoldable allKnown : Group → List CallAt → Bool
-  allKnown g [] = true
-  allKnown g (c ∷ cs) = knownIn (g .blocks) (c .does) (did n start g c .answer) && allKnown (next n start g c) cs
+  unfoldable allowed : Group → List CallAt → List Outage → Bool
+  allowed g [] hs = true
+  allowed g (c ∷ cs) hs = (known (g .blocks) (c .does) (did n start g c .answer) && lentIn g (c .at) (c .does) hs) && allowed (next n start g c) cs (outagesLeft (c .does) hs)
 
-  known-at : (before : List CallAt) (c : CallAt) (rest : List CallAt) (g : Group) → allKnown g (before ++ (c ∷ rest)) ≡ true
-      → knownIn (run n start g before .blocks) (c .does) (did n start (run n start g before) c .answer) ≡ true
-  unfolding allKnown run
-  known-at [] c rest g e = both _ _ e .left
-  known-at (b ∷ before) c rest g e = known-at before c rest (next n start g b) (both (knownIn (g .blocks) (b .does) (did n start g b .answer)) _ e .right)
+  record AllowedAt (g : Group) (c : CallAt) : Type 0 where
+    delivers : known (g .blocks) (c .does) (did n start g c .answer) ≡ true
+    left : List Outage
+    restarts : lentIn g (c .at) (c .does) left ≡ true
 
-  -- each restart is lent what a cut leaves
-  abbrev LentAt : Group → ℕ → GroupCall → Type 0
-  LentAt g k (call c) = Unit
-  LentAt g k (restart j l) = Lent (g .memories k) (g .disks k) j
+  allowed-at : (before : List CallAt) (c : CallAt) (rest : List CallAt) (g : Group) (hs : List Outage) → allowed g (before ++ (c ∷ rest)) hs ≡ true → AllowedAt (run n start g before) c
+  unfolding allowed run
+  allowed-at [] c rest g hs e = let a = both (known (g .blocks) (c .does) (did n start g c .answer)) _ (both _ _ e .left) in record { delivers = a .left; left = hs; restarts = a .right }
+  allowed-at (b ∷ before) c rest g hs e =
+      allowed-at before c rest (next n start g b) (outagesLeft (b .does) hs) (both (known (g .blocks) (b .does) (did n start g b .answer) && lentIn g (b .at) (b .does) hs) _ e .right)
 
-  unfoldable AllLent : Group → List CallAt → Type 0
-  AllLent g [] = Unit
-  AllLent g (c ∷ cs) = LentAt g (c .at) (c .does) × AllLent (next n start g c) cs
-
-  lent-at : (before : List CallAt) (c : CallAt) (rest : List CallAt) (g : Group) → AllLent g (before ++ (c ∷ rest)) → LentAt (run n start g before) (c .at) (c .does)
-  unfolding AllLent run
-  lent-at [] c rest g e = e .0
-  lent-at (b ∷ before) c rest g e = lent-at before c rest (next n start g b) (e .1)
-
-  premise-met : (cs : List CallAt) → allKnown (fresh n start) cs ≡ true → AllLent (fresh n start) cs → Premise n start cs
-  premise-met cs e L = record {
+  premise-met : (cs : List CallAt) (hs : List Outage) → allowed (fresh n start) cs hs ≡ true → Premise n start cs
+  premise-met cs hs e = record {
     delivered = λ before k bytes h a.
-        let s = known-at before (record { at = k; does = call (deliver bytes) }) (h .0) (fresh n start) (subst (λ (l : List CallAt). allKnown (fresh n start) l ≡ true) (h .1) e) in
-        let m = any-true (sameBytes bytes) _ (subst (λ (o : Answer). known (run n start (fresh n start) before .blocks) (deliver bytes) o ≡ true) a s) in
+        let m = any-true (sameBytes bytes) _ (subst (λ (o : Answer). known (run n start (fresh n start) before .blocks) (call (deliver bytes)) o ≡ true) a (at before _ h .delivers)) in
         subst (λ (b : List ℕ). Mem b (run n start (fresh n start) before .blocks)) (sym (same-bytes bytes (m .0) (m .1 .1))) (m .1 .0);
-    lent = λ before k j l x b h q. lent-at before (record { at = k; does = restart j l }) (h .0) (fresh n start) (subst (AllLent (fresh n start)) (h .1) L);
+    lent = λ before k j l x b h q. let a = at before _ h in lent-by (run n start (fresh n start) before) k j l (a .left) (a .restarts);
   }
-
-  -- a list with no restart
-  abbrev isRestart : GroupCall → Bool
-  isRestart (call c) = false
-  isRestart (restart j l) = true
-
-  no-restart : (cs : List CallAt) (g : Group) → any (λ c. isRestart (c .does)) cs ≡ false → AllLent g cs
-  unfolding AllLent any
-  no-restart [] g e = tt
-  no-restart (c ∷ cs) g e = go (c .does) e (no-restart cs (next n start g c))
     where
-      go : (d : GroupCall) → cond (isRestart d) true (any (λ c. isRestart (c .does)) cs) ≡ false
-          → (any (λ c. isRestart (c .does)) cs ≡ false → AllLent (next n start g c) cs) → LentAt g (c .at) d × AllLent (next n start g c) cs
-      go (call x) f ih = (tt, ih f)
-      go (restart j l) f ih = clash {b = true} refl f
+      at : (before : List CallAt) (c : CallAt) → Comes cs before c → AllowedAt (run n start (fresh n start) before) c
+      at before c h = allowed-at before c (h .0) (fresh n start) hs (subst (λ (l : List CallAt). allowed (fresh n start) l hs ≡ true) (h .1) e)
 
 abbrev astray : ℕ → CallAt → Bool
-astray n c = not (ltb (c .at) n && signed32 (group.argumentsOf (c .does) .value))
+astray n c = not (ltb (c .at) n && signed32 (argumentsOf (c .does) .value))
 
 calls-met : (n : ℕ) (cs : List CallAt) → any (astray n) cs ≡ false → Calls n cs
 calls-met n cs e c m =
-    let h = both (ltb (c .at) n) (signed32 (group.argumentsOf (c .does) .value)) (not-false _ (any-false (astray n) cs e c m)) in
+    let h = both (ltb (c .at) n) (signed32 (argumentsOf (c .does) .value)) (not-false _ (any-false (astray n) cs e c m)) in
     (ltb-true (c .at) n (h .left), h .right)
 
 -- ---- the runs
@@ -143,29 +146,21 @@ forged-apart p f a b =
     let w : _≡_ {A = ℕ} 84 86 = ap absolute z in
     omega arith
 
-story-known : allKnown 3 zeros (fresh 3 zeros) story ≡ true
-unfolding bytesOf numberFrom valueBytes valueOf word sumTo weightedTo firstCheck secondCheck checkBytes checkMatches ownerOf within kindFits entriesFit recordFits recordsFit ticketAbsent ticketsDiffer valid signed32 entryBytes entriesBytes recordBytes recordsBytes headerFor headerBytes bodyBytes blockOf entryOf entriesOf recordOf recordsOf messageOf allZero entriesPadded recordPadded recordsPadded padded wellFormed firstOf headerOf recordAt entryAt entriesFrom bump rowFrom rowOf freeRow indexFrom has holderFrom countBelow placeStart madeMemory beginRefusal beginAt beginRow writeRefusal rewriteAt insertWrite staleAt writeRow askRefusal readOnlyAt queueAt askRow reportOf waiting writesetOf messageFor sendRefusal sendNow sendStep sameBytes deliverRefusal deliverNow deliverStep entriesFor applied stamped shares afterAborts insertRising hitTickets without workRefusal passNext commitWriteset workStep step run any allKnown
-story-known = refl
+story-computed : (allowed 3 zeros (fresh 3 zeros) story [] ≡ true) × (held story 0 ≡ holding storyValues 4) × (held story 1 ≡ holding storyValues 4) × (held story 2 ≡ holding storyValues 4)
+unfolding bytesOf numberFrom valueBytes valueOf word sumTo weightedTo firstCheck secondCheck checkBytes checkMatches ownerOf within kindFits entriesFit recordFits recordsFit ticketAbsent ticketsDiffer valid signed32 entryBytes entriesBytes recordBytes recordsBytes headerFor headerBytes bodyBytes blockOf entryOf entriesOf recordOf recordsOf messageOf allZero entriesPadded recordPadded recordsPadded padded wellFormed firstOf headerOf recordAt entryAt entriesFrom bump rowFrom rowOf freeRow indexFrom has holderFrom countBelow placeStart madeMemory beginRefusal beginAt beginRow writeRefusal rewriteAt insertWrite staleAt writeRow askRefusal readOnlyAt queueAt askRow reportOf waiting writesetOf messageFor sendRefusal sendNow sendStep sameBytes deliverRefusal deliverNow deliverStep entriesFor applied stamped shares afterAborts insertRising hitTickets without workRefusal passNext commitWriteset workStep step run any allowed
+story-computed = (refl, refl, refl, refl)
 
-story-0 : held story 0 ≡ holding storyValues 4
-unfolding bytesOf numberFrom valueBytes valueOf word sumTo weightedTo firstCheck secondCheck checkBytes checkMatches ownerOf within kindFits entriesFit recordFits recordsFit ticketAbsent ticketsDiffer valid signed32 entryBytes entriesBytes recordBytes recordsBytes headerFor headerBytes bodyBytes blockOf entryOf entriesOf recordOf recordsOf messageOf allZero entriesPadded recordPadded recordsPadded padded wellFormed firstOf headerOf recordAt entryAt entriesFrom bump rowFrom rowOf freeRow indexFrom has holderFrom countBelow placeStart madeMemory beginRefusal beginAt beginRow writeRefusal rewriteAt insertWrite staleAt writeRow askRefusal readOnlyAt queueAt askRow reportOf waiting writesetOf messageFor sendRefusal sendNow sendStep sameBytes deliverRefusal deliverNow deliverStep entriesFor applied stamped shares afterAborts insertRising hitTickets without workRefusal passNext commitWriteset workStep step run any allKnown
-story-0 = refl
+forgery-computed : (held forgery 0 ≡ holding (set zeros 5 (pos 84)) 1) × (held forgery 1 ≡ holding (set zeros 5 (pos 86)) 1)
+unfolding bytesOf numberFrom valueBytes valueOf word sumTo weightedTo firstCheck secondCheck checkBytes checkMatches ownerOf within kindFits entriesFit recordFits recordsFit ticketAbsent ticketsDiffer valid signed32 entryBytes entriesBytes recordBytes recordsBytes headerFor headerBytes bodyBytes blockOf entryOf entriesOf recordOf recordsOf messageOf allZero entriesPadded recordPadded recordsPadded padded wellFormed firstOf headerOf recordAt entryAt entriesFrom bump rowFrom rowOf freeRow indexFrom has holderFrom countBelow placeStart madeMemory beginRefusal beginAt beginRow writeRefusal rewriteAt insertWrite staleAt writeRow askRefusal readOnlyAt queueAt askRow reportOf waiting writesetOf messageFor sendRefusal sendNow sendStep sameBytes deliverRefusal deliverNow deliverStep entriesFor applied stamped shares afterAborts insertRising hitTickets without workRefusal passNext commitWriteset workStep step run any allowed
+forgery-computed = (refl, refl)
 
-story-1 : held story 1 ≡ holding storyValues 4
-unfolding bytesOf numberFrom valueBytes valueOf word sumTo weightedTo firstCheck secondCheck checkBytes checkMatches ownerOf within kindFits entriesFit recordFits recordsFit ticketAbsent ticketsDiffer valid signed32 entryBytes entriesBytes recordBytes recordsBytes headerFor headerBytes bodyBytes blockOf entryOf entriesOf recordOf recordsOf messageOf allZero entriesPadded recordPadded recordsPadded padded wellFormed firstOf headerOf recordAt entryAt entriesFrom bump rowFrom rowOf freeRow indexFrom has holderFrom countBelow placeStart madeMemory beginRefusal beginAt beginRow writeRefusal rewriteAt insertWrite staleAt writeRow askRefusal readOnlyAt queueAt askRow reportOf waiting writesetOf messageFor sendRefusal sendNow sendStep sameBytes deliverRefusal deliverNow deliverStep entriesFor applied stamped shares afterAborts insertRising hitTickets without workRefusal passNext commitWriteset workStep step run any allKnown
-story-1 = refl
+-- the first two cuts end a send
+abbrev ends : List Outage
+ends = outage (send (replicate 512 0)) 512 ∷ outage (send (replicate 512 0)) 612 ∷ outage report 1024 ∷ []
 
-story-2 : held story 2 ≡ holding storyValues 4
-unfolding bytesOf numberFrom valueBytes valueOf word sumTo weightedTo firstCheck secondCheck checkBytes checkMatches ownerOf within kindFits entriesFit recordFits recordsFit ticketAbsent ticketsDiffer valid signed32 entryBytes entriesBytes recordBytes recordsBytes headerFor headerBytes bodyBytes blockOf entryOf entriesOf recordOf recordsOf messageOf allZero entriesPadded recordPadded recordsPadded padded wellFormed firstOf headerOf recordAt entryAt entriesFrom bump rowFrom rowOf freeRow indexFrom has holderFrom countBelow placeStart madeMemory beginRefusal beginAt beginRow writeRefusal rewriteAt insertWrite staleAt writeRow askRefusal readOnlyAt queueAt askRow reportOf waiting writesetOf messageFor sendRefusal sendNow sendStep sameBytes deliverRefusal deliverNow deliverStep entriesFor applied stamped shares afterAborts insertRising hitTickets without workRefusal passNext commitWriteset workStep step run any allKnown
-story-2 = refl
-
-forgery-0 : held forgery 0 ≡ holding (set zeros 5 (pos 84)) 1
-unfolding bytesOf numberFrom valueBytes valueOf word sumTo weightedTo firstCheck secondCheck checkBytes checkMatches ownerOf within kindFits entriesFit recordFits recordsFit ticketAbsent ticketsDiffer valid signed32 entryBytes entriesBytes recordBytes recordsBytes headerFor headerBytes bodyBytes blockOf entryOf entriesOf recordOf recordsOf messageOf allZero entriesPadded recordPadded recordsPadded padded wellFormed firstOf headerOf recordAt entryAt entriesFrom bump rowFrom rowOf freeRow indexFrom has holderFrom countBelow placeStart madeMemory beginRefusal beginAt beginRow writeRefusal rewriteAt insertWrite staleAt writeRow askRefusal readOnlyAt queueAt askRow reportOf waiting writesetOf messageFor sendRefusal sendNow sendStep sameBytes deliverRefusal deliverNow deliverStep entriesFor applied stamped shares afterAborts insertRising hitTickets without workRefusal passNext commitWriteset workStep step run any allKnown
-forgery-0 = refl
-
-forgery-1 : held forgery 1 ≡ holding (set zeros 5 (pos 86)) 1
-unfolding bytesOf numberFrom valueBytes valueOf word sumTo weightedTo firstCheck secondCheck checkBytes checkMatches ownerOf within kindFits entriesFit recordFits recordsFit ticketAbsent ticketsDiffer valid signed32 entryBytes entriesBytes recordBytes recordsBytes headerFor headerBytes bodyBytes blockOf entryOf entriesOf recordOf recordsOf messageOf allZero entriesPadded recordPadded recordsPadded padded wellFormed firstOf headerOf recordAt entryAt entriesFrom bump rowFrom rowOf freeRow indexFrom has holderFrom countBelow placeStart madeMemory beginRefusal beginAt beginRow writeRefusal rewriteAt insertWrite staleAt writeRow askRefusal readOnlyAt queueAt askRow reportOf waiting writesetOf messageFor sendRefusal sendNow sendStep sameBytes deliverRefusal deliverNow deliverStep entriesFor applied stamped shares afterAborts insertRising hitTickets without workRefusal passNext commitWriteset workStep step run any allKnown
-forgery-1 = refl
+outages-computed : (allowed 3 zeros (fresh 3 zeros) outages ends ≡ true) × (held outages 0 ≡ holding outageValues 1) × (held outages 1 ≡ holding outageValues 1) × (held outages 2 ≡ holding outageValues 1)
+unfolding bytesOf numberFrom valueBytes valueOf word sumTo weightedTo firstCheck secondCheck checkBytes checkMatches ownerOf within kindFits entriesFit recordFits recordsFit ticketAbsent ticketsDiffer valid signed32 entryBytes entriesBytes recordBytes recordsBytes headerFor headerBytes bodyBytes blockOf entryOf entriesOf recordOf recordsOf messageOf allZero entriesPadded recordPadded recordsPadded padded wellFormed firstOf headerOf recordAt entryAt entriesFrom bump rowFrom rowOf freeRow indexFrom has holderFrom countBelow placeStart madeMemory beginRefusal beginAt beginRow writeRefusal rewriteAt insertWrite staleAt writeRow askRefusal readOnlyAt queueAt askRow reportOf waiting writesetOf messageFor sendRefusal sendNow sendStep sameBytes deliverRefusal deliverNow deliverStep entriesFor applied stamped shares afterAborts insertRising hitTickets without workRefusal passNext commitWriteset workStep step run any allowed isGood blocksFrom firstBlocks writesetsFrom commitAll commitBlocks highestTicket highestOwn ownWritesets lastOwn restartedMemory restartRefusal restartStep placesFit partsFit openCount messageIn blockRefusal heard reportStep
+outages-computed = (refl, refl, refl, refl)
 
 story-calls : Calls 3 story
 unfolding any signed32
@@ -175,97 +170,13 @@ forgery-calls : Calls 3 forgery
 unfolding any signed32
 forgery-calls = calls-met 3 forgery refl
 
--- what a restart is lent, by computing
-lent-by : (m : Memory) (d : Disk) (journal : List ℕ) (ended : Call) (count : ℕ) → signed32 (group.argumentsOf (call ended) .value) ≡ true
-    → sameBytes journal (take count (group.journalAfter (d .journal) (call ended) (step m ended .answer))) ≡ true → leb (d .floor) (length journal) ≡ true → Lent m d journal
-lent-by m d journal ended count v e f = record {
-  ended = ended;
-  value = v;
-  count = count;
-  part = same-bytes _ _ e;
-  enough = leb-true _ _ f;
-}
-
-outage-known : allKnown 3 zeros (fresh 3 zeros) outages ≡ true
-unfolding bytesOf numberFrom valueBytes valueOf word sumTo weightedTo firstCheck secondCheck checkBytes checkMatches ownerOf within kindFits entriesFit recordFits recordsFit ticketAbsent ticketsDiffer valid signed32 entryBytes entriesBytes recordBytes recordsBytes headerFor headerBytes bodyBytes blockOf entryOf entriesOf recordOf recordsOf messageOf allZero entriesPadded recordPadded recordsPadded padded wellFormed firstOf headerOf recordAt entryAt entriesFrom bump rowFrom rowOf freeRow indexFrom has holderFrom countBelow placeStart madeMemory beginRefusal beginAt beginRow writeRefusal rewriteAt insertWrite staleAt writeRow askRefusal readOnlyAt queueAt askRow reportOf waiting writesetOf messageFor sendRefusal sendNow sendStep sameBytes deliverRefusal deliverNow deliverStep entriesFor applied stamped shares afterAborts insertRising hitTickets without workRefusal passNext commitWriteset workStep step run any allKnown AllLent isGood blocksFrom firstBlocks writesetsFrom commitAll commitBlocks highestTicket highestOwn ownWritesets lastOwn restartedMemory restartRefusal restartStep placesFit partsFit openCount messageIn blockRefusal heard
-outage-known = refl
-
-outage-lent : AllLent 3 zeros (fresh 3 zeros) outages
-unfolding bytesOf numberFrom valueBytes valueOf word sumTo weightedTo firstCheck secondCheck checkBytes checkMatches ownerOf within kindFits entriesFit recordFits recordsFit ticketAbsent ticketsDiffer valid signed32 entryBytes entriesBytes recordBytes recordsBytes headerFor headerBytes bodyBytes blockOf entryOf entriesOf recordOf recordsOf messageOf allZero entriesPadded recordPadded recordsPadded padded wellFormed firstOf headerOf recordAt entryAt entriesFrom bump rowFrom rowOf freeRow indexFrom has holderFrom countBelow placeStart madeMemory beginRefusal beginAt beginRow writeRefusal rewriteAt insertWrite staleAt writeRow askRefusal readOnlyAt queueAt askRow reportOf reportStep waiting writesetOf messageFor sendRefusal sendNow sendStep sameBytes deliverRefusal deliverNow deliverStep entriesFor applied stamped shares afterAborts insertRising hitTickets without workRefusal passNext commitWriteset workStep step run any allKnown AllLent isGood blocksFrom firstBlocks writesetsFrom commitAll commitBlocks highestTicket highestOwn ownWritesets lastOwn restartedMemory restartRefusal restartStep placesFit partsFit openCount messageIn blockRefusal heard
-outage-lent = (
-  tt,
-  (
-    tt,
-    (
-      tt,
-      (
-        lent-by _ _ _ (send (replicate 512 0)) 512 refl refl refl,
-        (
-          tt,
-          (
-            tt,
-            (
-              tt,
-              (
-                tt,
-                (
-                  tt,
-                  (
-                    lent-by _ _ _ (send (replicate 512 0)) 612 refl refl refl,
-                    (
-                      tt,
-                      (
-                        tt,
-                        (
-                          tt,
-                          (
-                            tt,
-                            (
-                              tt,
-                              (
-                                lent-by _ _ _ report 1024 refl refl refl,
-                                (tt, (tt, (tt, (tt, tt)))),
-                              ),
-                            ),
-                          ),
-                        ),
-                      ),
-                    ),
-                  ),
-                ),
-              ),
-            ),
-          ),
-        ),
-      ),
-    ),
-  ),
-)
-
-outage-0 : held outages 0 ≡ holding (set zeros 10 (pos 80)) 1
-unfolding bytesOf numberFrom valueBytes valueOf word sumTo weightedTo firstCheck secondCheck checkBytes checkMatches ownerOf within kindFits entriesFit recordFits recordsFit ticketAbsent ticketsDiffer valid signed32 entryBytes entriesBytes recordBytes recordsBytes headerFor headerBytes bodyBytes blockOf entryOf entriesOf recordOf recordsOf messageOf allZero entriesPadded recordPadded recordsPadded padded wellFormed firstOf headerOf recordAt entryAt entriesFrom bump rowFrom rowOf freeRow indexFrom has holderFrom countBelow placeStart madeMemory beginRefusal beginAt beginRow writeRefusal rewriteAt insertWrite staleAt writeRow askRefusal readOnlyAt queueAt askRow reportOf waiting writesetOf messageFor sendRefusal sendNow sendStep sameBytes deliverRefusal deliverNow deliverStep entriesFor applied stamped shares afterAborts insertRising hitTickets without workRefusal passNext commitWriteset workStep step run any allKnown AllLent isGood blocksFrom firstBlocks writesetsFrom commitAll commitBlocks highestTicket highestOwn ownWritesets lastOwn restartedMemory restartRefusal restartStep placesFit partsFit openCount messageIn blockRefusal heard
-outage-0 = refl
-
-outage-1 : held outages 1 ≡ holding (set zeros 10 (pos 80)) 1
-unfolding bytesOf numberFrom valueBytes valueOf word sumTo weightedTo firstCheck secondCheck checkBytes checkMatches ownerOf within kindFits entriesFit recordFits recordsFit ticketAbsent ticketsDiffer valid signed32 entryBytes entriesBytes recordBytes recordsBytes headerFor headerBytes bodyBytes blockOf entryOf entriesOf recordOf recordsOf messageOf allZero entriesPadded recordPadded recordsPadded padded wellFormed firstOf headerOf recordAt entryAt entriesFrom bump rowFrom rowOf freeRow indexFrom has holderFrom countBelow placeStart madeMemory beginRefusal beginAt beginRow writeRefusal rewriteAt insertWrite staleAt writeRow askRefusal readOnlyAt queueAt askRow reportOf waiting writesetOf messageFor sendRefusal sendNow sendStep sameBytes deliverRefusal deliverNow deliverStep entriesFor applied stamped shares afterAborts insertRising hitTickets without workRefusal passNext commitWriteset workStep step run any allKnown AllLent isGood blocksFrom firstBlocks writesetsFrom commitAll commitBlocks highestTicket highestOwn ownWritesets lastOwn restartedMemory restartRefusal restartStep placesFit partsFit openCount messageIn blockRefusal heard
-outage-1 = refl
-
-outage-2 : held outages 2 ≡ holding (set zeros 10 (pos 80)) 1
-unfolding bytesOf numberFrom valueBytes valueOf word sumTo weightedTo firstCheck secondCheck checkBytes checkMatches ownerOf within kindFits entriesFit recordFits recordsFit ticketAbsent ticketsDiffer valid signed32 entryBytes entriesBytes recordBytes recordsBytes headerFor headerBytes bodyBytes blockOf entryOf entriesOf recordOf recordsOf messageOf allZero entriesPadded recordPadded recordsPadded padded wellFormed firstOf headerOf recordAt entryAt entriesFrom bump rowFrom rowOf freeRow indexFrom has holderFrom countBelow placeStart madeMemory beginRefusal beginAt beginRow writeRefusal rewriteAt insertWrite staleAt writeRow askRefusal readOnlyAt queueAt askRow reportOf waiting writesetOf messageFor sendRefusal sendNow sendStep sameBytes deliverRefusal deliverNow deliverStep entriesFor applied stamped shares afterAborts insertRising hitTickets without workRefusal passNext commitWriteset workStep step run any allKnown AllLent isGood blocksFrom firstBlocks writesetsFrom commitAll commitBlocks highestTicket highestOwn ownWritesets lastOwn restartedMemory restartRefusal restartStep placesFit partsFit openCount messageIn blockRefusal heard
-outage-2 = refl
-
 outage-calls : Calls 3 outages
 unfolding any signed32
 outage-calls = calls-met 3 outages refl
 
 pub worked-runs : WorkedRuns
 worked-runs = record {
-  story-runs = record { calls = story-calls; premise = premise-met 3 zeros story story-known (no-restart 3 zeros story (fresh 3 zeros) (unfold any in refl)); replica-0 = story-0; replica-1 = story-1; replica-2 = story-2 };
-  forgery-runs = record {
-    calls = forgery-calls;
-    premise = λ p. forged-apart p forgery-calls forgery-0 forgery-1;
-    replica-0 = forgery-0;
-    replica-1 = forgery-1;
-  };
-  outage-runs = record { calls = outage-calls; premise = premise-met 3 zeros outages outage-known outage-lent; replica-0 = outage-0; replica-1 = outage-1; replica-2 = outage-2 };
+  story-runs = let c = story-computed in record { calls = story-calls; premise = premise-met 3 zeros story [] (c .0); replica-0 = c .1; replica-1 = c .2; replica-2 = c .3 };
+  forgery-runs = let c = forgery-computed in record { calls = forgery-calls; premise = λ p. forged-apart p forgery-calls (c .0) (c .1); replica-0 = c .0; replica-1 = c .1 };
+  outage-runs = let c = outages-computed in record { calls = outage-calls; premise = premise-met 3 zeros outages ends (c .0); replica-0 = c .1; replica-1 = c .2; replica-2 = c .3 };
 }

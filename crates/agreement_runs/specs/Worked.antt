@@ -22,7 +22,7 @@ abbrev pub commitBlock : ℕ → ℕ → ℕ → ℕ → ℤ → List ℕ
 commitBlock s sender ticket item value =
     blockOf (record { kind = 2; sender = sender; replicas = 3; slot = s; records = record { ticket = ticket; entries = record { item = item; value = value } ∷ [] } ∷ [] })
 
--- a transaction begun, written and asked, then sent
+-- a transaction begun, written and asked
 abbrev pub asking : ℕ → ℕ → ℕ → ℤ → List CallAt
 asking k ticket item value = at k begin ∷ at k (write ticket item value) ∷ at k (ask ticket) ∷ []
 
@@ -32,9 +32,9 @@ sending k = at k (send (replicate 512 0))
 abbrev pub taking : ℕ → List ℕ → List CallAt
 taking k block = at k (deliver block) ∷ at k work ∷ []
 
--- two apart on different letters, items 10 and 20: replica 2 gets slot 1's block before slot 0's
-abbrev pub apart : List CallAt
-apart =
+-- two stems on different letters, items 10 and 20: replica 2 gets slot 1's block before slot 0's
+abbrev pub differentItems : List CallAt
+differentItems =
     asking 0 1 10 (pos 80) ++ asking 1 1 20 (pos 70)
     ++ (sending 0 ∷ taking 0 (commitBlock 0 0 1 10 (pos 80)))
     ++ taking 1 (commitBlock 0 0 1 10 (pos 80))
@@ -54,7 +54,7 @@ sameItem =
     ++ taking 2 (commitBlock 3 0 2 5 (pos 84))
 
 abbrev pub story : List CallAt
-story = apart ++ sameItem
+story = differentItems ++ sameItem
 
 -- ---- and a forged block
 
@@ -70,17 +70,18 @@ forgery =
 abbrev pub restarting : ℕ → List ℕ → CallAt
 restarting k journal = record { at = k; does = restart journal (replicate 512 0) }
 
--- replica 0 asks, and a cut ends its send when the block is on its disk: the restart hands the block out. Replica 1 takes it and works; a cut tears the block it
--- then sends after 100 bytes, so it restarts with slot 0 alone, and sends for slot 1 anew: a *next*, its transaction is gone. Replica 0 loses power once more
 abbrev pub first : List ℕ
 first = commitBlock 0 0 1 10 (pos 80)
 
+-- a *next*
 abbrev pub second : List ℕ
 second = blockOf (record { kind = 1; sender = 1; replicas = 3; slot = 1; records = [] })
 
 abbrev pub torn : List ℕ
 torn = first ++ take 100 (commitBlock 1 1 1 20 (pos 70))
 
+-- replica 0 asks, and a cut ends its send when the block is on its disk: the restart hands the block out. Replica 1 takes it and works; a cut tears the block it
+-- then sends after 100 bytes, so it restarts with slot 0 alone, and sends for slot 1 anew: a *next*, its transaction is gone. Replica 0 loses power once more
 abbrev pub outages : List CallAt
 outages =
     asking 0 1 10 (pos 80)
@@ -110,6 +111,9 @@ holding values commits = record { values = values; commits = commits }
 abbrev pub storyValues : List ℤ
 storyValues = set (set (set zeros 10 (pos 80)) 20 (pos 70)) 5 (pos 84)
 
+abbrev pub outageValues : List ℤ
+outageValues = set zeros 10 (pos 80)
+
 -- the story meets the premise; all three replicas commit its four writesets and hold the same values
 pub record WorkedRun : Type 0 where
   pub calls : Calls 3 story
@@ -129,9 +133,9 @@ pub record ForgedRun : Type 0 where
 pub record OutageRun : Type 0 where
   pub calls : Calls 3 outages
   pub premise : Premise 3 zeros outages
-  pub replica-0 : held outages 0 ≡ holding (set zeros 10 (pos 80)) 1
-  pub replica-1 : held outages 1 ≡ holding (set zeros 10 (pos 80)) 1
-  pub replica-2 : held outages 2 ≡ holding (set zeros 10 (pos 80)) 1
+  pub replica-0 : held outages 0 ≡ holding outageValues 1
+  pub replica-1 : held outages 1 ≡ holding outageValues 1
+  pub replica-2 : held outages 2 ≡ holding outageValues 1
 
 pub record WorkedRuns : Type 0 where
   pub story-runs : WorkedRun
