@@ -1,5 +1,5 @@
 -- `cursor::place_start` meets its contract: the remainder is taken where the group has a replica, and by 0 it is the number itself. Assumes nothing.
-use mathlib.Core.Path.{refl, sym}
+use mathlib.Core.Path.{refl}
 use native.Mathlib.Nat.{mod-zero, mod-le}
 use native.Mathlib.Omega.{arith}
 use borrow.Author.Needs.{needs}
