@@ -95,7 +95,7 @@ typedef struct stemline_counts {
 
 typedef struct stemline_report_values {
     uint32_t turn, commits, tickets;
-    uint32_t active; /* open transactions */
+    uint32_t open_count; /* open transactions */
     uint32_t committed, read_only, aborted, withdrawn;
 } stemline_report_values;
 

@@ -48,10 +48,10 @@ pub struct Report {
     pub turn: u32,
     /// The writesets committed, own and others'.
     pub commits: u32,
-    /// The tickets given: as many as `active` and the four endings together.
+    /// The tickets given: as many as `open_count` and the four endings together.
     pub tickets: u32,
     /// The open transactions.
-    pub active: u32,
+    pub open_count: u32,
     pub committed: u32,
     pub read_only: u32,
     pub aborted: u32,

@@ -72,7 +72,7 @@ fn report(replica: &Replica) -> second::Report {
         turn: report.turn,
         commits: report.commits,
         tickets: report.tickets,
-        open: report.active,
+        open: report.open_count,
         committed: report.committed,
         read_only: report.read_only,
         aborted: report.aborted,

@@ -65,7 +65,7 @@ fn structs_have_one_layout() {
     layout!(due, lines, "stemline_counts", Counts,
         replicas own commits done tickets committed read_only aborted withdrawn);
     layout!(due, lines, "stemline_report_values", Report,
-        turn commits tickets active committed read_only aborted withdrawn);
+        turn commits tickets open_count committed read_only aborted withdrawn);
     layout!(due, lines, "stemline_reply", Reply, counts number);
     layout!(due, lines, "stemline_begin_reply", BeginReply, counts ticket number);
     layout!(due, lines, "stemline_read_reply", ReadReply, number value);
