@@ -8,7 +8,7 @@ use std::process::Command;
 use stemline::ffi::{
     AskReply, BeginReply, Counts, ReadReply, Reply, Report, ReportReply, Turn, Txn, WorkReply,
 };
-use stemline::Refusal;
+use stemline::{Refusal, Replica, BLOCK, ITEMS};
 
 /// Compiles a C program against the header and the static library, and gives what it prints.
 pub fn run_c(source: &str, name: &str) -> String {
@@ -111,7 +111,8 @@ fn lengths_are_the_same() {
     let source = format!(
         "#include <stdio.h>\n#include \"stemline.h\"\nint main(void) {{\n{lines}return 0;\n}}\n"
     );
-    let memory = stemline::Memory::zero(3);
+    let replica = Replica::new(3, 0, &[0; ITEMS]).unwrap();
+    let memory = replica.memory();
     let due = [
         memory.table.len(),
         memory.items.len(),
@@ -122,7 +123,7 @@ fn lengths_are_the_same() {
         memory.stamps.len(),
         memory.places.len(),
         memory.outbox.len(),
-        stemline::BLOCK,
+        BLOCK,
     ];
     let due: String = due.iter().map(|length| format!("{length}\n")).collect();
     assert_eq!(run_c(&source, "lengths"), due);

@@ -6,4 +6,5 @@ mod ends;
 mod groups;
 mod header;
 mod lengths;
+mod lent;
 mod story;
