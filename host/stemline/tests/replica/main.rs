@@ -7,4 +7,5 @@ mod groups;
 mod header;
 mod lengths;
 mod lent;
+mod seeds;
 mod story;
