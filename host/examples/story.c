@@ -54,10 +54,11 @@ static void make(int k) {
     static const int32_t start[STEMLINE_VALUES];
     struct studio *s = &studios[k];
     stemline_reply reply = stemline_make(
-        s->table, STEMLINE_TABLE, &s->turn, STUDIOS, (uint32_t)k, start, STEMLINE_VALUES,
-        s->queue, STEMLINE_QUEUE, s->items, STEMLINE_ITEMS, s->writes, STEMLINE_WRITES,
-        s->snapshots, STEMLINE_SNAPSHOTS, s->values, STEMLINE_VALUES, s->stamps, STEMLINE_STAMPS,
-        s->places, STEMLINE_PLACES(STUDIOS), s->outbox, STEMLINE_OUTBOX);
+        s->table, STEMLINE_TABLE, &s->turn, s->counts, STUDIOS, (uint32_t)k,
+        start, STEMLINE_VALUES, s->queue, STEMLINE_QUEUE, s->items, STEMLINE_ITEMS,
+        s->writes, STEMLINE_WRITES, s->snapshots, STEMLINE_SNAPSHOTS, s->values, STEMLINE_VALUES,
+        s->stamps, STEMLINE_STAMPS, s->places, STEMLINE_PLACES(STUDIOS),
+        s->outbox, STEMLINE_OUTBOX);
     must(reply.number);
     s->counts = reply.counts;
 }

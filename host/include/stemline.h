@@ -14,8 +14,8 @@
  * A refused call changes nothing; only STEMLINE_STALE ends its transaction.
  *
  * The counts go in by value and come back in the reply as they are after the
- * call: the caller stores them, accepted or not. (A refused make gives zeros.)
- * stemline_send and stemline_deliver change no counts.
+ * call: the caller stores them, accepted or not. stemline_send and
+ * stemline_deliver change no counts.
  *
  * A bool field holds 0 or 1; any other byte there is undefined behaviour.
  * Calls at one replica come one after the other. */
@@ -136,10 +136,12 @@ typedef struct stemline_work_reply {
     stemline_counts counts;
 } stemline_work_reply;
 
-/* Fills all parts: replica own of n, 2 to 6, with 128 values to start with.
+/* Fills all parts: replica own of n, 2 to 6, with 128 values to start with. The
+ * counts given are those of the replica that was there before, which a refused
+ * make leaves as it is; where none was, any, such as zeros.
  * Refused by 1, 2. With an n out of range the places may have any length. */
 stemline_reply stemline_make(
-    stemline_txn *table, size_t table_length, stemline_turn *turn,
+    stemline_txn *table, size_t table_length, stemline_turn *turn, stemline_counts counts,
     uint32_t n, uint32_t own, const int32_t *start, size_t start_length,
     uint32_t *queue, size_t queue_length, uint8_t *items, size_t items_length,
     int32_t *writes, size_t writes_length, int32_t *snapshots, size_t snapshots_length,

@@ -158,9 +158,9 @@ macro_rules! calls {
 calls! {
     /// Fills the parts of replica `own` of `n` that starts with 128 values. Refused by 1, 2.
     fn make = stemline_make(
-        table: mut [Txn], turn: &mut Turn, n: u32, own: u32, start: ref [i32], queue: mut [u32],
-        items: mut [u8], writes: mut [i32], snapshots: mut [i32], values: mut [i32],
-        stamps: mut [u32], places: mut [u8], outbox: mut [u8]
+        table: mut [Txn], turn: &mut Turn, counts: Counts, n: u32, own: u32, start: ref [i32],
+        queue: mut [u32], items: mut [u8], writes: mut [i32], snapshots: mut [i32],
+        values: mut [i32], stamps: mut [u32], places: mut [u8], outbox: mut [u8]
     ) -> Reply;
 
     /// Opens a transaction. Refused by 1, 5, 6.

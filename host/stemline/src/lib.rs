@@ -87,6 +87,7 @@ impl Replica {
         let reply = ffi::make(
             &mut m.table,
             &mut m.turn,
+            m.counts,
             n,
             own,
             values,

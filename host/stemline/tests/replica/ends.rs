@@ -12,7 +12,8 @@ use stemline::Replica;
 use crate::both::{same, Both};
 use crate::lent::Lent;
 
-/// Every N and own number, in range or not; and a make on a memory that was used before.
+/// Every N and own number, in range or not; and a make on a memory that was used before, which
+/// keeps everything where it is refused, the counts too.
 #[test]
 fn makes() {
     let values = start_values();

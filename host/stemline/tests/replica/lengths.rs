@@ -80,10 +80,6 @@ const CALLS: [(&str, &str); 10] = [
 fn answer_of_one(name: &str, counts: Counts) -> String {
     let number = 1;
     match name {
-        "make" => {
-            let counts = Counts::default();
-            format!("{:?}", Reply { number, counts })
-        }
         "begin" => {
             let ticket = 0;
             let reply = BeginReply {
@@ -94,7 +90,7 @@ fn answer_of_one(name: &str, counts: Counts) -> String {
             format!("{reply:?}")
         }
         "read" => format!("{:?}", ReadReply { number, value: 0 }),
-        "write" | "withdraw" => format!("{:?}", Reply { number, counts }),
+        "make" | "write" | "withdraw" => format!("{:?}", Reply { number, counts }),
         "ask" => {
             let read_only = false;
             let reply = AskReply {

@@ -73,28 +73,22 @@ impl Lent {
             }};
         }
         match name {
-            "make" => {
-                let reply = ffi::make(
-                    &mut l.table,
-                    &mut l.turn,
-                    l.n,
-                    l.own,
-                    &l.start,
-                    &mut l.queue,
-                    &mut l.items,
-                    &mut l.writes,
-                    &mut l.snapshots,
-                    &mut l.values,
-                    &mut l.stamps,
-                    &mut l.places,
-                    &mut l.outbox,
-                );
-                // A refused make gives zeros.
-                if reply.number == 0 {
-                    l.counts = reply.counts;
-                }
-                said!(reply)
-            }
+            "make" => kept!(ffi::make(
+                &mut l.table,
+                &mut l.turn,
+                l.counts,
+                l.n,
+                l.own,
+                &l.start,
+                &mut l.queue,
+                &mut l.items,
+                &mut l.writes,
+                &mut l.snapshots,
+                &mut l.values,
+                &mut l.stamps,
+                &mut l.places,
+                &mut l.outbox
+            )),
             "begin" => kept!(ffi::begin(
                 &mut l.table,
                 l.counts,
