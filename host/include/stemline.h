@@ -17,7 +17,6 @@
  * call: the caller stores them, accepted or not. stemline_send and
  * stemline_deliver change no counts.
  *
- * A bool field holds 0 or 1; any other byte there is undefined behaviour.
  * Calls at one replica come one after the other. */
 #ifndef STEMLINE_H
 #define STEMLINE_H
@@ -78,10 +77,11 @@ typedef struct stemline_txn {
     uint32_t writes;   /* how many items it has written */
 } stemline_txn;
 
+/* A mark is off where it is 0, on where it is any other number. */
 typedef struct stemline_turn {
-    uint32_t slot; /* the slot that is processed next */
-    bool sent;     /* the own block for it was sent */
-    bool applying; /* a block of another replica is committed in part */
+    uint32_t slot;    /* the slot that is processed next */
+    uint8_t sent;     /* mark: the own block for it was sent */
+    uint8_t applying; /* mark: a block of another replica is committed in part */
 } stemline_turn;
 
 typedef struct stemline_counts {

@@ -15,14 +15,15 @@ pub struct Txn {
     pub writes: u32,
 }
 
-/// The slot that is processed next, whether the own block for it was sent, and whether a block of
-/// another replica is committed in part.
+/// The slot that is processed next, and two marks: whether the own block for it was sent, and whether
+/// a block of another replica is committed in part. A mark is off where it is 0, on where it is any
+/// other number.
 #[repr(C)]
 #[derive(Clone, Copy, Debug, Default, PartialEq, Eq)]
 pub struct Turn {
     pub slot: u32,
-    pub sent: bool,
-    pub applying: bool,
+    pub sent: u8,
+    pub applying: u8,
 }
 
 /// The numbers of a replica. A call gives them back as they are after it.

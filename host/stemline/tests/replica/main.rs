@@ -7,5 +7,6 @@ mod groups;
 mod header;
 mod lengths;
 mod lent;
+mod marks;
 mod seeds;
 mod story;
