@@ -7,4 +7,7 @@ mod ends;
 mod groups;
 mod header;
 mod lengths;
+mod lent;
+mod marks;
+mod seeds;
 mod story;
