@@ -24,6 +24,7 @@ use call_reply::replies::no_begin;
 use call_reply::replies::no_read;
 use call_reply::replies::no_report;
 use call_reply::replies::replied;
+use call_send::send;
 use call_write::write;
 use host_table::copy_turn;
 use host_table::end;
@@ -32,6 +33,8 @@ use host_table::load;
 use host_table::put;
 use host_table::row;
 use host_table::scan;
+use host_table::set_turn;
+use host_table::store;
 use memory::Counts;
 use memory::Turn;
 use memory::Txn;
@@ -170,6 +173,36 @@ pub extern "C" fn stemline_report(table: &[Txn], turn: &Turn, counts: Counts) ->
     let rows = load(table);
     let now = copy_turn(turn);
     report(rows, now, counts)
+}
+
+#[no_mangle]
+pub extern "C" fn stemline_send(
+    table: &mut [Txn],
+    turn: &mut Turn,
+    counts: Counts,
+    queue: &mut [u32],
+    items: &[u8],
+    writes: &[i32],
+    outbox: &mut [u8],
+    block: &mut [u8],
+) -> u8
+    ensures { λ r. ⌜ ((m : Memory) → GivesBlock
+        (called (λ x. sendStep x (now (block .entry)))
+        (sendParts m (now (turn .entry)) counts (now (table .entry)) (now (queue .entry)) (now (items .entry)) (now (writes .entry)) (now (outbox .entry))))
+        (now (block .entry))
+        r
+        (sendParts m (now (turn .exit)) counts (now (table .exit)) (now (queue .exit)) (now (items .entry)) (now (writes .entry)) (now (outbox .exit)))
+        (now (block .exit))) ⌝ }
+{
+    if table.len() != 6 {
+        return 1;
+    }
+    let rows = load(table);
+    let now = copy_turn(turn);
+    let done = send(rows, now, counts, queue, items, writes, outbox, block);
+    store(table, done.rows);
+    set_turn(turn, done.turn);
+    done.number
 }
 
 #[no_mangle]
