@@ -35,8 +35,9 @@ module _ (start : List ℤ) (F : List (Placed ℤ)) (D : List (Handout ℤ)) whe
     -- its commits are the first c of the sequence, by sender and ticket, c the commit count in its report
     pub commits : p .commits ≡ map idOf (take (r .commits) F)
     pub counted : length (p .commits) ≡ r .commits
-    -- and hold every writeset put down under a slot below its turn
+    -- and hold every writeset put down under a slot below its turn, by sender and ticket and by place
     pub below : (h : Handout ℤ) → Mem h D → h .slot < r .turn → (e : Placed ℤ) → Mem e (h .writesets) → Mem (idOf e) (p .commits)
+    pub reached : (i : ℕ) → i < length D → getD D i noHandout .slot < r .turn → length (sequence (take (suc i) D)) ≤ r .commits
     -- its values are the starting ones with those put in, in order
     pub values : held ≡ applyAll start (take (r .commits) F)
 
@@ -77,10 +78,10 @@ module _ (n : ℕ) (start : List ℤ) (cs : List CallAt) where
     -- a work that commits names the next writeset of the sequence
     pub works : (before : List CallAt) (k : ℕ) (s : Step) → Comes cs before (record { at = k; does = call work }) → answer before k work ≡ worked s → (s .ticket ≡ 0 → ⊥)
         → idOf (placed F (suc (length (groupAfter before .observed k .commits)))) ≡ record { sender = s .sender; ticket = s .ticket }
-    -- a ticket that a work names as aborted has noted an item of the writeset which that work committed
+    -- a work that names a ticket as aborted commits a writeset, and the ticket has noted an item of it
     pub aborts : (before : List CallAt) (k : ℕ) (s : Step) → Comes cs before (record { at = k; does = call work }) → answer before k work ≡ worked s
         → (t : ℕ) → Mem t (s .aborted)
-        → Share (groupAfter before .observed k .noted t .writes) (placed F (suc (length (groupAfter before .observed k .commits))) .writes)
+        → (s .ticket ≡ 0 → ⊥) × Share (groupAfter before .observed k .noted t .writes) (placed F (suc (length (groupAfter before .observed k .commits))) .writes)
     -- once a ticket is put down, no work at its replica names it as aborted
     pub spared : (before : List CallAt) (k : ℕ) (s : Step) → Comes cs before (record { at = k; does = call work }) → answer before k work ≡ worked s
         → (t : ℕ) → Mem t (s .aborted) → InSequence (groupAfter before .handouts) k t → ⊥
