@@ -18,12 +18,13 @@ use Rattle.engine.proofs.Steps.{work-by}
 use Rattle.engine.proofs.ShapeTurn.{working}
 use Rattle.protocol.specs.Lists.{Mem}
 use Rattle.protocol.specs.Journal.{Journal, journal}
-use Rattle.protocol.specs.Observer.{Observed, Placed, Handout, sequence, idOf, noPlaced}
+use Rattle.protocol.specs.Observer.{Observed, Placed, Handout, sequence, idOf, handoutMessage, noPlaced}
 use Rattle.protocol.specs.Statement.{NotHandedOut, Committed, WorkClaim, WriteClaim, ReadClaim, Agreed}
 use Rattle.protocol.specs.Machine.{MachineSystem, MachineAgreement, CommandPremise, CommandClaims, systemOf}
 use Rattle.protocol.proofs.Refinement.{machine-agreement}
+use Rattle.protocol.proofs.ListLaws.{mem-map}
 use Rattle.protocol.proofs.SequenceLaws.{sequence-mono, mem-at}
-use Rattle.agreement.specs.Group.{call, heard, Group, CallAt, fresh, run, Comes, Calls}
+use Rattle.agreement.specs.Group.{messageIn, call, heard, Group, CallAt, fresh, run, Comes, Calls}
 use Rattle.agreement.specs.Statement.{InSequence, Agrees, FirstCommitter, groupAfter, Agreement}
 use Rattle.agreement.proofs.View.{setup, Sound, Owed}
 use Rattle.agreement.proofs.Replicas.{places-apart}
@@ -163,7 +164,8 @@ module _ (n : ℕ) (start : List ℤ) (least : 2 ≤ n) (most : n ≤ 6) (long :
   pub agreement-from : Agreement n start cs
   agreement-from = record {
     slots = λ i j h u. rw (group .rising i (omega arith), group .rising j u) h;
-    blocks = group .messages;
+    blocks = λ b m. group .messages .each (messageIn b) (mem-map messageIn (g .blocks) b m);
+    handed = λ h m. group .messages .all (handoutMessage h) (mem-map handoutMessage (g .handouts) h m);
     replicas = λ k h. agrees k;
     reads = reading;
     first = λ q h u. first-committer F q h (group .first (q - 1) (omega arith));

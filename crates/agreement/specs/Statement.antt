@@ -13,8 +13,7 @@ use Rattle.engine.specs.Step.{Call, step}
 use Rattle.engine.specs.Step.Call.{read, write, work}
 use Rattle.protocol.specs.Lists.{Mem}
 use Rattle.protocol.specs.Writesets.{Write, has, lookup, Disjoint}
-use Rattle.protocol.specs.Observer.{Observed, Placed, Handout, sequence, idOf, applyAll, noPlaced, noHandout}
-use Rattle.protocol.specs.Statement.{SameMessages}
+use Rattle.protocol.specs.Observer.{Observed, Placed, Handout, sequence, idOf, applyAll, handoutMessage, noPlaced, noHandout}
 use Rattle.agreement.specs.Group.{messageIn, Group, call, CallAt, fresh, run, Comes, Calls, Premise}
 
 -- the writeset at a place of the sequence, counted from 1
@@ -66,8 +65,9 @@ module _ (n : ℕ) (start : List ℤ) (cs : List CallAt) where
   pub record Agreement : Type 0 where
     -- no slot was put down twice, and the sequence is by rising slot
     pub slots : (i j : ℕ) → i < j → j < length handouts → getD handouts i noHandout .slot < getD handouts j noHandout .slot
-    -- the records of each block handed out are the tickets and writes put down under its slot, in order
-    pub blocks : SameMessages handouts (map messageIn (groupAfter cs .blocks))
+    -- the records of each block handed out are the tickets and writes put down under its slot, in order; and nothing else was put down
+    pub blocks : (b : List ℕ) → Mem b (groupAfter cs .blocks) → Mem (messageIn b) (map handoutMessage handouts)
+    pub handed : (h : Handout ℤ) → Mem h handouts → Mem (handoutMessage h) (map messageIn (groupAfter cs .blocks))
     -- each replica has committed a beginning of the sequence and holds its values
     pub replicas : (k : ℕ) → k < n → Agrees start F handouts (groupAfter cs .observed k) (groupAfter cs .memories k .store .values) (reportOf (groupAfter cs .memories k))
     -- each accepted read gave the value then noted, else the item's value after the first *start* writesets of the sequence
