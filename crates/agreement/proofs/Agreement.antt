@@ -18,12 +18,13 @@ use Rattle.engine.proofs.Steps.{work-by}
 use Rattle.engine.proofs.ShapeTurn.{working}
 use Rattle.protocol.specs.Lists.{Mem}
 use Rattle.protocol.specs.Journal.{Journal, journal}
-use Rattle.protocol.specs.Observer.{Observed, Placed, Handout, sequence, idOf, noPlaced}
+use Rattle.protocol.specs.Observer.{Observed, Placed, Handout, sequence, idOf, handoutMessage, noPlaced}
 use Rattle.protocol.specs.Statement.{NotHandedOut, Committed, WorkClaim, WriteClaim, ReadClaim, Agreed}
 use Rattle.protocol.specs.Machine.{MachineSystem, MachineAgreement, CommandPremise, CommandClaims, systemOf}
 use Rattle.protocol.proofs.Refinement.{machine-agreement}
-use Rattle.protocol.proofs.SequenceLaws.{mem-at}
-use Rattle.agreement.specs.Group.{call, heard, Group, CallAt, fresh, run, Comes, Calls}
+use Rattle.protocol.proofs.ListLaws.{mem-map}
+use Rattle.protocol.proofs.SequenceLaws.{sequence-mono, mem-at}
+use Rattle.agreement.specs.Group.{messageIn, call, heard, Group, CallAt, fresh, run, Comes, Calls}
 use Rattle.agreement.specs.Statement.{InSequence, Agrees, FirstCommitter, groupAfter, Agreement}
 use Rattle.agreement.proofs.View.{setup, Sound, Owed}
 use Rattle.agreement.proofs.Replicas.{places-apart}
@@ -131,7 +132,7 @@ module _ (n : ℕ) (start : List ℤ) (least : 2 ≤ n) (most : n ≤ 6) (long :
     unfolding heard
     committing z =
         rw (ne-eqb (s .ticket) 0 z) at
-        (subst (λ (o : Answer). WorkClaim F (run n start (fresh n start) before .handouts) seen k (heard (call work) o)) a (at-call before (record { at = k; does = call work }) e))
+        (subst (λ (o : Answer). WorkClaim F (run n start (fresh n start) before .handouts) seen k (heard n (call work) o)) a (at-call before (record { at = k; does = call work }) e))
 
     -- a work that names a ticket as aborted commits a writeset
     naming : (t : ℕ) → Mem t (s .aborted) → s .ticket ≡ 0 → ⊥
@@ -140,13 +141,13 @@ module _ (n : ℕ) (start : List ℤ) (least : 2 ≤ n) (most : n ≤ 6) (long :
   reading : (before : List CallAt) (k t i : ℕ) (v : ℤ) → Comes cs before (record { at = k; does = call (read t i) })
       → step (groupAfter n start cs before .memories k) (read t i) .answer ≡ got v → ReadClaim (setup n start) F (run n start (fresh n start) before .observed k) t i (Rattle.protocol.specs.Replica.Event.got t i v)
   unfolding heard
-  reading before k t i v e a = subst (λ (o : Answer). ReadClaim (setup n start) F (run n start (fresh n start) before .observed k) t i (heard (call (read t i)) o)) a (at-call before (record { at = k; does = call (read t i) }) e)
+  reading before k t i v e a = subst (λ (o : Answer). ReadClaim (setup n start) F (run n start (fresh n start) before .observed k) t i (heard n (call (read t i)) o)) a (at-call before (record { at = k; does = call (read t i) }) e)
 
   writing : (before : List CallAt) (k t i : ℕ) (v : ℤ) → Comes cs before (record { at = k; does = call (write t i v) })
       → step (groupAfter n start cs before .memories k) (write t i v) .answer ≡ refused 9 → NotHandedOut (run n start (fresh n start) before .handouts) k t
   unfolding heard
   writing before k t i v e a =
-      subst (λ (o : Answer). WriteClaim (run n start (fresh n start) before .handouts) k t (heard (call (write t i v)) o)) a (at-call before (record { at = k; does = call (write t i v) }) e) refl
+      subst (λ (o : Answer). WriteClaim (run n start (fresh n start) before .handouts) k t (heard n (call (write t i v)) o)) a (at-call before (record { at = k; does = call (write t i v) }) e) refl
 
   agrees : (k : ℕ) → Agrees start F (g .handouts) (g .observed k) (g .memories k .store .values) (reportOf (g .memories k))
   unfolding reportOf
@@ -154,20 +155,25 @@ module _ (n : ℕ) (start : List ℤ) (least : 2 ≤ n) (most : n ≤ 6) (long :
     commits = a .commits;
     counted = ap length (a .commits) ∙ length-map (take (g .memories k .counts .commits) F) idOf ∙ length-take-le (g .memories k .counts .commits) F (a .within);
     below = a .below;
+    reached = λ i h l.
+        let u = sequence-mono (g .handouts) (suc i) (g .memories k .turn .slot) (let q = group .rising i h in omega arith) in
+        let v = a .passed in omega arith;
     values = a .values;
   }
 
   pub agreement-from : Agreement n start cs
   agreement-from = record {
     slots = λ i j h u. rw (group .rising i (omega arith), group .rising j u) h;
-    blocks = group .messages;
+    blocks = λ b m. group .messages .each (messageIn b) (mem-map messageIn (g .blocks) b m);
+    handed = λ h m. group .messages .all (handoutMessage h) (mem-map handoutMessage (g .handouts) h m);
     replicas = λ k h. agrees k;
     reads = reading;
     first = λ q h u. first-committer F q h (group .first (q - 1) (omega arith));
     works = λ before k s e a z. rw (next-place (length (run n start (fresh n start) before .observed k .commits))) (committing before k s e a z .named);
     aborts = λ before k s e a t q.
-        let b = committing before k s e a (naming before k s e a t q) .aborts t q in
-        rw (next-place (length (run n start (fresh n start) before .observed k .commits))) (b .item, b .written, b .committed);
+        let z = naming before k s e a t q in
+        let b = committing before k s e a z .aborts t q in
+        (z, rw (next-place (length (run n start (fresh n start) before .observed k .commits))) (b .item, b .written, b .committed));
     spared = λ before k s e a t q. put-down (run n start (fresh n start) before .handouts) k t (committing before k s e a (naming before k s e a t q) .aborts t q .free);
     never-stale = λ before k t i v e a. put-down (run n start (fresh n start) before .handouts) k t (writing before k t i v e a);
   }

@@ -50,5 +50,5 @@ module _ (n : ℕ) (start : List ℤ) (m : Memory) (c : Call) where
   }
 
   pub client-owes : (d : ClientOutcome ℤ) (o : Outcome) (k : Counts) (x : Transactions) → step (setup n start) (view m) (meant c) ≡ fromClient (view m) d
-      → heard (call c) (o .answer) ≡ d .event → o .memory ≡ withTxns m k x → ClientAlike d k x → Owed n start m c o
+      → heard n (call c) (o .answer) ≡ d .event → o .memory ≡ withTxns m k x → ClientAlike d k x → Owed n start m c o
   client-owes d o k x e h q a = follows (rw e h) (rw (e, q) (client-alike d k x a))

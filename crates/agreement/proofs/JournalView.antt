@@ -121,7 +121,7 @@ left-block n b g false false slot turn e = rw (eq-eqb turn slot e) (no-block n)
 
 module _ (n : ℕ) (start : List ℤ) (m : Memory) (s : Sound n m) where
   abbrev Appends : Call → Outcome → Type 0
-  Appends c o = AppendedBlocks n (appendedIn (o .answer)) (appended (setup n start) (view m) (o .memory .turn .slot) (heard (call c) (o .answer)))
+  Appends c o = AppendedBlocks n (appendedIn (o .answer)) (appended (setup n start) (view m) (o .memory .turn .slot) (heard n (call c) (o .answer)))
 
   abbrev b : List ℕ
   b = blockAtTurn m
@@ -192,13 +192,13 @@ module _ (n : ℕ) (l : List ℕ) (J : Journal ℤ) (H : OnDisk n l (J .kept)) w
   stays : (more : Option (Message ℤ)) → AppendedBlocks n [] more → OnDisk n l (append (J .kept) more)
   stays more A = subst (λ (x : List ℕ). OnDisk n x (append (J .kept) more)) (append-nil l) (grows [] more A)
 
-  worked-journal : (more : Option (Message ℤ)) (c : Call) (w : Step) → model.journalAfter J more (heard (call c) (worked w)) ≡ journal (append (J .kept) more) (J .safe)
+  worked-journal : (more : Option (Message ℤ)) (c : Call) (w : Step) → model.journalAfter J more (heard n (call c) (worked w)) ≡ journal (append (J .kept) more) (J .safe)
   unfolding heard model.journalAfter
   worked-journal more c w = cond-by (λ (e : Event ℤ). model.journalAfter J more e ≡ journal (append (J .kept) more) (J .safe)) (eqb (w .ticket) 0) (λ q. refl) (λ q. refl)
 
   -- by what is answered; `more` is what the model appends
   disk-by : (c : Call) (a : Answer) (more : Option (Message ℤ)) → AppendedBlocks n (appendedIn a) more → NoRestart a
-      → OnDisk n (journalAfter l (call c) a) (model.journalAfter J more (heard (call c) a) .kept) × OnDisk n (journalAfter l (call c) a) (append (J .kept) more)
+      → OnDisk n (journalAfter l (call c) a) (model.journalAfter J more (heard n (call c) a) .kept) × OnDisk n (journalAfter l (call c) a) (append (J .kept) more)
   unfolding heard model.journalAfter
   disk-by c (refused k) more A q = (stays more A, stays more A)
   disk-by c made more A q = (stays more A, stays more A)
@@ -216,25 +216,25 @@ module _ (n : ℕ) (l : List ℕ) (J : Journal ℤ) (H : OnDisk n l (J .kept)) w
 
   -- what the model appends in a call
   abbrev moreIn : List ℤ → Memory → Call → Option (Message ℤ)
-  moreIn start m c = appended (setup n start) (view m) (step m c .memory .turn .slot) (heard (call c) (step m c .answer))
+  moreIn start m c = appended (setup n start) (view m) (step m c .memory .turn .slot) (heard n (call c) (step m c .answer))
 
   pub disk-call : (start : List ℤ) (m : Memory) → Sound n m → (c : Call)
-      → OnDisk n (journalAfter l (call c) (step m c .answer)) (model.journalAfter J (moreIn start m c) (heard (call c) (step m c .answer)) .kept)
+      → OnDisk n (journalAfter l (call c) (step m c .answer)) (model.journalAfter J (moreIn start m c) (heard n (call c) (step m c .answer)) .kept)
   disk-call start m s c = disk-by c (step m c .answer) (moreIn start m c) (appends n start m s c) (no-restart m c) .0
 
   pub disk-restart : (start : List ℤ) (m : Memory) (k : ℕ) (bytes b : List ℕ)
       → let o = restartStep m n k start bytes b in OnDisk n (journalAfter l (restart bytes b) (o .answer))
-      (model.journalAfter J (appended (setup n start) (view m) (o .memory .turn .slot) (heard (restart bytes b) (o .answer))) (heard (restart bytes b) (o .answer)) .kept)
+      (model.journalAfter J (appended (setup n start) (view m) (o .memory .turn .slot) (heard n (restart bytes b) (o .answer))) (heard n (restart bytes b) (o .answer)) .kept)
   unfolding heard model.journalAfter appended
   disk-restart start m k bytes b =
       let first = reads-first n 0 (length bytes / 512) bytes in
       restart-by (λ (o : Outcome). OnDisk n (journalAfter l (restart bytes b) (o .answer))
-      (model.journalAfter J (appended (setup n start) (view m) (o .memory .turn .slot) (heard (restart bytes b) (o .answer))) (heard (restart bytes b) (o .answer)) .kept)) m n k start bytes b
+      (model.journalAfter J (appended (setup n start) (view m) (o .memory .turn .slot) (heard n (restart bytes b) (o .answer))) (heard n (restart bytes b) (o .answer)) .kept)) m n k start bytes b
       (λ e. record {
         blocks = blocksIn n bytes;
         joined = ap join (sym first) ∙ join-first (length (blocksIn n bytes)) bytes;
         good = reads-good n 0 (length bytes / 512) bytes;
-        says = ap (map messageIn) (sym first);
+        says = refl;
       })
       (λ e. H)
 

@@ -31,5 +31,6 @@ pub mod Runs
 pub mod Premises
 pub mod Agreement
 pub mod Theorem
+pub mod Journals
 -- what holds with no premise
 pub mod Handed

@@ -32,7 +32,7 @@ use Rattle.agreement.proofs.Runs.{machine, machineOf, command, commands
 
 -- ---- a disk's bytes
 
-length-join : (n : ℕ) (bs : List (List ℕ)) → AllGood n bs → length (join bs) ≡ 512 * length bs
+pub length-join : (n : ℕ) (bs : List (List ℕ)) → AllGood n bs → length (join bs) ≡ 512 * length bs
 unfolding join
 length-join n [] g = refl
 length-join n (b ∷ bs) g =
@@ -51,22 +51,22 @@ safe-bytes n l J H h =
     omega arith
 
 -- the floor after a call, with the bytes l, is as high as what is safe
-floor-by : (J : Journal ℤ) (floor : ℕ) (l : List ℕ) (more : Option (Message ℤ)) (c : GroupCall) (a : Answer) → 512 * J .safe ≤ floor → 512 * journalAfter J more (heard c a) .safe ≤ length l
-    → 512 * journalAfter J more (heard c a) .safe ≤ opt (handedOutIn a) floor (λ b. length l)
+floor-by : (n : ℕ) (J : Journal ℤ) (floor : ℕ) (l : List ℕ) (more : Option (Message ℤ)) (c : GroupCall) (a : Answer) → 512 * J .safe ≤ floor → 512 * journalAfter J more (heard n c a) .safe ≤ length l
+    → 512 * journalAfter J more (heard n c a) .safe ≤ opt (handedOutIn a) floor (λ b. length l)
 unfolding heard journalAfter
-floor-by J floor l more c (refused n) h u = h
-floor-by J floor l more c made h u = h
-floor-by J floor l more c (began t) h u = h
-floor-by J floor l more c (got v) h u = h
-floor-by J floor l more c wrote h u = h
-floor-by J floor l more c queued h u = h
-floor-by J floor l more c readOnly h u = h
-floor-by J floor l more c withdrew h u = h
-floor-by J floor l more c (reported r) h u = h
-floor-by J floor l more c (sent b) h u = u
-floor-by J floor l more c kept h u = h
-floor-by J floor l more c (worked s) h u = cond-by (λ (e : Event ℤ). 512 * journalAfter J more e .safe ≤ floor) (eqb (s .ticket) 0) (λ q. h) (λ q. h)
-floor-by J floor l more c (restarted k b) h u = go (eqb (getD b 0 0) 0) u
+floor-by n J floor l more c (refused k) h u = h
+floor-by n J floor l more c made h u = h
+floor-by n J floor l more c (began t) h u = h
+floor-by n J floor l more c (got v) h u = h
+floor-by n J floor l more c wrote h u = h
+floor-by n J floor l more c queued h u = h
+floor-by n J floor l more c readOnly h u = h
+floor-by n J floor l more c withdrew h u = h
+floor-by n J floor l more c (reported r) h u = h
+floor-by n J floor l more c (sent b) h u = u
+floor-by n J floor l more c kept h u = h
+floor-by n J floor l more c (worked s) h u = cond-by (λ (e : Event ℤ). 512 * journalAfter J more e .safe ≤ floor) (eqb (s .ticket) 0) (λ q. h) (λ q. h)
+floor-by n J floor l more c (restarted k b) h u = go (eqb (getD b 0 0) 0) u
   where
     safeWith : Bool → ℕ
     safeWith z = opt (cond z none (some (messageIn b))) (J .safe) (λ (w : Message ℤ). max (J .safe) (suc (w .slot)))
@@ -135,7 +135,7 @@ module _ (n : ℕ) (start : List ℤ) (least : 2 ≤ n) (most : n ≤ 6) (long :
       s = subst (λ (j : Journal ℤ). j .safe ≤ length (j .kept)) (update-same J (c .at) J′) (I .inv .journals (c .at) .safe)
 
       by : (b : Bool) → 512 * cond b J′ (J k) .safe ≤ cond b d′ (g .disks k) .floor
-      by true = floor-by (J (c .at)) (g .disks (c .at) .floor) (d′ .journal) _ (c .does) (did n start g c .answer) (low (c .at)) (safe-bytes n (d′ .journal) J′ H′ s)
+      by true = floor-by n (J (c .at)) (g .disks (c .at) .floor) (d′ .journal) _ (c .does) (did n start g c .answer) (low (c .at)) (safe-bytes n (d′ .journal) J′ H′ s)
       by false = low k
 
   pub premise : (cs : List CallAt) (f : Calls n cs) (J : ℕ → Journal ℤ) (g : Group) → Holds J g → Inv J g → ((k : ℕ) → 512 * J k .safe ≤ g .disks k .floor) → PremiseFrom n start g cs

@@ -54,7 +54,7 @@ places-apart n start t s l h e = less-by t s (λ u. absurd (let z = next-round n
 module _ (n : ℕ) (start : List ℤ) (least : 2 ≤ n) (most : n ≤ 6) (long : length start ≡ 128)
     (owes : (m : Memory) → Sound n m → (c : Call) → Owed n start m c (step m c)) where
   abbrev pub perform : ℕ → Memory → TypedCall → Performed ℤ Memory
-  perform k m a = record { memory = performed n start k m (a .call) .memory; event = heard (a .call) (performed n start k m (a .call) .answer) }
+  perform k m a = record { memory = performed n start k m (a .call) .memory; event = heard n (a .call) (performed n start k m (a .call) .answer) }
 
   abbrev pub meaning : TypedCall → Option (Rattle.protocol.specs.System.Call ℤ)
   meaning a = some (meantBy n (a .call))

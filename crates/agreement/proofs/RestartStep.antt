@@ -15,7 +15,7 @@ use Rattle.engine.specs.Restart.{isGood, blocksIn, startReplay, repeated, lastO
 use Rattle.engine.proofs.Tests.{clash, not-first}
 use Rattle.engine.proofs.Steps.{restart-by}
 use Rattle.engine.proofs.ShapeMade.{getD-zeros}
-use Rattle.engine.proofs.RestartLaws.{AllGood, reads-good, reads-few, reads-first, count-few}
+use Rattle.engine.proofs.RestartLaws.{AllGood, reads-good, reads-few, count-few}
 use Rattle.engine.proofs.ShapeRestart.{shape-restarted}
 use Rattle.protocol.specs.Lists.{opt}
 use Rattle.protocol.specs.Writesets.{Message}
@@ -91,11 +91,11 @@ module _ (n : ℕ) (start : List ℤ) (m : Memory) (journal block : List ℕ) wh
   pub given-back : (k : ℕ) → givenIn (lastOwn k (replicate 512 0) (blocksIn n journal)) ≡ lastOf k (map messageIn (blocksIn n journal))
   given-back k = given-last n k (replicate 512 0) bs good ∙ rw zeros-none (given-none (lastOf k (map messageIn bs)))
 
-  pub restart-event : heard (restart journal block) (restarted (length (blocksIn n journal)) (lastOwn (m .counts .own) (replicate 512 0) (blocksIn n journal)))
+  pub restart-event : heard n (restart journal block) (restarted (length (blocksIn n journal)) (lastOwn (m .counts .own) (replicate 512 0) (blocksIn n journal)))
       ≡ step (setup n start) (view m) (Rattle.protocol.specs.System.Call.restart (lentMessages n journal)) .event
   unfolding heard step
   restart-event =
-      rw (reads-first n 0 (length journal / 512) journal, given-back (m .counts .own), read-messages) refl
+      rw (given-back (m .counts .own), read-messages) refl
 
   pub restart-alike : Alike (step (setup n start) (view m) (Rattle.protocol.specs.System.Call.restart (lentMessages n journal)) .replica)
       (view (restartedMemory n (m .counts .own) start (blocksIn n journal)))
@@ -104,8 +104,8 @@ module _ (n : ℕ) (start : List ℤ) (m : Memory) (journal block : List ℕ) wh
 
   -- what the outcome o of a restart owes
   pub data RestartOwed (o : Outcome) : Type 0 where
-    turned-away : (c : ℕ) → (c ≡ 9 → ⊥) → heard (restart journal block) (o .answer) ≡ Event.refused c → Alike (view m) (view (o .memory)) → RestartOwed o
-    restores : heard (restart journal block) (o .answer) ≡ step (setup n start) (view m) (Rattle.protocol.specs.System.Call.restart (lentMessages n journal)) .event
+    turned-away : (c : ℕ) → (c ≡ 9 → ⊥) → heard n (restart journal block) (o .answer) ≡ Event.refused c → Alike (view m) (view (o .memory)) → RestartOwed o
+    restores : heard n (restart journal block) (o .answer) ≡ step (setup n start) (view m) (Rattle.protocol.specs.System.Call.restart (lentMessages n journal)) .event
         → Alike (step (setup n start) (view m) (Rattle.protocol.specs.System.Call.restart (lentMessages n journal)) .replica) (view (o .memory)) → RestartOwed o
 
   -- lent the replica's own number

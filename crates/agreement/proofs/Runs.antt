@@ -24,8 +24,8 @@ use Rattle.protocol.specs.Lists.{opt, update, Mem}
 use Rattle.protocol.specs.Writesets.{Message}
 use Rattle.protocol.specs.Replica.{Event}
 use Rattle.protocol.specs.Journal.{Journal, journal, Cut, journalAfter, appended}
-use Rattle.protocol.specs.Observer.{Placed, messagesAfter}
-use Rattle.protocol.specs.System.{HandedOut}
+use Rattle.protocol.specs.Observer.{Placed}
+use Rattle.protocol.specs.System.{messagesAfter, HandedOut}
 use Rattle.protocol.specs.Machine.{Machine, CommandClaim, MachineSystem, CommandAt, afterCommand, runCommands, CommandLent, CommandClaims}
 use Rattle.protocol.proofs.ListLaws.{update-by, mem-map}
 use Rattle.protocol.proofs.SequenceLaws.{map-append}
@@ -38,9 +38,9 @@ use Rattle.agreement.proofs.Replicas.{SoundAt, stays, made-sound, repli
 
 -- ---- the messages of the blocks handed out
 
-work-message : (B : List (Message ℤ)) (c : GroupCall) (s : Step) → messagesAfter B (heard c (worked s)) ≡ B
+work-message : (n : ℕ) (B : List (Message ℤ)) (c : GroupCall) (s : Step) → messagesAfter B (heard n c (worked s)) ≡ B
 unfolding heard messagesAfter
-work-message B c s = cond-by (λ (e : Event ℤ). messagesAfter B e ≡ B) (eqb (s .ticket) 0) (λ q. refl) (λ q. refl)
+work-message n B c s = cond-by (λ (e : Event ℤ). messagesAfter B e ≡ B) (eqb (s .ticket) 0) (λ q. refl) (λ q. refl)
 
 given-message : (B : List (List ℕ)) (b : List ℕ) → opt (givenIn b) (map messageIn B) (λ w. map messageIn B ++ (w ∷ [])) ≡ map messageIn (opt (cond (eqb (getD b 0 0) 0) none (some b)) B (λ c. B ++ (c ∷ [])))
 given-message B b = go (eqb (getD b 0 0) 0)
@@ -49,28 +49,28 @@ given-message B b = go (eqb (getD b 0 0) 0)
     go true = refl
     go false = sym (map-append messageIn B (b ∷ []))
 
-messages-after : (B : List (List ℕ)) (c : GroupCall) (a : Answer) → messagesAfter (map messageIn B) (heard c a) ≡ map messageIn (blocksAfter B a)
+messages-after : (n : ℕ) (B : List (List ℕ)) (c : GroupCall) (a : Answer) → messagesAfter (map messageIn B) (heard n c a) ≡ map messageIn (blocksAfter B a)
 unfolding heard messagesAfter
-messages-after B c (refused n) = refl
-messages-after B c made = refl
-messages-after B c (began t) = refl
-messages-after B c (got v) = refl
-messages-after B c wrote = refl
-messages-after B c queued = refl
-messages-after B c readOnly = refl
-messages-after B c withdrew = refl
-messages-after B c (reported r) = refl
-messages-after B c (sent b) = sym (map-append messageIn B (b ∷ []))
-messages-after B c kept = refl
-messages-after B c (worked s) = work-message (map messageIn B) c s
-messages-after B c (restarted k b) = given-message B b
+messages-after n B c (refused k) = refl
+messages-after n B c made = refl
+messages-after n B c (began t) = refl
+messages-after n B c (got v) = refl
+messages-after n B c wrote = refl
+messages-after n B c queued = refl
+messages-after n B c readOnly = refl
+messages-after n B c withdrew = refl
+messages-after n B c (reported r) = refl
+messages-after n B c (sent b) = sym (map-append messageIn B (b ∷ []))
+messages-after n B c kept = refl
+messages-after n B c (worked s) = work-message n (map messageIn B) c s
+messages-after n B c (restarted k b) = given-message B b
 
 -- ---- the premise
 
 -- no answer but a deliver's is a block kept
-module _ (B : List (Message ℤ)) where
+module _ (n : ℕ) (B : List (Message ℤ)) where
   abbrev Handed : Call → Outcome → Type 0
-  Handed c o = HandedOut B (heard (call c) (o .answer))
+  Handed c o = HandedOut B (heard n (call c) (o .answer))
 
   work-handed : (t : ℕ) (x y : Event ℤ) → HandedOut B x → HandedOut B y → HandedOut B (cond (eqb t 0) x y)
   work-handed t x y f g = cond-by (HandedOut B) (eqb t 0) (λ q. f) (λ q. g)
@@ -88,9 +88,9 @@ module _ (B : List (Message ℤ)) where
       deliver-by (λ (o : Outcome). (o .answer ≡ kept → Mem (messageIn b) B) → Handed (deliver b) o) m b (λ e g. g refl) (λ e g. tt) (f b refl)
   handed m work f = work-by (Handed work) m (λ e k. tt) (λ e k. work-handed (recordAt (blockAtTurn m) (m .counts .done) .ticket) _ _ tt tt) (λ e. tt)
 
-  pub restart-handed : (n k : ℕ) (start : List ℤ) (m : Memory) (j l : List ℕ) → HandedOut B (heard (restart j l) (restartStep m n k start j l .answer))
+  pub restart-handed : (k : ℕ) (start : List ℤ) (m : Memory) (j l : List ℕ) → HandedOut B (heard n (restart j l) (restartStep m n k start j l .answer))
   unfolding heard
-  restart-handed n k start m j l = restart-by (λ (o : Outcome). HandedOut B (heard (restart j l) (o .answer))) m n k start j l (λ e. tt) (λ e. tt)
+  restart-handed k start m j l = restart-by (λ (o : Outcome). HandedOut B (heard n (restart j l) (o .answer))) m n k start j l (λ e. tt) (λ e. tt)
 
 -- ---- a run
 
@@ -114,7 +114,7 @@ module _ (n : ℕ) (start : List ℤ) (least : 2 ≤ n) (most : n ≤ 6) (long :
 
   -- the model's journal after a call
   abbrev pub journalNext : Journal ℤ → ℕ → Memory → GroupCall → Journal ℤ
-  journalNext J k m c = let o = performed n start k m c in journalAfter J (appended (setup n start) (view m) (o .memory .turn .slot) (heard c (o .answer))) (heard c (o .answer))
+  journalNext J k m c = let o = performed n start k m c in journalAfter J (appended (setup n start) (view m) (o .memory .turn .slot) (heard n c (o .answer))) (heard n c (o .answer))
 
   abbrev pub journalsNext : (ℕ → Journal ℤ) → Group → CallAt → ℕ → Journal ℤ
   journalsNext J g c = update J (c .at) (journalNext (J (c .at)) (c .at) (g .memories (c .at)) (c .does))
@@ -127,7 +127,7 @@ module _ (n : ℕ) (start : List ℤ) (least : 2 ≤ n) (most : n ≤ 6) (long :
       → afterCommand (setup n start) machine (machineOf J g) (command c h) ≡ machineOf (journalsNext J g c) (next n start g c)
   one J g c h =
       ap (λ (l : List (Message ℤ)). record { memories = next n start g c .memories; journals = journalsNext J g c; observed = next n start g c .observed; handouts = next n start g c .handouts; messages = l })
-      (messages-after (g .blocks) (c .does) (did n start g c .answer))
+      (messages-after n (g .blocks) (c .does) (did n start g c .answer))
 
   pub runs : (cs : List CallAt) (f : Calls n cs) (J : ℕ → Journal ℤ) (g : Group) → runCommands (setup n start) machine (machineOf J g) (commands cs f) ≡ machineOf (journalsRun J g cs) (run n start g cs)
   unfolding runCommands commands run journalsRun
@@ -170,9 +170,9 @@ module _ (n : ℕ) (start : List ℤ) (least : 2 ≤ n) (most : n ≤ 6) (long :
   -- ---- the premise
 
   pub handed-at : (B : List (List ℕ)) (k : ℕ) (m : Memory) (c : GroupCall) → ((b : List ℕ) → c ≡ call (deliver b) → step m (deliver b) .answer ≡ kept → Mem b B)
-      → HandedOut (map messageIn B) (heard c (performed n start k m c .answer))
-  handed-at B k m (call c) f = handed (map messageIn B) m c (λ b e q. mem-map messageIn B b (f b (ap call e) q))
-  handed-at B k m (restart j l) f = restart-handed (map messageIn B) n k start m j l
+      → HandedOut (map messageIn B) (heard n c (performed n start k m c .answer))
+  handed-at B k m (call c) f = handed n (map messageIn B) m c (λ b e q. mem-map messageIn B b (f b (ap call e) q))
+  handed-at B k m (restart j l) f = restart-handed n (map messageIn B) k start m j l
 
   -- a call of document 01 is no restart
   not-meant : (c : Call) (l : List (Message ℤ)) → meant c ≡ Rattle.protocol.specs.System.Call.restart l → ⊥
@@ -187,10 +187,10 @@ module _ (n : ℕ) (start : List ℤ) (least : 2 ≤ n) (most : n ≤ 6) (long :
   not-meant work l e = let z : _≡_ {A = ℕ} 0 1 = cc in omega arith
 
   -- what is heard of a restart says that it was accepted
-  accepted : (k : ℕ) (m : Memory) (j l : List ℕ) (held : List (Message ℤ)) (given : Option (Message ℤ)) → heard (restart j l) (restartStep m n k start j l .answer) ≡ Event.restarted held given
+  accepted : (k : ℕ) (m : Memory) (j l : List ℕ) (held : List (Message ℤ)) (given : Option (Message ℤ)) → heard n (restart j l) (restartStep m n k start j l .answer) ≡ Event.restarted held given
       → (x : ℕ) × (b : List ℕ) × (restartStep m n k start j l .answer ≡ restarted x b)
   unfolding heard
-  accepted k m j l held given = restart-by (λ (o : Outcome). heard (restart j l) (o .answer) ≡ Event.restarted held given → (x : ℕ) × (b : List ℕ) × (o .answer ≡ restarted x b)) m n k start j l
+  accepted k m j l held given = restart-by (λ (o : Outcome). heard n (restart j l) (o .answer) ≡ Event.restarted held given → (x : ℕ) × (b : List ℕ) × (o .answer ≡ restarted x b)) m n k start j l
       (λ e h. (_, _, refl)) (λ e h. let z : _≡_ {A = ℕ} 0 1 = cc in absurd (let w : ⊥ = omega arith in w))
 
   pub lent-at : (J : Journal ℤ) (d : Disk) → OnDisk n (d .journal) (J .kept) → 512 * J .safe ≤ d .floor → (k : ℕ) (m : Memory) → Good k m → (c : GroupCall) (v : signed32 (argumentsOf c .value) ≡ true)
@@ -207,7 +207,7 @@ module _ (n : ℕ) (start : List ℤ) (least : 2 ≤ n) (most : n ≤ 6) (long :
 
   -- with the group g before it
   abbrev pub Said : List (Placed ℤ) → Group → CallAt → Type 0
-  Said F g c = CommandClaim (setup n start) F (g .handouts) (g .observed (c .at)) (c .at) (some (meantBy n (c .does))) (heard (c .does) (did n start g c .answer))
+  Said F g c = CommandClaim (setup n start) F (g .handouts) (g .observed (c .at)) (c .at) (some (meantBy n (c .does))) (heard n (c .does) (did n start g c .answer))
 
   unfoldable AllSaid : List (Placed ℤ) → Group → List CallAt → Type 0
   AllSaid F g [] = Unit

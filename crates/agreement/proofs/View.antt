@@ -96,8 +96,8 @@ meant work = Rattle.protocol.specs.System.Call.work
 
 -- what the outcome o of call c on memory m owes: a refusal other than 9 that leaves the view alone, or the model's step
 pub data Owed (n : ℕ) (start : List ℤ) (m : Memory) (c : Call) (o : Outcome) : Type 0 where
-  refuses : (k : ℕ) → (k ≡ 9 → ⊥) → heard (call c) (o .answer) ≡ refused k → Alike (view m) (view (o .memory)) → Owed n start m c o
-  follows : heard (call c) (o .answer) ≡ step (setup n start) (view m) (meant c) .event → Alike (step (setup n start) (view m) (meant c) .replica) (view (o .memory))
+  refuses : (k : ℕ) → (k ≡ 9 → ⊥) → heard n (call c) (o .answer) ≡ refused k → Alike (view m) (view (o .memory)) → Owed n start m c o
+  follows : heard n (call c) (o .answer) ≡ step (setup n start) (view m) (meant c) .event → Alike (step (setup n start) (view m) (meant c) .replica) (view (o .memory))
       → Owed n start m c o
 
 pub alike-same : (r : Replica ℤ) → Alike r r

@@ -73,9 +73,9 @@ module _ (S : Setup ℤ) (r : Replica ℤ) (a : Message ℤ) (found : r .blocks 
 
 -- ---- one fact each
 
-heard-committed : (s : Step) → (s .ticket ≡ 0 → ⊥) → heard (call work) (worked s) ≡ Rattle.protocol.specs.Replica.Event.committed (s .sender) (s .ticket) (s .aborted)
+heard-committed : (n : ℕ) (s : Step) → (s .ticket ≡ 0 → ⊥) → heard n (call work) (worked s) ≡ Rattle.protocol.specs.Replica.Event.committed (s .sender) (s .ticket) (s .aborted)
 unfolding heard
-heard-committed s d = rw (ne-eqb (s .ticket) 0 d)
+heard-committed n s d = rw (ne-eqb (s .ticket) 0 d)
 
 last-same : (total done : ℕ) → done < total → eqb (suc done) total ≡ leb total (done + 1)
 last-same total done h =
@@ -96,7 +96,7 @@ cursor-same t done total false false u e = let z : done + 1 ≡ suc done = omega
 
 -- what the model does at a call is what the outcome shows
 owed-by : (n : ℕ) (start : List ℤ) (m : Memory) (o : Outcome) (q : Rattle.protocol.specs.Replica.Outcome ℤ) → workStep (setup n start) (view m) ≡ q
-    → heard (call work) (o .answer) ≡ q .event → Alike (q .replica) (view (o .memory)) → Owed n start m work o
+    → heard n (call work) (o .answer) ≡ q .event → Alike (q .replica) (view (o .memory)) → Owed n start m work o
 unfolding step
 owed-by n start m o q e a b = follows (rw e a) (rw e b)
 
@@ -199,7 +199,7 @@ module _ (start : List ℤ) {over : ℕ} (m : Memory) (S : Shape over m) (k : Wo
         let open-sent : isSent (findTxn (w .ticket) (openTxns (m .txns))) ≡ true = rw (find-row m S (w .ticket) r) (unfold txnOf in s .right) in
         owed-by n start m (commitWriteset m true w) _
         (model-own (setup n start) (view m) (messageIn b) found any-writeset (writesetFrom w) (writeset-seen b taken (m .counts .done) more) (sender-seen b ∙ e) open-sent)
-        (heard-committed _ ticket ∙ ap (λ (i : ℕ). Rattle.protocol.specs.Replica.Event.committed i (w .ticket) []) (sym (sender-seen b)))
+        (heard-committed n _ ticket ∙ ap (λ (i : ℕ). Rattle.protocol.specs.Replica.Event.committed i (w .ticket) []) (sym (sender-seen b)))
         (commit-alike true (without (w .ticket) (openTxns (m .txns))) (waiting (m .txns .queue)) (row-closed m S row r (f .live) (w .ticket) (f .is)) refl)
 
     abbrev gone : List ℕ
@@ -233,7 +233,7 @@ module _ (start : List ℤ) {over : ℕ} (m : Memory) (S : Shape over m) (k : Wo
     other-owes d =
         owed-by n start m (commitWriteset m false w) _
         (model-other (setup n start) (view m) (messageIn b) found any-writeset (writesetFrom w) (writeset-seen b taken (m .counts .done) more) (λ e. d (sym (sender-seen b) ∙ e)))
-        (heard-committed _ ticket
+        (heard-committed n _ ticket
         ∙ ap (λ (i : ℕ). Rattle.protocol.specs.Replica.Event.committed i (w .ticket) gone) (sym (sender-seen b))
         ∙ ap (Rattle.protocol.specs.Replica.Event.committed (messageIn b .sender) (w .ticket)) (sym hit))
         (commit-alike false _ _ members queue)

@@ -112,7 +112,7 @@ reached m t i n far e =
 -- the aborted count is all that changes beside the transactions
 owes-by : (n : ℕ) (start : List ℤ) (m : Memory) (t i : ℕ) (v : ℤ) (a : Answer) (y : Transactions) (ended : ℕ) (l : List (Transaction ℤ)) (e : Event ℤ)
     → writeStep (setup n start) (isApplying m) (storeOf m) (view m .transactions) t i v ≡ answered (transactions (m .counts .tickets) l (waiting (m .txns .queue))) e
-    → heard (call (write t i v)) a ≡ e → y .queue ≡ m .txns .queue → SameMembers l (openTxns y)
+    → heard n (call (write t i v)) a ≡ e → y .queue ≡ m .txns .queue → SameMembers l (openTxns y)
     → Owed n start m (write t i v) (outcome a (withTxns m (withAborted (m .counts) ended) y))
 unfolding Rattle.protocol.specs.System.step
 owes-by n start m t i v a y ended l e h s q g =

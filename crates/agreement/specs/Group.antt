@@ -16,7 +16,7 @@ use Rattle.engine.specs.Calls.Answer.{refused, made, began, got, wrote, queued,
 use Rattle.engine.specs.Make.{madeMemory}
 use Rattle.engine.specs.Step.{Call, step}
 use Rattle.engine.specs.Step.Call.{begin, read, write, ask, withdraw, report, send, deliver, work}
-use Rattle.engine.specs.Restart.{firstBlocks, restartStep}
+use Rattle.engine.specs.Restart.{blocksIn, restartStep}
 use Rattle.protocol.specs.Lists.{opt, update, Mem}
 use Rattle.protocol.specs.Writesets.{Write, newWrite, Writeset, Message}
 use Rattle.protocol.specs.Replica.{Event}
@@ -78,21 +78,22 @@ messageIn b = record { slot = messageOf b .slot; sender = messageOf b .sender; w
 abbrev pub givenIn : List ℕ → Option (Message ℤ)
 givenIn b = cond (eqb (getD b 0 0) 0) none (some (messageIn b))
 
--- a work that committed nothing names ticket 0; a restart's commits are of the lent journal's blocks before the one at which it stops; no call answers `made`
-unfoldable pub heard : GroupCall → Answer → Event ℤ
-heard c (refused n) = Event.refused n
-heard c made = Event.other
-heard c (began t) = Event.began t
-heard c (got v) = Event.got (argumentsOf c .ticket) (argumentsOf c .item) v
-heard c wrote = Event.wrote (argumentsOf c .ticket) (argumentsOf c .item) (argumentsOf c .value)
-heard c queued = requested (argumentsOf c .ticket)
-heard c readOnly = requested (argumentsOf c .ticket)
-heard c withdrew = Event.withdrew (argumentsOf c .ticket)
-heard c (reported r) = Event.reported (r .turn) (r .commits)
-heard c (sent b) = handedOut (messageIn b)
-heard c kept = accepted (messageIn (argumentsOf c .bytes))
-heard c (worked s) = cond (eqb (s .ticket) 0) (passed (s .sender) (s .aborted)) (committed (s .sender) (s .ticket) (s .aborted))
-heard c (restarted k b) = Event.restarted (map messageIn (firstBlocks k (journalIn c))) (givenIn b)
+-- n the group's size; a work that committed nothing names ticket 0; a restart's commits are of the lent journal's blocks before the one at which it stops, whatever count
+-- it answers; no call answers `made`
+unfoldable pub heard : ℕ → GroupCall → Answer → Event ℤ
+heard n c (refused k) = Event.refused k
+heard n c made = Event.other
+heard n c (began t) = Event.began t
+heard n c (got v) = Event.got (argumentsOf c .ticket) (argumentsOf c .item) v
+heard n c wrote = Event.wrote (argumentsOf c .ticket) (argumentsOf c .item) (argumentsOf c .value)
+heard n c queued = requested (argumentsOf c .ticket)
+heard n c readOnly = requested (argumentsOf c .ticket)
+heard n c withdrew = Event.withdrew (argumentsOf c .ticket)
+heard n c (reported r) = Event.reported (r .turn) (r .commits)
+heard n c (sent b) = handedOut (messageIn b)
+heard n c kept = accepted (messageIn (argumentsOf c .bytes))
+heard n c (worked s) = cond (eqb (s .ticket) 0) (passed (s .sender) (s .aborted)) (committed (s .sender) (s .ticket) (s .aborted))
+heard n c (restarted k b) = Event.restarted (map messageIn (blocksIn n (journalIn c))) (givenIn b)
 
 -- the block that a call hands out: a send's; a restart's, unless it is zeros
 abbrev pub handedOutIn : Answer → Option (List ℕ)
@@ -156,16 +157,6 @@ pub record CallAt : Type 0 where
 abbrev pub blocksAfter : List (List ℕ) → Answer → List (List ℕ)
 blocksAfter B a = opt (handedOutIn a) B (λ b. B ++ (b ∷ []))
 
--- the group after a call with this outcome
-abbrev pub nextBy : Outcome → Group → CallAt → Group
-nextBy o g c = record {
-  memories = update (g .memories) (c .at) (o .memory);
-  disks = update (g .disks) (c .at) (diskAfter (g .disks (c .at)) (c .does) (o .answer));
-  observed = update (g .observed) (c .at) (observedAfter (g .observed (c .at)) (heard (c .does) (o .answer)));
-  handouts = handoutsAfter (g .handouts) (c .at) (g .observed (c .at)) (heard (c .does) (o .answer));
-  blocks = blocksAfter (g .blocks) (o .answer);
-}
-
 module _ (n : ℕ) (start : List ℤ) where
   -- n replicas just made, numbers 0 to n − 1, the same values
   abbrev pub fresh : Group
@@ -180,6 +171,16 @@ module _ (n : ℕ) (start : List ℤ) where
   -- a call acts on the memory that the last call at its replica left
   abbrev pub did : Group → CallAt → Outcome
   did g c = performed n start (c .at) (g .memories (c .at)) (c .does)
+
+  -- the group after a call with this outcome
+  abbrev pub nextBy : Outcome → Group → CallAt → Group
+  nextBy o g c = record {
+    memories = update (g .memories) (c .at) (o .memory);
+    disks = update (g .disks) (c .at) (diskAfter (g .disks (c .at)) (c .does) (o .answer));
+    observed = update (g .observed) (c .at) (observedAfter (g .observed (c .at)) (heard n (c .does) (o .answer)));
+    handouts = handoutsAfter (g .handouts) (c .at) (g .observed (c .at)) (heard n (c .does) (o .answer));
+    blocks = blocksAfter (g .blocks) (o .answer);
+  }
 
   abbrev pub next : Group → CallAt → Group
   next g c = nextBy (did g c) g c

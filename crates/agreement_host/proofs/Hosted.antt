@@ -38,7 +38,7 @@ module _ (n : ℕ) (start : List ℤ) (least : 2 ≤ n) (most : n ≤ 6) (long :
       let g = run n start (fresh n start) before in
       let on : run n start (fresh n start) (before ++ (c ∷ [])) ≡ next n start g c = run-on before (fresh n start) c in
       let here = f c (List·Memᴰ·head refl) in
-      ap (λ (o : Outcome). hostRun n start (nextBy o g c) cs) (called-six (λ x. performed n start (c .at) x (c .does)) (g .memories (c .at)) (six-rows .tables n start least most long before b (c .at) (here .0)))
+      ap (λ (o : Outcome). hostRun n start (nextBy n start o g c) cs) (called-six (λ x. performed n start (c .at) x (c .does)) (g .memories (c .at)) (six-rows .tables n start least most long before b (c .at) (here .0)))
       ∙ ap (λ (x : Group). hostRun n start x cs) (sym on)
       ∙ group-of cs (before ++ (c ∷ [])) (snoc-all _ before c b here) (λ d q. f d (List·Memᴰ·tail q))
       ∙ ap (λ (x : Group). run n start x cs) on

@@ -28,7 +28,7 @@ module _ (n : ℕ) (start : List ℤ) where
 
   unfoldable pub hostRun : Group → List CallAt → Group
   hostRun g [] = g
-  hostRun g (c ∷ cs) = hostRun (nextBy (hostDid g c) g c) cs
+  hostRun g (c ∷ cs) = hostRun (nextBy n start (hostDid g c) g c) cs
 
 pub record Hosted : Type 0 where
   -- a make on a table of six rows, whatever else is lent

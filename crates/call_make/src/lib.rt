@@ -150,9 +150,9 @@ fn refusal(n: u32, own: u32, start: usize, parts: bool, places: bool) -> u8
 
 // N, the replica's own number and 128 starting values; the slices lent become its parts.
 pub fn make(
+    rows: [Txn; 6],
     turn: Turn,
     counts: Counts,
-    rows: [Txn; 6],
     n: u32,
     own: u32,
     start: &[i32],

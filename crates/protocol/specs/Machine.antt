@@ -7,8 +7,8 @@ use Rattle.protocol.specs.Lists.{update, Mem}
 use Rattle.protocol.specs.Writesets.{Message}
 use Rattle.protocol.specs.Replica.{Setup, Transaction, Replica, Event, refused, restarted}
 use Rattle.protocol.specs.Journal.{Journal, journal, Cut, journalAfter, appended}
-use Rattle.protocol.specs.Observer.{noting, Observed, observing, Placed, Handout, observedAfter, handoutsAfter, messagesAfter, sequence}
-use Rattle.protocol.specs.System.{Call, restart, System, HandedOut, step, made, PlacesApart}
+use Rattle.protocol.specs.Observer.{noting, Observed, observing, Placed, Handout, observedAfter, handoutsAfter, sequence}
+use Rattle.protocol.specs.System.{messagesAfter, Call, restart, System, HandedOut, step, made, PlacesApart}
 use Rattle.protocol.specs.Statement.{Claim, Agreed}
 
 module _ {X : Type 0} where
