@@ -1,5 +1,6 @@
-//! The static library as Rust sees it: its structs, and its ten functions as safe ones over slices.
-//! `host/include/stemline.h` says the same in C; a test compares the layouts.
+//! The static library as Rust sees it: its structs, and its ten functions as safe ones over slices,
+//! parameter by parameter those of `crates/replica/src/lib.rt`. `host/include/stemline.h` says the same
+//! in C; a test compares the layouts.
 //!
 //! Most hosts want [`crate::Replica`], which owns what the functions are lent.
 
