@@ -14,6 +14,7 @@ use call_client::read;
 use call_client::report;
 use call_client::withdraw;
 use call_deliver::deliver;
+use call_make::make;
 use call_reply::AskReply;
 use call_reply::BeginReply;
 use call_reply::ReadReply;
@@ -38,6 +39,55 @@ use host_table::store;
 use memory::Counts;
 use memory::Turn;
 use memory::Txn;
+
+#[no_mangle]
+pub extern "C" fn stemline_make(
+    table: &mut [Txn],
+    turn: &mut Turn,
+    counts: Counts,
+    n: u32,
+    own: u32,
+    start: &[i32],
+    queue: &mut [u32],
+    items: &mut [u8],
+    writes: &mut [i32],
+    snapshots: &mut [i32],
+    values: &mut [i32],
+    stamps: &mut [u32],
+    places: &mut [u8],
+    outbox: &mut [u8],
+) -> Reply
+    ensures { λ r. ⌜ (Gives reply
+        (called (λ x. makeStep x n own (now (start .entry)))
+        (allParts (now (turn .entry)) counts (now (table .entry)) (now (queue .entry)) (now (items .entry)) (now (writes .entry)) (now (snapshots .entry)) (now (values .entry)) (now (stamps .entry)) (now (places .entry)) (now (outbox .entry))))
+        r
+        (allParts (now (turn .exit)) (r .counts) (now (table .exit)) (now (queue .exit)) (now (items .exit)) (now (writes .exit)) (now (snapshots .exit)) (now (values .exit)) (now (stamps .exit)) (now (places .exit)) (now (outbox .exit)))) ⌝ }
+{
+    if table.len() != 6 {
+        return replied(1, counts);
+    }
+    let rows = load(table);
+    let now = copy_turn(turn);
+    let done = make(
+        rows,
+        now,
+        counts,
+        n,
+        own,
+        start,
+        queue,
+        items,
+        writes,
+        snapshots,
+        values,
+        stamps,
+        places,
+        outbox,
+    );
+    store(table, done.rows);
+    set_turn(turn, done.turn);
+    done.reply
+}
 
 #[no_mangle]
 pub extern "C" fn stemline_begin(
