@@ -1,17 +1,16 @@
--- Each answer of a write, from the tests that lead to it: first those before the row's own writes are looked at, then those at the row. Assumes nothing.
+-- A write that no early refusal meets is that of an active transaction; and each answer of that, from the tests that lead to it. Assumes nothing.
 use Prim.Native.Nat.{ℕ, suc, _+_, _*_, _-_, _≤_, _<_, min}
 use mathlib.Core.Path.{_≡_, refl, ap, _∙_}
-use mathlib.Core.Bool.{Bool, true, false, cond, _&&_}
+use mathlib.Core.Bool.{Bool, true, false, cond}
 use mathlib.Core.List.{List, [], _∷_}
 use native.Mathlib.Omega.{arith}
 use borrow.Rule.Slice.PartMut.{putMid}
-use borrow.Author.Tests.{eq-eqb, ne-eqb, lt-ltb, le-ltb, le-leb, lt-leb, eqb-true}
+use borrow.Author.Tests.{eq-eqb, ne-eqb, lt-ltb, le-ltb, lt-leb}
 use lib.Dec.{eqb}
 use lib.IntN.{ℤ}
 use lib.ListN.{length, getD, set, drop, length-take}
 use lib.Seq.{slice}
 use Rattle.block.specs.Answers.{refuse, firstOf}
-use Rattle.block.proofs.BoolLaws.{both}
 use Rattle.block.proofs.ListLaws.{lent, lent-slice}
 use Rattle.memory.specs.declared.Txn.{Txn}
 use Rattle.memory.specs.declared.Held.{Held}
@@ -58,6 +57,7 @@ module _ (m : Memory) (r item : ℕ) (value : ℤ) (items : length (m .txns .ite
   unfolding writeRow writeActive
   write-active = rw past (by-cases m _ _ _ _ _ _ _)
 
+-- what a refusal of `early_refusal` says
 pub write-refused : (n : ℕ) (m : Memory) (w o : Outcome) → (n ≡ 0 → ⊥) → w ≡ unless n m o → outcome (refused n) m ≡ w
 write-refused n m w o h e = rw (e, ne-eqb n 0 h)
 

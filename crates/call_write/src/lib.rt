@@ -53,7 +53,9 @@ fn stale(counts: Counts) -> Changed
 // A new item, in its place among the row's items.
 fn insert(t: Txn, items: &mut [u8], writes: &mut [i32], at: usize, item: u8, value: i32) -> Txn
     requires { ⌜ (length (now items) ≡ 48) × (length (now writes) ≡ 48) × (at < 6) × (writeCount t < 8) ⌝ }
-    ensures { λ r. ⌜ ((table : List Txn) → t ≡ rowAt table at → inserted (set table at r) (now (items .exit)) (now (writes .exit)) ≡ insertIn table (now (items .entry)) (now (writes .entry)) at item value) ⌝ }
+    ensures { λ r. ⌜ ((table : List Txn) → t ≡ rowAt table at →
+        inserted (set table at r) (now (items .exit)) (now (writes .exit))
+        ≡ insertIn table (now (items .entry)) (now (writes .entry)) at item value) ⌝ }
 {
     let n = write_count(t.writes);
     let from = 8 * at;
@@ -104,11 +106,11 @@ fn write_at(
     if n == 8 {
         return changed(10, t, counts);
     }
-    let row = insert(t, &mut *items, &mut *writes, at, item, value);
+    let row = insert(t, items, writes, at, item, value);
     changed(0, row, counts)
 }
 
-// The number of a refusal before the row's own writes are looked at, 0 where there is none; from the lengths of the lent parts.
+// The first of 1, 2, 3, 4 and 7 that a write is refused by, 0 where there is none, from the lengths of the lent parts: these come before the row's own writes are looked at.
 fn early_refusal(
     at: usize,
     stage: u32,
@@ -147,7 +149,7 @@ fn early_refusal(
     0
 }
 
-// Records the value and locks the item. The rows are for the transaction's record and for the locks of others; a row past the last has a free record.
+// Records the value and locks the item. The rows are for the transaction's record and for the locks of others; past the last row the record is a free one.
 pub fn write(
     at: usize,
     rows: [Txn; 6],
@@ -184,8 +186,8 @@ pub fn write(
         rows,
         t,
         counts,
-        &mut *items,
-        &mut *writes,
+        items,
+        writes,
         stamps,
         item as u8,
         value,
