@@ -29,7 +29,7 @@ use Rattle.engine.proofs.BlockFacts.{taken-block}
 use Rattle.engine.proofs.Passed.{deliver-passed}
 use Rattle.engine.proofs.PlaceLaws.{place-fits}
 use Rattle.call_reply.specs.Parts.{deliverParts}
-use Rattle.call_deliver.specs.Lent.{lengthsFit}
+use Rattle.call_deliver.specs.Lengths.{lengthsFit}
 
 -- ---- bytes compared
 

@@ -9,7 +9,7 @@ ghost use Rattle.memory.specs.Turns.{isOn};
 ghost use Rattle.engine.specs.Moves.{sameBytes, deliverRefusal, deliverStep};
 ghost use Rattle.call_reply.specs.Parts.{deliverParts};
 ghost use Rattle.call_reply.specs.Replies.{number, Gives};
-ghost use Rattle.call_deliver.specs.Lent.{lengthsFit};
+ghost use Rattle.call_deliver.specs.Lengths.{lengthsFit};
 use block::Header;
 use block::Read;
 use block_reader::read_block;

@@ -26,7 +26,7 @@ use Rattle.memory.specs.Rows.{closed, rowOf, rowAt, writeCount, indexFrom, inde
 use Rattle.memory.proofs.RowLaws.{row-within}
 use Rattle.engine.specs.Moves.{waiting, writesetOf, messageFor}
 use Rattle.engine.proofs.Tests.{cond-by, less-by}
-use Rattle.call_send.specs.Lent.{writesetIn, headerWith}
+use Rattle.call_send.specs.Writing.{writesetIn, headerWith}
 
 -- ---- a list filled from the front
 

@@ -11,7 +11,7 @@ ghost use Rattle.memory.specs.Rows.{rowAt, writeCount};
 ghost use Rattle.engine.specs.Moves.{sendRow, messageFor, sendLent, sendRefusal, sendStep};
 ghost use Rattle.call_reply.specs.Parts.{sendParts};
 ghost use Rattle.call_reply.specs.Replies.{GivesBlock};
-ghost use Rattle.call_send.specs.Lent.{writesetIn, headerWith};
+ghost use Rattle.call_send.specs.Writing.{writesetIn, headerWith};
 use block::Header;
 use block_check::write_check;
 use block_writer::write_header;
