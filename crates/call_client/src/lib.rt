@@ -1,6 +1,6 @@
-// What a client may do, but for a write, at a row: `at` is any number, and `t` the record that the table has there, a free one past its end. Small parts go in and out by
-// value, large ones are lent. Each contract gives the reply and the memory after by the step at that row, of engine's `specs/Client.antt`, on every memory that has the parts
-// lent; every row and record are those of some table (`specs/Tables.antt`).
+// What a client may do, but for a write. `at` is any number, and `t` the record that the table has at that row, a free one past its end. Small parts go in and out by value,
+// large ones are lent. Each contract gives the reply and the memory after by a step of engine's `specs/Client.antt`, on every memory that has the parts lent; every row and
+// record are those of some table (`specs/Tables.antt`).
 ghost use Prim.Native.Nat.{_<_};
 ghost use mathlib.Core.Path.{_≡_};
 ghost use mathlib.Core.Bool.{true, false};
@@ -88,7 +88,7 @@ pub fn begin(at: usize, t: Txn, counts: Counts, values: &[i32], snapshots: &mut 
     }
 }
 
-// What the transaction wrote last to the item, else the value at its snapshot.
+// What the transaction wrote last to the item, else the value at its snapshot: a read gives it.
 fn value_for(at: usize, t: Txn, items: &[u8], writes: &[i32], snapshots: &[i32], item: u8) -> i32
     requires { ⌜ (length (now items) ≡ 48) × (length (now writes) ≡ 48) × (length (now snapshots) ≡ 768) × (at < 6) × (item < 128) ⌝ }
     ensures { λ r. ⌜ ((m : Memory) (table : List Txn) → t ≡ rowAt table at →

@@ -1,8 +1,9 @@
-// A row's record among six by value.
+// The record of a row, among six by value.
 ghost use mathlib.Core.Path.{_≡_};
 ghost use Rattle.memory.specs.Rows.{closed, rowAt};
 use memory::Txn;
 
+// A free row's record.
 pub fn free() -> Txn
     ensures { λ r. ⌜ r ≡ closed ⌝ }
 {
@@ -14,7 +15,7 @@ pub fn free() -> Txn
     }
 }
 
-// The record of a row; a free one past the last. Each row by its own number: an array that is indexed by a variable is first copied to memory.
+// A free record past the last row. Each row by its own number: an array that is indexed by a variable is first copied to memory.
 pub fn row_at(table: [Txn; 6], at: usize) -> Txn
     ensures { λ r. ⌜ r ≡ rowAt table at ⌝ }
 {

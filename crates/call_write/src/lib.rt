@@ -1,5 +1,5 @@
-// A write, at a row: `at` is any number. Its contract gives the reply and the memory after by the step at that row, of engine's `specs/Client.antt`, on every memory that has
-// the parts lent.
+// A write, at a row: `at` is any number. Its contract gives the reply and the memory after by `writeRow` of engine's `specs/Client.antt`, on every memory that has the parts
+// lent.
 ghost use Prim.Native.Nat.{_≤_, _<_};
 ghost use mathlib.Core.Path.{_≡_};
 ghost use mathlib.Core.List.{List};
