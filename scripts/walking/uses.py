@@ -53,7 +53,8 @@ use Rattle.memory.proofs.Txn as T
 use Rattle.memory.proofs.Turn as K
 use Rattle.host_table.specs.Table.{loaded, stored}
 use Rattle.host_table.proofs.Lend.{MutAt, ShrAt, MutOf, ShrOf, slice-lent, slice-read, slice-shared, ref-lent, ref-read, ref-shared, calls-lending}
-use Rattle.host_table.proofs.Steps.{when, equal, unequal, unit-typed, frees-cell, frees-room}
+use Rattle.host_table.proofs.Steps.{when, equal, unequal, unit-typed, frees-all}
+use Rattle.host_table.proofs.Steps.Held.{cell, room}
 use Rattle.host_table.proofs.Rows.{R, vals, tells, makes, copies, lawful}
 use Rattle.host_table.proofs.Cursor as U
 use Rattle.host_table.proofs.Answers.{answers}

@@ -3,7 +3,7 @@
 from .calls import COUNTS, TABLE_MUT, TURN_MUT, U32
 from .facts import no_reply, reply_of
 from .mir import items, place
-from .names import Names, nested, sub
+from .names import Names, listed, nested, sub
 
 ALL = "𝓤 H A W mem run"
 
@@ -98,8 +98,8 @@ class Walk(Names):
     def leave(self, end, returns="returns !"):
         F = len(self.front)
         self.say(f"{returns} (look ! {self.at(0, F)} refl) $")
-        frees = (f"frees-{'cell' if i in self.full else 'room'} ! {self.at(i, F)} refl refl" for i in range(self.locals))
-        self.say(" $ ".join(frees) + " $ free0 ! $")
+        held = ("cell _ _ _" if i in self.full else "room _ _" for i in reversed(range(self.locals)))
+        self.say(f"frees-all ! ({listed('_' * F)}) ({listed(held)}) $ free0 ! $")
         self.bring(self.ends_in)
         self.say(f"by ! ({end})")
 

@@ -42,7 +42,8 @@ use Rattle.memory.specs.declared.Turn.{Turn}
 use Rattle.memory.proofs.Counts as N
 use Rattle.memory.proofs.Counts.Laws as N′
 use Rattle.host_table.proofs.Lend.{ShrOf, ref-shared, calls-lending}
-use Rattle.host_table.proofs.Steps.{frees-cell}
+use Rattle.host_table.proofs.Steps.{frees-all}
+use Rattle.host_table.proofs.Steps.Held.{cell}
 use Rattle.host_table.proofs.Rows.{R, vals, tells, makes, copies, lawful}
 use Rattle.host_table.proofs.Cursor as U
 use Rattle.host_table.proofs.Callees.{CopyTurn, to-copy, asks-copy, gives-copy}
@@ -134,7 +135,7 @@ module _ {M : Type 1} (𝓤 : URA M) (H : Heap 𝓤) (A : Atoms 𝓤) (W : Given
         peeks ! u8 (Is u8) (shows 𝓤 H A u8) r (u ∷ []) (λ is. drop ! $
         land ! (from ! (stop !)) (init ! 20 refl (uint-lawful 𝓤 H A W w8 .typed r _ is .0)) $
         returns ! (look ! 20 refl) $
-        frees-cell ! 20 refl refl $ frees-cell ! 18 refl refl $ frees-cell ! 16 refl refl $ frees-cell ! 14 refl refl $ frees-cell ! 12 refl refl $ frees-cell ! 10 refl refl $ frees-cell ! 8 refl refl $ frees-cell ! 6 refl refl $ frees-cell ! 4 refl refl $ free0 ! $
+        frees-all ! (_ ∷ _ ∷ _ ∷ _ ∷ []) (cell _ _ _ ∷ cell _ _ _ ∷ cell _ _ _ ∷ cell _ _ _ ∷ cell _ _ _ ∷ cell _ _ _ ∷ cell _ _ _ ∷ cell _ _ _ ∷ cell _ _ _ ∷ []) $ free0 ! $
         move ! (2 ∷ 3 ∷ 1 ∷ 0 ∷ []) $
         by ! (ends _ (r) (ws .1 .1 .0) is said))))))))))))))))
 

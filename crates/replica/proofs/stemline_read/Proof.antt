@@ -43,7 +43,8 @@ use denote.Triple.Walked.{says, Stays, stay-none, stay-none-slice, walkOf, Walks
 use Rattle.memory.specs.declared.Txn.{Txn}
 use Rattle.memory.specs.Rows.{rowOf, rowAt}
 use Rattle.host_table.proofs.Lend.{ShrAt, slice-shared, calls-lending}
-use Rattle.host_table.proofs.Steps.{when, equal, unequal, frees-cell, frees-room}
+use Rattle.host_table.proofs.Steps.{when, equal, unequal, frees-all}
+use Rattle.host_table.proofs.Steps.Held.{cell, room}
 use Rattle.host_table.proofs.Rows.{R, vals, tells, makes, copies, lawful}
 use Rattle.host_table.proofs.Answers.{answers}
 use Rattle.host_table.proofs.Callees.{Find, Row, to-find, asks-find, gives-find, to-row, asks-row, gives-row}
@@ -155,7 +156,7 @@ module _ {M : Type 1} (𝓤 : URA M) (H : Heap 𝓤) (A : Atoms 𝓤) (W : Given
         use1 W (later (given (Is D.the-row (record { number = 1; value = pos 0 }) (u ∷ [])) (‵ ftrue))) (answers 𝓤 H A W refuse.ended (refuse.clauses 𝓤 H A mem run) to-refuse (record { number = 1; value = pos 0 }) (λ r e. id⊢ 𝓤 _) u) $ await ! tt $ learn ! (λ is. drop ! $
         land ! (from ! (stop !)) (init ! 24 refl (LL.lawful D.the-type D′.the-laws 𝓤 H A W .typed (record { number = 1; value = pos 0 }) _ is .0)) $
         returns-within ! Post refl (look ! 24 refl) $
-        frees-cell ! 24 refl refl $ frees-cell ! 22 refl refl $ frees-cell ! 20 refl refl $ frees-cell ! 18 refl refl $ frees-cell ! 16 refl refl $ frees-cell ! 14 refl refl $ frees-cell ! 12 refl refl $ frees-room ! 10 refl refl $ frees-room ! 8 refl refl $ frees-cell ! 6 refl refl $ frees-cell ! 4 refl refl $ free0 ! $
+        frees-all ! (_ ∷ _ ∷ _ ∷ _ ∷ []) (cell _ _ _ ∷ cell _ _ _ ∷ room _ _ ∷ room _ _ ∷ cell _ _ _ ∷ cell _ _ _ ∷ cell _ _ _ ∷ cell _ _ _ ∷ cell _ _ _ ∷ cell _ _ _ ∷ cell _ _ _ ∷ []) $ free0 ! $
         by ! (ends-not _ is (unequal (length ys) 6 other)))))
         (λ six₀. let six = equal (length ys) 6 six₀ in
         calls-lending ! fm (slice-shared R b₀ o₀ κ₀ q₀ γ₀ ys W room₀ vals tells (copies 𝓤 H A W)) (Find 𝓤 H A mem run) known-find (to-find 𝓤 H A W mem run b₀ o₀ ys ticket g₁) (asks-find 𝓤 H A W mem run b₀ o₀ ys ticket g₁) (λ u. Is usize (rowOf ticket ys) (u ∷ [])) (gives-find 𝓤 H A W mem run b₀ o₀ ys ticket g₁)
@@ -172,7 +173,7 @@ module _ {M : Type 1} (𝓤 : URA M) (H : Heap 𝓤) (A : Atoms 𝓤) (W : Given
         peeks ! D.the-row (Is D.the-row) (shows 𝓤 H A D.the-row) r (u ∷ []) (λ is. drop ! $
         land ! (from ! (stop !)) (init ! 24 refl (LL.lawful D.the-type D′.the-laws 𝓤 H A W .typed r _ is .0)) $
         returns ! (look ! 24 refl) $
-        frees-cell ! 24 refl refl $ frees-cell ! 22 refl refl $ frees-cell ! 20 refl refl $ frees-cell ! 18 refl refl $ frees-cell ! 16 refl refl $ frees-cell ! 14 refl refl $ frees-cell ! 12 refl refl $ frees-cell ! 10 refl refl $ frees-cell ! 8 refl refl $ frees-cell ! 6 refl refl $ frees-cell ! 4 refl refl $ free0 ! $
+        frees-all ! (_ ∷ _ ∷ _ ∷ _ ∷ []) (cell _ _ _ ∷ cell _ _ _ ∷ cell _ _ _ ∷ cell _ _ _ ∷ cell _ _ _ ∷ cell _ _ _ ∷ cell _ _ _ ∷ cell _ _ _ ∷ cell _ _ _ ∷ cell _ _ _ ∷ cell _ _ _ ∷ []) $ free0 ! $
         move ! (2 ∷ 3 ∷ 1 ∷ 0 ∷ []) $
         by ! (ends _ (r) is (read-did ys ticket items writes snapshots item r six said)))))))))))))))))))))
 

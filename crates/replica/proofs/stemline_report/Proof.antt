@@ -46,7 +46,8 @@ use Rattle.memory.proofs.Counts as N
 use Rattle.memory.proofs.Counts.Laws as N′
 use Rattle.host_table.specs.Table.{loaded}
 use Rattle.host_table.proofs.Lend.{ShrAt, ShrOf, slice-shared, ref-shared, calls-lending}
-use Rattle.host_table.proofs.Steps.{when, equal, unequal, frees-cell, frees-room}
+use Rattle.host_table.proofs.Steps.{when, equal, unequal, frees-all}
+use Rattle.host_table.proofs.Steps.Held.{cell, room}
 use Rattle.host_table.proofs.Rows.{R, vals, tells, makes, copies, lawful}
 use Rattle.host_table.proofs.Cursor as U
 use Rattle.host_table.proofs.Answers.{answers}
@@ -160,7 +161,7 @@ module _ {M : Type 1} (𝓤 : URA M) (H : Heap 𝓤) (A : Atoms 𝓤) (W : Given
         use1 W (later (given (Is D.the-row (record { number = 1; report = noReport }) (u ∷ [])) (‵ ftrue))) (answers 𝓤 H A W refuse.ended (refuse.clauses 𝓤 H A mem run) to-refuse (record { number = 1; report = noReport }) (λ r e. id⊢ 𝓤 _) u) $ await ! tt $ learn ! (λ is. drop ! $
         land ! (from ! (stop !)) (init ! 20 refl (LL.lawful D.the-type D′.the-laws 𝓤 H A W .typed (record { number = 1; report = noReport }) _ is .0)) $
         returns-within ! Post refl (look ! 20 refl) $
-        frees-cell ! 20 refl refl $ frees-cell ! 18 refl refl $ frees-cell ! 16 refl refl $ frees-cell ! 14 refl refl $ frees-room ! 12 refl refl $ frees-room ! 10 refl refl $ frees-cell ! 8 refl refl $ frees-cell ! 6 refl refl $ free0 ! $
+        frees-all ! (_ ∷ _ ∷ _ ∷ _ ∷ _ ∷ _ ∷ []) (cell _ _ _ ∷ cell _ _ _ ∷ room _ _ ∷ room _ _ ∷ cell _ _ _ ∷ cell _ _ _ ∷ cell _ _ _ ∷ cell _ _ _ ∷ []) $ free0 ! $
         by ! (ends-not _ is (unequal (length ys) 6 other)))))
         (λ six₀. let six = equal (length ys) 6 six₀ in
         calls-lending ! fm (slice-shared R b₀ o₀ κ₀ q₀ γ₀ ys W room₀ vals tells (copies 𝓤 H A W)) (Load 𝓤 H A mem run) known-load (to-load 𝓤 H A W mem run b₀ o₀ ys) (asks-load 𝓤 H A W mem run b₀ o₀ ys) (λ u. Is (Array R 6) (loaded ys) (u ∷ [])) (gives-load 𝓤 H A W mem run b₀ o₀ ys)
@@ -177,7 +178,7 @@ module _ {M : Type 1} (𝓤 : URA M) (H : Heap 𝓤) (A : Atoms 𝓤) (W : Given
         peeks ! D.the-row (Is D.the-row) (shows 𝓤 H A D.the-row) r (u ∷ []) (λ is. drop ! $
         land ! (from ! (stop !)) (init ! 20 refl (LL.lawful D.the-type D′.the-laws 𝓤 H A W .typed r _ is .0)) $
         returns ! (look ! 20 refl) $
-        frees-cell ! 20 refl refl $ frees-cell ! 18 refl refl $ frees-cell ! 16 refl refl $ frees-cell ! 14 refl refl $ frees-cell ! 12 refl refl $ frees-cell ! 10 refl refl $ frees-cell ! 8 refl refl $ frees-cell ! 6 refl refl $ free0 ! $
+        frees-all ! (_ ∷ _ ∷ _ ∷ _ ∷ _ ∷ _ ∷ []) (cell _ _ _ ∷ cell _ _ _ ∷ cell _ _ _ ∷ cell _ _ _ ∷ cell _ _ _ ∷ cell _ _ _ ∷ cell _ _ _ ∷ cell _ _ _ ∷ []) $ free0 ! $
         move ! (4 ∷ 5 ∷ 2 ∷ 3 ∷ 1 ∷ 0 ∷ []) $
         by ! (ends _ (r) is (report-did ys h counts r six said))))))))))))))))))
 

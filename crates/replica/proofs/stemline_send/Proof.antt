@@ -50,7 +50,8 @@ use Rattle.memory.proofs.Txn as T
 use Rattle.memory.proofs.Turn as K
 use Rattle.host_table.specs.Table.{loaded, stored}
 use Rattle.host_table.proofs.Lend.{MutAt, MutOf, slice-lent, slice-read, ref-lent, ref-read, calls-lending}
-use Rattle.host_table.proofs.Steps.{when, equal, unequal, unit-typed, frees-cell, frees-room}
+use Rattle.host_table.proofs.Steps.{when, equal, unequal, unit-typed, frees-all}
+use Rattle.host_table.proofs.Steps.Held.{cell, room}
 use Rattle.host_table.proofs.Rows.{R, vals, tells, makes, lawful}
 use Rattle.host_table.proofs.Cursor as U
 use Rattle.host_table.proofs.Callees.{Load, Store, CopyTurn, SetTurn, to-load, asks-load, gives-load, to-store, asks-store, gives-store, stored-length, to-copy, asks-copy, gives-copy, to-turn, asks-turn, gives-turn}
@@ -152,7 +153,7 @@ module _ {M : Type 1} (𝓤 : URA M) (H : Heap 𝓤) (A : Atoms 𝓤) (W : Given
         -- another table than six rows
         assigns ! (of-opd ! (lit ! tt)) (from ! (stop !)) (init ! 58 refl (tt, record { fits = omega arith })) $
         returns-within ! Post refl (look ! 58 refl) $
-        frees-cell ! 58 refl refl $ frees-cell ! 56 refl refl $ frees-cell ! 54 refl refl $ frees-cell ! 52 refl refl $ frees-cell ! 50 refl refl $ frees-cell ! 48 refl refl $ frees-cell ! 46 refl refl $ frees-cell ! 44 refl refl $ frees-cell ! 42 refl refl $ frees-room ! 40 refl refl $ frees-room ! 38 refl refl $ frees-room ! 36 refl refl $ frees-cell ! 34 refl refl $ frees-cell ! 32 refl refl $ frees-room ! 30 refl refl $ frees-room ! 28 refl refl $ frees-room ! 26 refl refl $ frees-room ! 24 refl refl $ frees-room ! 22 refl refl $ frees-room ! 20 refl refl $ frees-room ! 18 refl refl $ frees-room ! 16 refl refl $ frees-room ! 14 refl refl $ frees-room ! 12 refl refl $ frees-room ! 10 refl refl $ frees-room ! 8 refl refl $ frees-room ! 6 refl refl $ free0 ! $
+        frees-all ! (_ ∷ _ ∷ _ ∷ _ ∷ _ ∷ _ ∷ []) (room _ _ ∷ room _ _ ∷ room _ _ ∷ room _ _ ∷ room _ _ ∷ room _ _ ∷ room _ _ ∷ room _ _ ∷ room _ _ ∷ room _ _ ∷ room _ _ ∷ room _ _ ∷ room _ _ ∷ cell _ _ _ ∷ cell _ _ _ ∷ room _ _ ∷ room _ _ ∷ room _ _ ∷ cell _ _ _ ∷ cell _ _ _ ∷ cell _ _ _ ∷ cell _ _ _ ∷ cell _ _ _ ∷ cell _ _ _ ∷ cell _ _ _ ∷ cell _ _ _ ∷ cell _ _ _ ∷ []) $ free0 ! $
         by ! (ends-not _ (refl, omega arith) (unequal (length ys) 6 other)))
         (λ six₀. let six = equal (length ys) 6 six₀ in
         assigns ! (addr ! (from ! (fld ! refl (hop ! (look-in ! 56 (sub ! 0 refl (whole !))) (stop !))))) (from ! (stop !)) (init ! 30 refl (tt, tt)) $
@@ -192,7 +193,7 @@ module _ {M : Type 1} (𝓤 : URA M) (H : Heap 𝓤) (A : Atoms 𝓤) (W : Given
         (λ ν δ i j. (and-then ! (load ! (from ! (stop !)) (look ! 6 refl)) (and-then ! (load ! (from ! (fld ! refl (stop !))) (look-in ! 36 (sub ! 1 refl (whole !)))) (no-more !)))) (λ w₂ e₂. land ! (from ! (stop !)) (store ! 12 refl (unit-typed w₂ e₂)) $
         assigns ! (of-opd ! (load ! (from ! (fld ! refl (stop !))) (look-in ! 36 (sub ! 0 refl (whole !))))) (from ! (stop !)) (init ! 58 refl (tt, record { fits = fields .0 .1 })) $
         returns ! (look ! 58 refl) $
-        frees-cell ! 58 refl refl $ frees-cell ! 56 refl refl $ frees-cell ! 54 refl refl $ frees-cell ! 52 refl refl $ frees-cell ! 50 refl refl $ frees-cell ! 48 refl refl $ frees-cell ! 46 refl refl $ frees-cell ! 44 refl refl $ frees-cell ! 42 refl refl $ frees-cell ! 40 refl refl $ frees-cell ! 38 refl refl $ frees-cell ! 36 refl refl $ frees-cell ! 34 refl refl $ frees-cell ! 32 refl refl $ frees-cell ! 30 refl refl $ frees-cell ! 28 refl refl $ frees-cell ! 26 refl refl $ frees-cell ! 24 refl refl $ frees-cell ! 22 refl refl $ frees-cell ! 20 refl refl $ frees-cell ! 18 refl refl $ frees-cell ! 16 refl refl $ frees-cell ! 14 refl refl $ frees-cell ! 12 refl refl $ frees-cell ! 10 refl refl $ frees-cell ! 8 refl refl $ frees-cell ! 6 refl refl $ free0 ! $
+        frees-all ! (_ ∷ _ ∷ _ ∷ _ ∷ _ ∷ _ ∷ []) (cell _ _ _ ∷ cell _ _ _ ∷ cell _ _ _ ∷ cell _ _ _ ∷ cell _ _ _ ∷ cell _ _ _ ∷ cell _ _ _ ∷ cell _ _ _ ∷ cell _ _ _ ∷ cell _ _ _ ∷ cell _ _ _ ∷ cell _ _ _ ∷ cell _ _ _ ∷ cell _ _ _ ∷ cell _ _ _ ∷ cell _ _ _ ∷ cell _ _ _ ∷ cell _ _ _ ∷ cell _ _ _ ∷ cell _ _ _ ∷ cell _ _ _ ∷ cell _ _ _ ∷ cell _ _ _ ∷ cell _ _ _ ∷ cell _ _ _ ∷ cell _ _ _ ∷ cell _ _ _ ∷ []) $ free0 ! $
         move ! (2 ∷ 3 ∷ 0 ∷ 1 ∷ 5 ∷ 4 ∷ []) $
         by ! (ends _ (r .number) (stored (r .rows) ys) (r .turn) (ws .1 .1 .1 .0) (ws .1 .1 .1 .1 .1 .1 .0) (ws .1 .1 .1 .1 .1 .1 .1 .0) (fields .0) (stored-length 𝓤 H A W mem run (r .rows) ys (is₄ .1 .0 .1)) (send-did ys h counts queue items writes outbox block r (ws .1 .1 .1 .0) (ws .1 .1 .1 .1 .1 .1 .0) (ws .1 .1 .1 .1 .1 .1 .1 .0) six said)))))))))))))))))))))))))))))))))))))))
 

@@ -51,7 +51,8 @@ use Rattle.memory.proofs.Counts.Laws as N′
 use Rattle.memory.proofs.Txn as T
 use Rattle.host_table.specs.Table.{loaded}
 use Rattle.host_table.proofs.Lend.{MutAt, ShrOf, slice-lent, slice-read, ref-shared, calls-lending}
-use Rattle.host_table.proofs.Steps.{when, equal, unequal, unit-typed, frees-cell, frees-room}
+use Rattle.host_table.proofs.Steps.{when, equal, unequal, unit-typed, frees-all}
+use Rattle.host_table.proofs.Steps.Held.{cell, room}
 use Rattle.host_table.proofs.Rows.{R, vals, tells, makes, copies, lawful}
 use Rattle.host_table.proofs.Cursor as U
 use Rattle.host_table.proofs.Answers.{answers}
@@ -173,7 +174,7 @@ module _ {M : Type 1} (𝓤 : URA M) (H : Heap 𝓤) (A : Atoms 𝓤) (W : Given
         use1 W (later (given (Is Y.the-row (record { number = 1; counts = counts }) (u ∷ [])) (‵ ftrue))) (answers 𝓤 H A W refuse.ended (refuse.clauses 𝓤 H A mem run) to-refuse (record { number = 1; counts = counts }) (λ r e. id⊢ 𝓤 _) u) $ await ! tt $ learn ! (λ is. drop ! $
         land ! (from ! (stop !)) (init ! 58 refl (LL.lawful Y.the-type Y′.the-laws 𝓤 H A W .typed (record { number = 1; counts = counts }) _ is .0)) $
         returns-within ! Post refl (look ! 58 refl) $
-        frees-cell ! 58 refl refl $ frees-cell ! 56 refl refl $ frees-cell ! 54 refl refl $ frees-cell ! 52 refl refl $ frees-cell ! 50 refl refl $ frees-cell ! 48 refl refl $ frees-cell ! 46 refl refl $ frees-cell ! 44 refl refl $ frees-cell ! 42 refl refl $ frees-cell ! 40 refl refl $ frees-room ! 38 refl refl $ frees-room ! 36 refl refl $ frees-room ! 34 refl refl $ frees-room ! 32 refl refl $ frees-cell ! 30 refl refl $ frees-cell ! 28 refl refl $ frees-room ! 26 refl refl $ frees-room ! 24 refl refl $ frees-room ! 22 refl refl $ frees-room ! 20 refl refl $ frees-room ! 18 refl refl $ frees-room ! 16 refl refl $ frees-room ! 14 refl refl $ frees-room ! 12 refl refl $ frees-room ! 10 refl refl $ frees-room ! 8 refl refl $ frees-room ! 6 refl refl $ free0 ! $
+        frees-all ! (_ ∷ _ ∷ _ ∷ _ ∷ _ ∷ _ ∷ []) (room _ _ ∷ room _ _ ∷ room _ _ ∷ room _ _ ∷ room _ _ ∷ room _ _ ∷ room _ _ ∷ room _ _ ∷ room _ _ ∷ room _ _ ∷ room _ _ ∷ cell _ _ _ ∷ cell _ _ _ ∷ room _ _ ∷ room _ _ ∷ room _ _ ∷ room _ _ ∷ cell _ _ _ ∷ cell _ _ _ ∷ cell _ _ _ ∷ cell _ _ _ ∷ cell _ _ _ ∷ cell _ _ _ ∷ cell _ _ _ ∷ cell _ _ _ ∷ cell _ _ _ ∷ cell _ _ _ ∷ []) $ free0 ! $
         by ! (ends-not _ is (unequal (length ys) 6 other)))))
         (λ six₀. let six = equal (length ys) 6 six₀ in
         assigns ! (addr ! (from ! (fld ! refl (hop ! (look-in ! 56 (sub ! 0 refl (whole !))) (stop !))))) (from ! (stop !)) (init ! 26 refl (tt, tt)) $
@@ -209,7 +210,7 @@ module _ {M : Type 1} (𝓤 : URA M) (H : Heap 𝓤) (A : Atoms 𝓤) (W : Given
         (λ ν δ i j. (and-then ! (load ! (from ! (stop !)) (look ! 6 refl)) (and-then ! (load ! (from ! (stop !)) (look ! 38 refl)) (and-then ! (load ! (from ! (fld ! refl (stop !))) (look-in ! 32 (sub ! 1 refl (whole !)))) (no-more !))))) (λ w₁ e₁. land ! (from ! (stop !)) (init ! 10 refl (unit-typed w₁ e₁)) $
         assigns ! (of-opd ! (load ! (from ! (fld ! refl (stop !))) (look-in ! 32 (sub ! 0 refl (whole !))))) (from ! (stop !)) (init ! 58 refl (LL.lawful Y.the-type Y′.the-laws 𝓤 H A W .typed (r .reply) _ (fields .0) .0)) $
         returns ! (look ! 58 refl) $
-        frees-cell ! 58 refl refl $ frees-cell ! 56 refl refl $ frees-cell ! 54 refl refl $ frees-cell ! 52 refl refl $ frees-cell ! 50 refl refl $ frees-cell ! 48 refl refl $ frees-cell ! 46 refl refl $ frees-cell ! 44 refl refl $ frees-cell ! 42 refl refl $ frees-cell ! 40 refl refl $ frees-cell ! 38 refl refl $ frees-cell ! 36 refl refl $ frees-cell ! 34 refl refl $ frees-cell ! 32 refl refl $ frees-cell ! 30 refl refl $ frees-cell ! 28 refl refl $ frees-cell ! 26 refl refl $ frees-cell ! 24 refl refl $ frees-cell ! 22 refl refl $ frees-cell ! 20 refl refl $ frees-cell ! 18 refl refl $ frees-cell ! 16 refl refl $ frees-cell ! 14 refl refl $ frees-cell ! 12 refl refl $ frees-cell ! 10 refl refl $ frees-cell ! 8 refl refl $ frees-cell ! 6 refl refl $ free0 ! $
+        frees-all ! (_ ∷ _ ∷ _ ∷ _ ∷ _ ∷ _ ∷ []) (cell _ _ _ ∷ cell _ _ _ ∷ cell _ _ _ ∷ cell _ _ _ ∷ cell _ _ _ ∷ cell _ _ _ ∷ cell _ _ _ ∷ cell _ _ _ ∷ cell _ _ _ ∷ cell _ _ _ ∷ cell _ _ _ ∷ cell _ _ _ ∷ cell _ _ _ ∷ cell _ _ _ ∷ cell _ _ _ ∷ cell _ _ _ ∷ cell _ _ _ ∷ cell _ _ _ ∷ cell _ _ _ ∷ cell _ _ _ ∷ cell _ _ _ ∷ cell _ _ _ ∷ cell _ _ _ ∷ cell _ _ _ ∷ cell _ _ _ ∷ cell _ _ _ ∷ cell _ _ _ ∷ []) $ free0 ! $
         move ! (0 ∷ 1 ∷ 4 ∷ 5 ∷ 3 ∷ 2 ∷ []) $
         by ! (ends _ (r .reply) (set ys (rowOf ticket ys) (r .row)) (ws .1 .1 .1 .1 .0) (ws .1 .1 .1 .1 .1 .0) (fields .0) (length-set ys (rowOf ticket ys) (r .row)) (write-did ys h ticket counts items writes stamps item value r (ws .1 .1 .1 .1 .0) (ws .1 .1 .1 .1 .1 .0) six said)))))))))))))))))))))))))))))))))))))))
 
