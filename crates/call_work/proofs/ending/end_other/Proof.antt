@@ -1,10 +1,11 @@
--- `end_other` meets its contract: what the rows hit leave.
+-- `ending::end_other` meets its contract: what the rows hit leave.
 use mathlib.Core.Path.{_≡_}
 use lib.ListN.{length}
-use Rattle.call_work.proofs.WorkLaws.{other-ended}
+use Rattle.engine.specs.Moves.{writesetAt}
+use Rattle.call_work.proofs.WorkLaws.{other-ended, other-queue}
 use borrow.Author.Needs.{needs}
-use Rattle.call_work.proofs.end_other.Statement.{statement}
-use Rattle.call_work.proofs.end_other.Tie as tie
+use Rattle.call_work.proofs.ending.end_other.Statement.{statement}
+use Rattle.call_work.proofs.ending.end_other.Tie as tie
 
 abort-rows-requires : tie.Need-abort-rows-requires
 abort-rows-requires c κs = search needs
@@ -21,8 +22,8 @@ cast-add c = search needs
 add-requires : tie.Need-add-requires
 add-requires c κs = search needs
 
-cast-t18 : tie.Need-cast-t18
-cast-t18 c = search needs
+cast-t19 : tie.Need-cast-t19
+cast-t19 c = search needs
 
 same-length : tie.Need-same-length
 same-length c = search needs
@@ -36,10 +37,14 @@ returns c =
     let q = b .before .before .before in
     let h = q .before .before .before .before in
     let s = h .before .before .before .before in
+    let a = s .args in
+    let o = h .abort-rows .result in
     let hit = h .abort-rows .ensures in (
-      other-ended _ (s .args .turn) (s .args .counts) (s .args .table) (s .args .queue .now) (s .args .items .now) (h .abort-rows .result .table) (h .abort-rows .result .tickets)
-          (q .queue-without .last .0) (h .abort-rows .result .count) (b .bump .result) (c .add .result) (hit .2) (six h) (hit .0) (hit .1) (q .queue-without .ensures) (b .bump .ensures) (c .add .ensures),
-      record { few = hit .2; zeros = hit .3 },
+      rw (s .pre)
+          (other-ended (writesetAt (a .block .now) (a .j)) (a .turn) (a .counts) (a .rows) (a .items .now) (o .tickets) (o .count) (hit .2) (hit .1)
+          (six h) (hit .3) (o .table) (b .bump .result) (c .add .result) (hit .0) (b .bump .ensures) (c .add .ensures)),
+      other-queue (writesetAt (a .block .now) (a .j)) (a .turn) (a .counts) (a .rows) (a .items .now) (o .tickets) (o .count) (hit .2) (hit .1)
+          (q .queue-without .last .0) (a .queue .now) (q .queue-without .ensures),
     )
 
 pub end-other-spec : {M : Type 1} → statement M
@@ -51,6 +56,6 @@ end-other-spec =
     bump-requires
     cast-add
     add-requires
-    cast-t18
+    cast-t19
     same-length
     returns)

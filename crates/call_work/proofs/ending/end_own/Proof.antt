@@ -1,7 +1,7 @@
--- `end_own` meets its contract.
+-- `ending::end_own` meets its contract.
 use borrow.Author.Needs.{needs}
-use Rattle.call_work.proofs.end_own.Statement.{statement}
-use Rattle.call_work.proofs.end_own.Tie as tie
+use Rattle.call_work.proofs.ending.end_own.Statement.{statement}
+use Rattle.call_work.proofs.ending.end_own.Tie as tie
 
 bump-requires : tie.Need-bump-requires
 bump-requires c κs = search needs
