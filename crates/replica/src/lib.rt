@@ -20,12 +20,15 @@ use call_reply::BeginReply;
 use call_reply::ReadReply;
 use call_reply::Reply;
 use call_reply::ReportReply;
+use call_reply::WorkReply;
 use call_reply::replies::no_ask;
 use call_reply::replies::no_begin;
 use call_reply::replies::no_read;
 use call_reply::replies::no_report;
+use call_reply::replies::no_work;
 use call_reply::replies::replied;
 use call_send::send;
+use call_work::work;
 use call_write::write;
 use host_table::copy_turn;
 use host_table::end;
@@ -272,4 +275,32 @@ pub extern "C" fn stemline_deliver(
 {
     let now = copy_turn(turn);
     deliver(now, counts, places, outbox, bytes)
+}
+
+#[no_mangle]
+pub extern "C" fn stemline_work(
+    table: &mut [Txn],
+    turn: &mut Turn,
+    counts: Counts,
+    queue: &mut [u32],
+    items: &[u8],
+    values: &mut [i32],
+    stamps: &mut [u32],
+    places: &mut [u8],
+) -> WorkReply
+    ensures { λ r. ⌜ ((m : Memory) → Gives workReply
+        (called workStep
+        (workParts m (now (turn .entry)) counts (now (table .entry)) (now (queue .entry)) (now (items .entry)) (now (values .entry)) (now (stamps .entry)) (now (places .entry))))
+        r
+        (workParts m (now (turn .exit)) (r .counts) (now (table .exit)) (now (queue .exit)) (now (items .entry)) (now (values .exit)) (now (stamps .exit)) (now (places .exit)))) ⌝ }
+{
+    if table.len() != 6 {
+        return no_work(1, counts);
+    }
+    let rows = load(table);
+    let now = copy_turn(turn);
+    let done = work(rows, now, counts, queue, items, values, stamps, places);
+    store(table, done.rows);
+    set_turn(turn, done.turn);
+    done.reply
 }
