@@ -181,22 +181,20 @@ module _ (m : Memory) (turn : Turn) (counts : Counts) (rows : List Txn) (queue i
   by-cases false true w = (refl, refl)
   by-cases false false w = (refl, refl)
 
-  -- q, v, s, t, c, p are what queue, values, stamps, turn, counts and places became
-  pub writeset-committed : (at : ℕ) → at ≡ placeStart (counts .replicas) (turn .slot) → (sender count : ℕ)
-      → sender ≡ getD places (at + 1) 0 → count ≡ getD places (at + 3) 0
-      → let block = slice at (at + 512) places in
+  -- e, q, v, s, p: the writeset's end, and what queue, values, stamps and places became
+  pub writeset-committed : (at : ℕ) → at ≡ placeStart (counts .replicas) (turn .slot) →
+      let block = slice at (at + 512) places in
       let mine = eqb (getD block 1 0) (counts .own) in
       let w = writesetAt block (counts .done) in
       (e : Ended) → e ≡ endedOf mine w turn counts rows items
       → (q : List ℕ) (v : List ℤ) (s : List ℕ) → q ≡ queueLeft mine w rows items queue → v ≡ applied (w .entries) values → s ≡ stamped (e .counts .commits) (w .entries) stamps
-      → (last : Bool) (t : Turn) (c : Counts) (p : List ℕ) → last ≡ leb count (e .counts .done + 1)
-      → t ≡ cond (leb count (e .counts .done + 1)) (advance (e .turn)) (e .turn)
-      → c ≡ withDone (e .counts) (cond (leb count (e .counts .done + 1)) 0 (e .counts .done + 1))
-      → p ≡ cond (leb count (e .counts .done + 1)) (set places at 0) places
-      → Left (commitWriteset before (eqb (getD (blockAtTurn before) 1 0) (counts .own)) (writesetAt (blockAtTurn before) (counts .done))) e last sender q v s t c p
+      → let last = leb (getD places (at + 3) 0) (e .counts .done + 1) in
+      (p : List ℕ) → p ≡ cond last (set places at 0) places
+      → Left (commitWriteset before (eqb (getD (blockAtTurn before) 1 0) (counts .own)) (writesetAt (blockAtTurn before) (counts .done)))
+      e last (getD places (at + 1) 0) q v s (cond last (advance (e .turn)) (e .turn)) (withDone (e .counts) (cond last 0 (e .counts .done + 1))) p
   unfolding commitWriteset endedOf
-  writeset-committed at start sender count es ec e ee q v s eq ev eS last t c p el eT eC ep =
+  writeset-committed at start e ee q v s eq ev eS p ep =
       let second = at-place places at 1 (omega arith) in
       let fourth = at-place places at 3 (omega arith) in
-      rw (eq, ev, eS, el, eT, eC, ep, ee, es, ec, ← second, ← fourth, start)
+      rw (eq, ev, eS, ep, ee, ← second, ← fourth, start)
       (by-cases (eqb (getD (blockAtTurn before) 1 0) (counts .own)) (isLast before) (writesetAt (blockAtTurn before) (counts .done)))

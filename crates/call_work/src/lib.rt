@@ -1,13 +1,13 @@
 // The call work: what waits at the turn's place, one writeset a call, over numbers and slices.
 ghost use mathlib.Core.Path.{_≡_};
 ghost use mathlib.Core.Bool.{true, false, cond, not, _&&_};
-ghost use Prim.Native.Nat.{_+_, _*_, _≤_, _<_};
+ghost use Prim.Native.Nat.{_+_, _*_, _≤_};
 ghost use lib.Dec.{eqb, ltb, leb};
 ghost use lib.ListN.{length, getD, set, replicate};
 ghost use Rattle.memory.specs.Memory.{Memory, withDone};
 ghost use Rattle.memory.specs.Rows.{rowOf, rowAt};
-ghost use Rattle.memory.specs.Turns.{advance, placeStart, blockIn};
-ghost use Rattle.engine.specs.Moves.{writesetAt, workLent, workRefusal, passNext, commitWriteset, workStep};
+ghost use Rattle.memory.specs.Turns.{advance, placeStart};
+ghost use Rattle.engine.specs.Moves.{workLent, workRefusal, passNext, workStep};
 ghost use Rattle.call_reply.specs.Parts.{workParts};
 ghost use Rattle.call_reply.specs.Replies.{workReply, Gives};
 ghost use Rattle.call_work.specs.Writesets.{turnParts};
@@ -32,13 +32,6 @@ struct Ended {
     rows: [Txn; 6],
     aborted: [u32; 6],
     count: u8,
-}
-
-// Turn and counts after a writeset, and whether it was its block's last.
-struct Moved {
-    last: bool,
-    turn: Turn,
-    counts: Counts,
 }
 
 // Whether the slices lent have their lengths.
@@ -163,61 +156,30 @@ fn pass_next(rows: [Txn; 6], turn: Turn, counts: Counts, places: &mut [u8], at: 
     }
 }
 
-// After a writeset: with its block's last one the place empties and the turn advances.
-fn pass_writeset(count: u8, turn: Turn, counts: Counts, places: &mut [u8], at: usize) -> Moved
-    requires { ⌜ at < length (now places) ⌝ }
-    ensures { λ r. ⌜ (let last = leb count (counts .done + 1) in
-        (r .last ≡ last)
-        × (r .turn ≡ cond last (advance turn) turn)
-        × (r .counts ≡ withDone counts (cond last 0 (counts .done + 1)))
-        × (now (places .exit) ≡ cond last (set (now (places .entry)) at 0) (now (places .entry)))) ⌝ }
-{
-    let next = counts.done as u32 + 1;
-    let mut after = counts;
-    if count as u32 <= next {
-        places[at] = 0;
-        after.done = 0;
-        let advanced = turn.advance();
-        return Moved {
-            last: true,
-            turn: advanced,
-            counts: after,
-        };
-    }
-    after.done = next as u8;
-    Moved {
-        last: false,
-        turn: turn,
-        counts: after,
-    }
-}
-
 // The answer to a writeset committed.
-fn answered(sender: u8, ended: Ended, moved: Moved) -> Worked
+fn answered(sender: u8, moved: bool, turn: Turn, counts: Counts, ended: Ended) -> Worked
     ensures { λ r. ⌜ r
         ≡ record {
           reply = record {
             number = 0;
             sender = sender;
-            moved = moved .last;
+            moved = moved;
             count = ended .count;
             ticket = ended .ticket;
             aborted = ended .aborted;
-            counts = moved .counts;
+            counts = counts;
           };
-          turn = moved .turn;
+          turn = turn;
           rows = ended .rows;
         } ⌝ }
 {
     let rows = ended.rows;
     let aborted = ended.aborted;
-    let turn = moved.turn;
-    let counts = moved.counts;
     Worked {
         reply: WorkReply {
             number: 0,
             sender: sender,
-            moved: moved.last,
+            moved: moved,
             count: ended.count,
             ticket: ended.ticket,
             aborted: aborted,
@@ -228,46 +190,39 @@ fn answered(sender: u8, ended: Ended, moved: Moved) -> Worked
     }
 }
 
-// Commits the writeset that is next in the block at the turn.
-fn commit(
-    rows: [Txn; 6],
-    turn: Turn,
-    counts: Counts,
-    queue: &mut [u32],
-    items: &[u8],
-    values: &mut [i32],
-    stamps: &mut [u32],
-    places: &mut [u8],
-    at: usize,
-) -> Worked
-    requires { ⌜ (at ≡ placeStart (counts .replicas) (turn .slot)) × (at + 512 ≤ length (now places)) ⌝ }
-    ensures { λ r. ⌜ ((m : Memory) →
-        let block = blockIn (counts .replicas) (turn .slot) (now (places .entry)) in
-        Gives workReply
-        (commitWriteset
-        (workParts m turn counts rows (now (queue .entry)) (now (items .entry)) (now (values .entry)) (now (stamps .entry)) (now (places .entry)))
-        (eqb (getD block 1 0) (counts .own))
-        (writesetAt block (counts .done)))
-        (r .reply)
-        (workParts m (r .turn) (r .reply .counts) (r .rows) (now (queue .exit)) (now (items .entry)) (now (values .exit)) (now (stamps .exit)) (now (places .exit)))) ⌝ }
+// After a writeset: with its block's last one the place empties and the turn advances.
+fn pass_writeset(ended: Ended, places: &mut [u8], at: usize) -> Worked
+    requires { ⌜ at + 512 ≤ length (now places) ⌝ }
+    ensures { λ r. ⌜ (let last = leb (getD (now (places .entry)) (at + 3) 0) (ended .counts .done + 1) in
+        (r
+        ≡ record {
+          reply = record {
+            number = 0;
+            sender = getD (now (places .entry)) (at + 1) 0;
+            moved = last;
+            count = ended .count;
+            ticket = ended .ticket;
+            aborted = ended .aborted;
+            counts = withDone (ended .counts) (cond last 0 (ended .counts .done + 1));
+          };
+          turn = cond last (advance (ended .turn)) (ended .turn);
+          rows = ended .rows;
+        })
+        × (now (places .exit) ≡ cond last (set (now (places .entry)) at 0) (now (places .entry)))) ⌝ }
 {
-    let end = at + 512;
     let sender = places[at + 1];
     let count = places[at + 3];
-    let ended = end_writeset(
-        rows,
-        turn,
-        counts,
-        &mut *queue,
-        items,
-        &mut *values,
-        &mut *stamps,
-        &places[at..end],
-    );
-    let ended_turn = ended.turn;
-    let ended_counts = ended.counts;
-    let moved = pass_writeset(count, ended_turn, ended_counts, &mut *places, at);
-    answered(sender, ended, moved)
+    let turn = ended.turn;
+    let mut counts = ended.counts;
+    let next = counts.done as u32 + 1;
+    if count as u32 <= next {
+        places[at] = 0;
+        counts.done = 0;
+        let advanced = turn.advance();
+        return answered(sender, true, advanced, counts, ended);
+    }
+    counts.done = next as u8;
+    answered(sender, false, turn, counts, ended)
 }
 
 // Processes the next step at the turn: a *next*, or one writeset.
@@ -304,7 +259,8 @@ pub fn work(
     if places[at] == 1 {
         return pass_next(rows, turn, counts, &mut *places, at);
     }
-    commit(
+    let end = at + 512;
+    let ended = end_writeset(
         rows,
         turn,
         counts,
@@ -312,7 +268,7 @@ pub fn work(
         items,
         &mut *values,
         &mut *stamps,
-        &mut *places,
-        at,
-    )
+        &places[at..end],
+    );
+    pass_writeset(ended, &mut *places, at)
 }

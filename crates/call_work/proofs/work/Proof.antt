@@ -3,14 +3,16 @@ use Prim.Native.Nat.{_+_, _≤_}
 use mathlib.Core.Path.{_≡_, sym, _∙_}
 use mathlib.Core.List.{[]}
 use native.Mathlib.Omega.{arith}
+use borrow.Rule.Slice.PartMut.{mid-len}
 use lib.ListN.{length}
+use Rattle.block.proofs.ListLaws.{lent-slice}
 use Rattle.memory.specs.Memory.{Memory}
 use Rattle.engine.specs.Make.{madeMemory}
 use Rattle.engine.specs.Moves.{workRefusal}
 use Rattle.call_reply.specs.Parts.{workParts}
 use Rattle.call_reply.specs.Replies.{workReply}
 use Rattle.call_reply.proofs.ReplyLaws.{gives}
-use Rattle.call_work.proofs.WorkLaws.{same-gives, places-long, work-refused, work-room, work-next, work-writeset}
+use Rattle.call_work.proofs.WorkLaws.{same-gives, places-long, work-refused, work-room, work-next, work-writeset, writeset-committed}
 use borrow.Author.Needs.{needs}
 use Rattle.call_work.proofs.work.Statement.{statement}
 use Rattle.call_work.proofs.work.Tie as tie
@@ -75,8 +77,25 @@ returns-2 c = λ m.
     let b = before (r .before .before .before .before .before .before .before) m in
     same-gives workReply (work-next b (r .refusal .result) (said r m) (e .if1 .left) (p .place-start .result) (p .place-start .ensures) (t .if2 .taken)) (n .pass-next .ensures b)
 
-commit-requires : tie.Need-commit-requires
-commit-requires c κs = let p = c .before .before .before .before .before .before in (p .place-start .ensures, room p)
+add-end : tie.Need-add-end
+add-end c = omega (arith, room (c .before .before))
+
+sub-end-writeset : tie.Need-sub-end-writeset
+sub-end-writeset c = search needs
+
+part-end-writeset-start : tie.Need-part-end-writeset-start
+part-end-writeset-start c = search needs
+
+part-end-writeset-end : tie.Need-part-end-writeset-end
+part-end-writeset-end c = room (c .before .before .before .before .before .before)
+
+end-writeset-requires : tie.Need-end-writeset-requires
+end-writeset-requires c κs =
+    let p = c .before .before .before .before .before .before .before in
+    mid-len (p .place-start .result) (p .place-start .result + 512) (p .before .before .before .before .before .before .before .before .before .args .places .now) (room p) ∙ omega arith
+
+pass-writeset-requires : tie.Need-pass-writeset-requires
+pass-writeset-requires c κs = room (c .before .before .before .before .before .before .before .before .before .before .before .before .before .before)
 
 same-length-3 : tie.Need-same-length-3
 same-length-3 c = search needs
@@ -92,12 +111,23 @@ same-length-6 c = search needs
 
 returns-3 : tie.Need-returns-3
 returns-3 c = λ m.
-    let d = c .before .before .before .before .before .before .before in
-    let o = d .before .before .before .before .before in
+    let d = c .before .before in
+    let w = d .before .before .before .before .before .before .before in
+    let o = w .before .before .before .before .before .before in
     let p = o .before .before in
     let e = p .before in
     let r = e .before in
-    same-gives workReply (work-writeset (before (r .before .before .before .before .before .before .before) m) (r .refusal .result) (said r m) (e .if1 .left) (p .place-start .result) (p .place-start .ensures) (o .if2 .left)) (d .commit .ensures m)
+    let s = r .before .before .before .before .before .before .before in
+    let a = s .args in
+    let at = p .place-start .result in
+    let block = lent-slice at (at + 512) (a .places .now) (omega (arith, room p)) in
+    rw (d .pass-writeset .ensures .0)
+    (same-gives workReply (work-writeset (before s m) (r .refusal .result) (said r m) (e .if1 .left) at (p .place-start .ensures) (o .if2 .left))
+    (writeset-committed m (a .turn) (a .counts) (a .rows) (a .queue .now) (a .items .now) (a .values .now) (a .stamps .now) (a .places .now) at (p .place-start .ensures)
+    (w .end-writeset .result) (rw block at (w .end-writeset .ensures .0))
+    (w .end-writeset .last .1 .1 .1 .0) (w .end-writeset .last .1 .1 .1 .1 .1 .0) (w .end-writeset .last .1 .1 .1 .1 .1 .1 .0)
+    (rw block at (w .end-writeset .ensures .1)) (rw block at (w .end-writeset .ensures .2)) (rw block at (w .end-writeset .ensures .3))
+    (d .pass-writeset .last .1 .0) (d .pass-writeset .ensures .1)))
 
 pub work-spec : {M : Type 1} → statement M
 work-spec =
@@ -113,7 +143,12 @@ work-spec =
     pass-next-requires
     same-length-2
     returns-2
-    commit-requires
+    add-end
+    sub-end-writeset
+    part-end-writeset-start
+    part-end-writeset-end
+    end-writeset-requires
+    pass-writeset-requires
     same-length-3
     same-length-4
     same-length-5
