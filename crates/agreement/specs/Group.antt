@@ -82,7 +82,7 @@ givenIn b = cond (eqb (getD b 0 0) 0) none (some (messageIn b))
 -- it answers; no call answers `made`
 unfoldable pub heard : ℕ → GroupCall → Answer → Event ℤ
 heard n c (refused k) = Event.refused k
-heard n c made = Event.other
+heard n c made = Event.wasMade
 heard n c (began t) = Event.began t
 heard n c (got v) = Event.got (argumentsOf c .ticket) (argumentsOf c .item) v
 heard n c wrote = Event.wrote (argumentsOf c .ticket) (argumentsOf c .item) (argumentsOf c .value)

@@ -61,7 +61,7 @@ module _ (n : ℕ) (start : List ℤ) (cs : List CallAt) where
   abbrev pub answer : List CallAt → ℕ → Call → Answer
   answer before k c = step (groupAfter before .memories k) c .answer
 
-  -- one field for each sentence of document 01
+  -- document 01's sentences
   pub record Agreement : Type 0 where
     -- no slot was put down twice, and the sequence is by rising slot
     pub slots : (i j : ℕ) → i < j → j < length handouts → getD handouts i noHandout .slot < getD handouts j noHandout .slot

@@ -1,5 +1,6 @@
--- A host's calls are the engine's. The contracts of the exported functions have `called`, which puts the test of the lent table's length in front of a step; on every memory
--- that calls lead to it is the step itself. So what is proved of lists of calls, the agreement of the copies too, is proved of what hosts' calls do, one after the other.
+-- A host's calls are the engine's. The contracts of the exported functions that are lent a table have `called`, which puts the test of its length in front of a step (a deliver
+-- is lent none, and has the step itself); on every memory that calls lead to it is the step. So what is proved of lists of calls, the agreement of the copies too, is proved of
+-- what hosts' calls do, one after the other. Restarts are in a group's list as they will be exported: with the same test.
 use Prim.Native.Nat.{ℕ, _≤_, _<_}
 use mathlib.Core.Path.{_≡_}
 use mathlib.Core.List.{List, [], _∷_}

@@ -32,7 +32,7 @@ use Rattle.protocol.specs.Lists.{Mem, any}
 use Rattle.protocol.specs.Observer.{sequence, applyAll}
 use Rattle.protocol.proofs.ListLaws.{any-true, any-false}
 use Rattle.agreement.specs.Group.{GroupCall, call, restart, argumentsOf, messageIn, heard, Disk, journalAfter, Group, CallAt, fresh, run, did, next, Comes, Calls, Lent, Premise}
-use Rattle.agreement_runs.specs.Worked.{zeros, story, forgery, outages, after, Held, held, holding, storyValues, outageValues, WorkedRuns}
+use Rattle.agreement_runs.specs.Worked.{zeros, story, forgery, outages, after, HeldBy, held, holding, storyValues, outageValues, WorkedRuns}
 use Rattle.agreement.proofs.Theorem.{agreement}
 
 -- ---- the premise as a test
@@ -139,9 +139,9 @@ forged-apart p f a b =
     let A = agreement 3 zeros (omega arith) (omega arith) (length-replicate 128 (pos 0)) forgery f p in
     let u = A .replicas 0 (omega arith) .values in
     let v = A .replicas 1 (omega arith) .values in
-    let c : reportOf (after forgery .memories 0) .commits ≡ reportOf (after forgery .memories 1) .commits = ap (λ (h : Held). h .commits) a ∙ sym (ap (λ (h : Held). h .commits) b) in
+    let c : reportOf (after forgery .memories 0) .commits ≡ reportOf (after forgery .memories 1) .commits = ap (λ (h : HeldBy). h .commits) a ∙ sym (ap (λ (h : HeldBy). h .commits) b) in
     let e : set zeros 5 (pos 84) ≡ set zeros 5 (pos 86) =
-    sym (ap (λ (h : Held). h .values) a) ∙ u ∙ ap (λ (k : ℕ). applyAll zeros (take k (sequence (after forgery .handouts)))) c ∙ sym v ∙ ap (λ (h : Held). h .values) b in
+    sym (ap (λ (h : HeldBy). h .values) a) ∙ u ∙ ap (λ (k : ℕ). applyAll zeros (take k (sequence (after forgery .handouts)))) c ∙ sym v ∙ ap (λ (h : HeldBy). h .values) b in
     let z : _≡_ {A = ℤ} (pos 84) (pos 86) = ap (λ (l : List ℤ). getD l 5 (pos 0)) e in
     let w : _≡_ {A = ℕ} 84 86 = ap absolute z in
     omega arith

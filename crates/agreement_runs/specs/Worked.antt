@@ -18,8 +18,8 @@ abbrev pub at : ℕ → Call → CallAt
 at k c = record { at = k; does = call c }
 
 -- the block of slot s, from its owner, with one transaction that wrote one item
-abbrev pub commitBlock : ℕ → ℕ → ℕ → ℕ → ℤ → List ℕ
-commitBlock s sender ticket item value =
+abbrev pub blockCommitting : ℕ → ℕ → ℕ → ℕ → ℤ → List ℕ
+blockCommitting s sender ticket item value =
     blockOf (record { kind = 2; sender = sender; replicas = 3; slot = s; records = record { ticket = ticket; entries = record { item = item; value = value } ∷ [] } ∷ [] })
 
 -- a transaction begun, written and asked
@@ -36,22 +36,22 @@ taking k block = at k (deliver block) ∷ at k work ∷ []
 abbrev pub differentItems : List CallAt
 differentItems =
     asking 0 1 10 (pos 80) ++ asking 1 1 20 (pos 70)
-    ++ (sending 0 ∷ taking 0 (commitBlock 0 0 1 10 (pos 80)))
-    ++ taking 1 (commitBlock 0 0 1 10 (pos 80))
-    ++ (sending 1 ∷ taking 1 (commitBlock 1 1 1 20 (pos 70)))
-    ++ taking 0 (commitBlock 1 1 1 20 (pos 70))
-    ++ (at 2 (deliver (commitBlock 1 1 1 20 (pos 70))) ∷ at 2 (deliver (commitBlock 0 0 1 10 (pos 80))) ∷ at 2 work ∷ at 2 work ∷ [])
+    ++ (sending 0 ∷ taking 0 (blockCommitting 0 0 1 10 (pos 80)))
+    ++ taking 1 (blockCommitting 0 0 1 10 (pos 80))
+    ++ (sending 1 ∷ taking 1 (blockCommitting 1 1 1 20 (pos 70)))
+    ++ taking 0 (blockCommitting 1 1 1 20 (pos 70))
+    ++ (at 2 (deliver (blockCommitting 1 1 1 20 (pos 70))) ∷ at 2 (deliver (blockCommitting 0 0 1 10 (pos 80))) ∷ at 2 work ∷ at 2 work ∷ [])
 
 -- the n, item 5, set to 86 by replica 2 and then to 84 by replica 0: the second block comes to replica 1 before its turn
 abbrev pub sameItem : List CallAt
 sameItem =
     asking 2 1 5 (pos 86)
-    ++ (sending 2 ∷ taking 2 (commitBlock 2 2 1 5 (pos 86)))
-    ++ taking 0 (commitBlock 2 2 1 5 (pos 86))
+    ++ (sending 2 ∷ taking 2 (blockCommitting 2 2 1 5 (pos 86)))
+    ++ taking 0 (blockCommitting 2 2 1 5 (pos 86))
     ++ asking 0 2 5 (pos 84)
-    ++ (sending 0 ∷ taking 0 (commitBlock 3 0 2 5 (pos 84)))
-    ++ (at 1 (deliver (commitBlock 3 0 2 5 (pos 84))) ∷ at 1 (deliver (commitBlock 2 2 1 5 (pos 86))) ∷ at 1 work ∷ at 1 work ∷ [])
-    ++ taking 2 (commitBlock 3 0 2 5 (pos 84))
+    ++ (sending 0 ∷ taking 0 (blockCommitting 3 0 2 5 (pos 84)))
+    ++ (at 1 (deliver (blockCommitting 3 0 2 5 (pos 84))) ∷ at 1 (deliver (blockCommitting 2 2 1 5 (pos 86))) ∷ at 1 work ∷ at 1 work ∷ [])
+    ++ taking 2 (blockCommitting 3 0 2 5 (pos 84))
 
 abbrev pub story : List CallAt
 story = differentItems ++ sameItem
@@ -62,8 +62,8 @@ story = differentItems ++ sameItem
 abbrev pub forgery : List CallAt
 forgery =
     asking 0 1 5 (pos 84)
-    ++ (sending 0 ∷ taking 0 (commitBlock 0 0 1 5 (pos 84)))
-    ++ taking 1 (commitBlock 0 0 1 5 (pos 86))
+    ++ (sending 0 ∷ taking 0 (blockCommitting 0 0 1 5 (pos 84)))
+    ++ taking 1 (blockCommitting 0 0 1 5 (pos 86))
 
 -- ---- and power cuts
 
@@ -71,14 +71,14 @@ abbrev pub restarting : ℕ → List ℕ → CallAt
 restarting k journal = record { at = k; does = restart journal (replicate 512 0) }
 
 abbrev pub first : List ℕ
-first = commitBlock 0 0 1 10 (pos 80)
+first = blockCommitting 0 0 1 10 (pos 80)
 
 -- a *next*
 abbrev pub second : List ℕ
 second = blockOf (record { kind = 1; sender = 1; replicas = 3; slot = 1; records = [] })
 
 abbrev pub torn : List ℕ
-torn = first ++ take 100 (commitBlock 1 1 1 20 (pos 70))
+torn = first ++ take 100 (blockCommitting 1 1 1 20 (pos 70))
 
 -- replica 0 asks, and a cut ends its send when the block is on its disk: the restart hands the block out. Replica 1 takes it and works; a cut tears the block it
 -- then sends after 100 bytes, so it restarts with slot 0 alone, and sends for slot 1 anew: a *next*, its transaction is gone. Replica 0 loses power once more
@@ -98,14 +98,14 @@ abbrev pub after : List CallAt → Group
 after cs = run 3 zeros (fresh 3 zeros) cs
 
 -- what replica k holds after a run: its values and its commit count
-pub record Held : Type 0 where
+pub record HeldBy : Type 0 where
   pub values : List ℤ
   pub commits : ℕ
 
-abbrev pub held : List CallAt → ℕ → Held
+abbrev pub held : List CallAt → ℕ → HeldBy
 held cs k = record { values = after cs .memories k .store .values; commits = reportOf (after cs .memories k) .commits }
 
-abbrev pub holding : List ℤ → ℕ → Held
+abbrev pub holding : List ℤ → ℕ → HeldBy
 holding values commits = record { values = values; commits = commits }
 
 abbrev pub storyValues : List ℤ

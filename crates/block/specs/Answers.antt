@@ -57,7 +57,7 @@ numberAndHeader (Refused n) = (n, noHeader)
 unfoldable pub blockRead : List ℕ → ℕ × Header
 blockRead b = (blockRefusal b, cond (eqb (blockRefusal b) 0) (headerOf b) noHeader)
 
--- record j and entry e of a block, zeros where the block has none
+-- record j and entry e of a block, as the bytes stand; zeros past the sixth record or the eighth entry, or of another length
 unfoldable pub recordAt : List ℕ → ℕ → RecordHead
 recordAt b j =
     cond (eqb (length b) 512 && ltb j 6)

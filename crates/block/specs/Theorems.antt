@@ -28,10 +28,11 @@ pub record Accepted (b : List ℕ) : Type 0 where
   pub bytes : AreBytes b
   pub taken : blockRefusal b ≡ 0
 
--- the block with bit t of byte p changed
+-- a byte with bit t changed
 unfoldable pub flipped : ℕ → ℕ → ℕ
 flipped t x = cond (eqb (x / 2 ^ t % 2) 0) (x + 2 ^ t) (x - 2 ^ t)
 
+-- the block with bit t of byte p changed
 unfoldable pub flipBit : List ℕ → ℕ → ℕ → List ℕ
 flipBit b p t = set b p (flipped t (getD b p 0))
 

@@ -40,7 +40,7 @@ pub fn read_block(block: &[u8]) -> Read
     Read::Message(header(block))
 }
 
-// Record j of a block, zeros where there is none.
+// Record j of a block as its bytes stand, zeros past the sixth.
 pub fn record_at(block: &[u8], j: usize) -> RecordHead
     ensures { λ r. ⌜ r ≡ recordAt (now (block .entry)) j ⌝ }
 {
@@ -63,7 +63,7 @@ pub fn record_at(block: &[u8], j: usize) -> RecordHead
     }
 }
 
-// Entry e of record j of a block, zeros where there is none.
+// Entry e of record j of a block as its bytes stand, zeros past the eighth or past the sixth record.
 pub fn entry_at(block: &[u8], j: usize, e: usize) -> Entry
     ensures { λ r. ⌜ r ≡ entryAt (now (block .entry)) j e ⌝ }
 {

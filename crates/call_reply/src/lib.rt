@@ -6,8 +6,8 @@ use memory::Txn;
 
 pub mod replies;
 
-// The replica's numbers after the call, and document 01's number, 0 where it is accepted; so in the replies below. The counts stand first: behind a byte and padding
-// their copy would wait for bytes just written.
+// The replica's numbers after the call, and document 01's number, 0 where it is accepted; so in the replies below. The counts stand first, but in a work's: behind a byte
+// and padding their copy would wait for bytes just written.
 #[repr(C)]
 pub struct Reply {
     pub counts: Counts,

@@ -1,4 +1,4 @@
--- What calls answer on every memory of the shape: a write is read again, the tickets that a work names rise, and 5 is said where six transactions are open.
+-- What calls answer on every memory of the shape: a write is read again, the tickets that a work names rise, and no row is free exactly where six transactions are open.
 use Prim.Native.Nat.{ℕ, _<_}
 use mathlib.Core.Path.{_≡_}
 use mathlib.Core.List.{List}
@@ -23,6 +23,6 @@ pub record Claims : Type 0 where
   -- the aborted tickets rise strictly
   pub rising : {over : ℕ} (m : Memory) → Shape over m → (s : Step) → step m work .answer ≡ worked s
       → (j k : ℕ) → j < k → k < length (s .aborted) → getD (s .aborted) j 0 < getD (s .aborted) k 0
-  -- no row is free exactly where 6 transactions are open
+  -- 5's condition, no free row, holds exactly where 6 transactions are open
   pub full : (table : List Txn) → length table ≡ 6 → openCount table ≡ 6 → freeRow table ≡ 6
   pub six-open : (table : List Txn) → length table ≡ 6 → freeRow table ≡ 6 → openCount table ≡ 6

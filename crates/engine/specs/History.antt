@@ -1,4 +1,4 @@
--- Report's numbers, counted from what calls answered.
+-- Report's numbers and the queue, from what calls answered.
 use Prim.Native.Nat.{ℕ, suc, _+_, _-_, _≤_, _<_}
 use mathlib.Core.Path.{_≡_}
 use mathlib.Core.Bool.{cond, not, _&&_}

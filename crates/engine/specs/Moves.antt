@@ -223,7 +223,7 @@ ownNotSent m =
 unfoldable pub workRefusal : Memory → ℕ
 workRefusal m = firstOf (refuse 1 (not (workLent m)) ∷ refuse 21 (nothingWaits m) ∷ refuse 22 (ownNotSent m) ∷ [])
 
--- after the last writeset, or a *next*: the place empties, the turn goes up by one, the marks go off
+-- after the last writeset, or a *next*, the place empties
 abbrev pub turnBlocks : Memory → Blocks
 turnBlocks m = record { places = emptied (m .counts .replicas) (m .turn .slot) (m .blocks .places); outbox = m .blocks .outbox }
 

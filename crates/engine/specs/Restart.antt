@@ -91,7 +91,7 @@ unfoldable pub lastOwn : ℕ → List ℕ → List (List ℕ) → List ℕ
 lastOwn own d [] = d
 lastOwn own d (b ∷ bs) = lastOwn own (cond (isFrom own b) b d) bs
 
--- own writesets above the highest ticket: 0 but where a ticket stands in two own blocks, which no calls lead to
+-- own writesets above the highest ticket: 0 but where a ticket stands in two own blocks
 abbrev pub repeated : ℕ → List (List ℕ) → ℕ
 repeated own bs = ownWritesets own bs - highestOwn own bs
 

@@ -1,6 +1,6 @@
 // What the calls at a replica do: definitions and theorems. The code stands in the crates above.
 
-// Document 01's report. `active` is its number of open transactions.
+// Document 01's report. `open_count` is its number of open transactions.
 #[repr(C)]
 pub struct Report {
     pub turn: u32,

@@ -107,7 +107,7 @@ pub fn copy_turn(turn: &Turn) -> Turn
     *turn
 }
 
-// The turn as a method of the cursor by value handed it back: the next slot, or a mark set.
+// The turn advanced, or with a mark set, as the call by value decided it.
 pub fn set_turn(turn: &mut Turn, to: Turn)
     ensures { λ _. ⌜ now (turn .exit) ≡ to ⌝ }
 {

@@ -37,7 +37,7 @@ module _ {X : Type 0} (S : Setup X) where
       refuses : (c : ℕ) → (c ≡ 9 → ⊥) → perform m a .event ≡ refused c → Alike (view m) (view (perform m a .memory)) → Refines m a
       follows : (c : Call X) → meaning a ≡ some c → perform m a .event ≡ step S (view m) c .event → Alike (step S (view m) c .replica) (view (perform m a .memory)) → Refines m a
 
-  -- perform k: what a command at member k does and how the observer sees it; meaning: the call it is, if it is well formed; Member k: the group has a replica or station k;
+  -- perform k: what a command at member k does and how the observer sees it; meaning: the call it is, if it is well formed; Member k: the group has a replica k;
   -- view k, Sound k: the memory of member k as a replica's state, and what it meets after every call
   pub record Machine : Type 1 where
     pub Memory : Type 0
