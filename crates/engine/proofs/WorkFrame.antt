@@ -14,7 +14,7 @@ use Rattle.memory.specs.declared.Turn.{Turn}
 use Rattle.memory.specs.declared.Txn.{Txn}
 use Rattle.memory.specs.Memory.{Blocks, Memory, bump}
 use Rattle.memory.specs.Rows.{closed, rowOf, rowAt}
-use Rattle.memory.specs.Turns.{placeStart}
+use Rattle.memory.specs.Turns.{markApplying, advance, placeStart}
 use Rattle.engine.specs.Moves.{blockAtTurn, writesetAt, applied, stamped, isHit, afterAborts, isLast, passNext, commitWriteset}
 use Rattle.engine.specs.Frames.{SameBut, SameButItems, WorkFrame}
 use Rattle.engine.proofs.Tests.{cond-by, same-by, less-by}
@@ -65,7 +65,7 @@ place-but m = let p = placeStart (m .counts .replicas) (m .turn .slot) in set-bu
 pub pass-frame : (m : Memory) → WorkFrame m (passNext m .memory)
 unfolding passNext
 pass-frame m = record {
-  slot = inr refl;
+  turn = inr (inr refl);
   places = place-but m;
   values = λ i h. refl;
   stamps = λ i h. refl;
@@ -81,15 +81,15 @@ pass-frame m = record {
   withdrawn = refl;
 }
 
-abbrev SlotMoves : Memory → Turn → Type 0
-SlotMoves m t = (t .slot ≡ m .turn .slot) ⊎ (t .slot ≡ bump (m .turn .slot))
+abbrev TurnMoves : Memory → Turn → Type 0
+TurnMoves m t = (t ≡ m .turn) ⊎ ((t ≡ markApplying (m .turn)) ⊎ (t ≡ advance (m .turn)))
 
 pub commit-frame : (m : Memory) (mine : Bool) → WorkFrame m (commitWriteset m mine (writesetAt (blockAtTurn m) (m .counts .done)) .memory)
 unfolding commitWriteset
 commit-frame m mine =
     let w = writesetAt (blockAtTurn m) (m .counts .done) in
     record {
-      slot = cond-by (SlotMoves m) (isLast m) (λ e. inr refl) (λ e. cond-by (SlotMoves m) mine (λ d. inl refl) (λ d. inl refl));
+      turn = cond-by (TurnMoves m) (isLast m) (λ e. inr (inr refl)) (λ e. cond-by (TurnMoves m) mine (λ d. inl refl) (λ d. inr (inl refl)));
       places = cond-by (λ (b : Blocks). SameBut 0 (placeStart (m .counts .replicas) (m .turn .slot)) 1 (m .blocks .places) (b .places)) (isLast m)
           (λ e. place-but m)
           (λ e i s. refl);
@@ -111,7 +111,7 @@ commit-frame m mine =
 
 pub work-same : (m : Memory) → WorkFrame m m
 work-same m = record {
-  slot = inl refl;
+  turn = inl refl;
   places = λ i s. refl;
   values = λ i h. refl;
   stamps = λ i h. refl;

@@ -10,7 +10,7 @@ use Rattle.block.specs.declared.Entry.{Entry}
 use Rattle.block.specs.Answers.{headerOf}
 use Rattle.memory.specs.Memory.{Memory, bump, withTickets, withReadOnly, withAborted, withWithdrawn, withTable, withTxns, withBlocks}
 use Rattle.memory.specs.Rows.{closed, openCount, freeRow, rowAt, indexOf, has}
-use Rattle.memory.specs.Turns.{placeStart}
+use Rattle.memory.specs.Turns.{markApplying, advance, placeStart}
 use Rattle.engine.specs.Calls.{numberOf}
 use Rattle.engine.specs.Make.{madeMemory, makeRefusal, makeStep}
 use Rattle.engine.specs.Client.{rowNo, writeRefusal}
@@ -123,10 +123,11 @@ pub record DeliverFrame (m n : Memory) (slot : ℕ) : Type 0 where
   pub outbox : n .blocks .outbox ≡ m .blocks .outbox
   pub places : SameBut 0 (placeStart (m .counts .replicas) slot) 512 (m .blocks .places) (n .blocks .places)
 
--- a work may move the turn by one and change one byte of the places, values and stamps of the items of the writeset to commit, rows by closing them, the
+-- a work may set the applying mark or move the turn by one, and change one byte of the places, values and stamps of the items of the writeset to commit, rows by closing them, the
 -- queue, and of the counts commits, done, committed and aborted
 pub record WorkFrame (m n : Memory) : Type 0 where
-  pub slot : (n .turn .slot ≡ m .turn .slot) ⊎ (n .turn .slot ≡ bump (m .turn .slot))
+  -- the slot is the same, or one more with both marks off
+  pub turn : (n .turn ≡ m .turn) ⊎ ((n .turn ≡ markApplying (m .turn)) ⊎ (n .turn ≡ advance (m .turn)))
   pub places : SameBut 0 (placeStart (m .counts .replicas) (m .turn .slot)) 1 (m .blocks .places) (n .blocks .places)
   pub values : SameButItems (pos 0) (writesetAt (blockAtTurn m) (m .counts .done) .entries) (m .store .values) (n .store .values)
   pub stamps : SameButItems 0 (writesetAt (blockAtTurn m) (m .counts .done) .entries) (m .store .stamps) (n .store .stamps)
