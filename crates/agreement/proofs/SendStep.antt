@@ -55,7 +55,7 @@ map-through d g f h (a ∷ w) e = rw (e 0 (omega arith), map-through d g f h w (
 module _ {over : ℕ} (m : Memory) (S : Shape over m) where
   -- the writeset of an open row is that of its transaction
   writeset-is : (t : ℕ) → rowOf t (m .txns .table) < 6
-      → group.writesetFrom (engine.writesetOf (m .txns) t) ≡ model.writesetOf (openTxns (m .txns)) t
+      → group.writesetFrom (engine.writesetOf (m .txns) t) ≡ model.writesetUnder (openTxns (m .txns)) t
   unfolding engine.writesetOf txnOf
   writeset-is t h = rw (find-row m S t h)
 
@@ -66,7 +66,7 @@ module _ {over : ℕ} (m : Memory) (S : Shape over m) where
       rw (
         e,
         map-through 0 group.writesetFrom (engine.writesetOf (m .txns))
-            (model.writesetOf (openTxns (m .txns))) w (λ k h. writeset-is (getD w k 0) (asked-row m S k h .0)),
+            (model.writesetUnder (openTxns (m .txns))) w (λ k h. writeset-is (getD w k 0) (asked-row m S k h .0)),
       )
 
 -- ---- the rows

@@ -2,15 +2,14 @@
 use Prim.Native.Nat.{ℕ, _+_, _*_, _-_}
 use mathlib.Core.Bool.{cond}
 use mathlib.Core.List.{List}
-use lib.Dec.{eqb, ltb}
 use lib.IntN.{ℤ}
-use lib.ListN.{getD, set}
+use lib.ListN.{set}
 use Rattle.memory.specs.declared.Txn.{Txn}
 use Rattle.memory.specs.Memory.{Memory}
-use Rattle.memory.specs.Rows.{rowAt, writeCount, itemsOf, indexOf, holderOf, isHeld, countBelow, insertAt}
+use Rattle.memory.specs.Rows.{rowAt, writeCount, itemsOf, countBelow, insertAt}
 use Rattle.engine.specs.Calls.{Outcome, outcome}
 use Rattle.engine.specs.Calls.Answer.{refused}
-use Rattle.engine.specs.Client.{rewriteAt, staleAt, insertWrite}
+use Rattle.engine.specs.Client.{rowIn, ownIndex, isOwn, heldByOther, isStale, isFull, rewriteAt, staleAt, insertWrite}
 
 -- table, items and values after a new item
 pub record Inserted : Type 0 where
@@ -33,10 +32,7 @@ insertIn table items writes r item value =
 -- the write of an active transaction, of row r, while nothing is applied
 unfoldable pub writeActive : Memory → ℕ → ℕ → ℤ → Outcome
 writeActive m r item value =
-    let x = m .txns in
-    let t = rowAt (x .table) r in
-    let k = indexOf item (itemsOf r t (x .items)) in
-    cond (ltb k (writeCount t)) (rewriteAt m r k value)
-    (cond (isHeld (holderOf (x .table) (x .items) r item)) (outcome (refused 8) m)
-    (cond (ltb (t .snapshot) (getD (m .store .stamps) item 0)) (staleAt m r)
-    (cond (eqb (writeCount t) 8) (outcome (refused 10) m) (insertWrite m r t item value))))
+    cond (isOwn m r item) (rewriteAt m r (ownIndex m r item) value)
+    (cond (heldByOther m r item) (outcome (refused 8) m)
+    (cond (isStale m r item) (staleAt m r)
+    (cond (isFull m r) (outcome (refused 10) m) (insertWrite m r (rowIn m r) item value))))
