@@ -3,13 +3,14 @@ ghost use mathlib.Core.Path.{_≡_};
 ghost use mathlib.Core.Bool.{false};
 ghost use Prim.Native.Nat.{_+_, min};
 ghost use lib.Dec.{eqb};
-ghost use lib.ListN.{length, getD, set, replicate};
+ghost use lib.ListN.{getD, set, replicate};
 ghost use Rattle.block.specs.Answers.{recordAt};
 ghost use Rattle.memory.specs.Memory.{bump, withCommit};
 ghost use Rattle.memory.specs.Rows.{closed, rowOf};
 ghost use Rattle.engine.specs.Moves.{writesetAt, applied, stamped};
 ghost use Rattle.call_work.specs.Writesets.{endedOf, queueLeft};
 use super::Ended;
+use super::byte_at;
 use block_reader::record_at;
 use call_commit::abort_rows;
 use call_commit::apply_stamps;
@@ -144,7 +145,6 @@ pub fn end_writeset(
     stamps: &mut [u32],
     block: &[u8],
 ) -> Ended
-    requires { ⌜ length (now block) ≡ 512 ⌝ }
     ensures { λ r. ⌜ (let mine = eqb (getD (now (block .entry)) 1 0) (counts .own) in
         let w = writesetAt (now (block .entry)) (counts .done) in
         (r ≡ endedOf mine w turn counts rows (now (items .entry)))
@@ -153,7 +153,8 @@ pub fn end_writeset(
         × (now (stamps .exit) ≡ stamped (r .counts .commits) (w .entries) (now (stamps .entry)))) ⌝ }
 {
     let j = counts.done as usize;
-    let mine = block[1] == counts.own;
+    let sender = byte_at(block, 1);
+    let mine = sender == counts.own;
     let ticket = record_at(block, j).ticket;
     let ended = end_rows(
         mine,

@@ -3,7 +3,6 @@ use Prim.Native.Nat.{_+_, _≤_}
 use mathlib.Core.Path.{_≡_, sym, _∙_}
 use mathlib.Core.List.{[]}
 use native.Mathlib.Omega.{arith}
-use borrow.Rule.Slice.PartMut.{mid-len}
 use lib.ListN.{length}
 use Rattle.block.proofs.ListLaws.{lent-slice}
 use Rattle.memory.specs.Memory.{Memory}
@@ -90,9 +89,7 @@ part-end-writeset-end : tie.Need-part-end-writeset-end
 part-end-writeset-end c = room (c .before .before .before .before .before .before)
 
 end-writeset-requires : tie.Need-end-writeset-requires
-end-writeset-requires c κs =
-    let p = c .before .before .before .before .before .before .before in
-    mid-len (p .place-start .result) (p .place-start .result + 512) (p .before .before .before .before .before .before .before .before .before .args .places .now) (room p) ∙ omega arith
+end-writeset-requires c κs = search needs
 
 pass-writeset-requires : tie.Need-pass-writeset-requires
 pass-writeset-requires c κs = room (c .before .before .before .before .before .before .before .before .before .before .before .before .before .before)

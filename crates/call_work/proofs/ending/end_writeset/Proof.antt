@@ -6,8 +6,8 @@ use Rattle.call_work.proofs.ending.end_writeset.Tie as tie
 cast-j : tie.Need-cast-j
 cast-j c = search needs
 
-shared-slice-read-mine : tie.Need-shared-slice-read-mine
-shared-slice-read-mine c = search needs
+byte-at-requires : tie.Need-byte-at-requires
+byte-at-requires c κs = search needs
 
 record-at-requires : tie.Need-record-at-requires
 record-at-requires c κs = search needs
@@ -35,14 +35,14 @@ returns c =
     let t = c .before .before in
     let v = t .before .before .before in
     let e = v .before .before .before .before .before in
-    (e .end-rows .ensures .0, e .end-rows .ensures .1, v .apply-values .ensures, t .apply-stamps .ensures)
+    rw (← e .before .before .before .before .byte-at .ensures) (e .end-rows .ensures .0, e .end-rows .ensures .1, v .apply-values .ensures, t .apply-stamps .ensures)
 
 pub end-writeset-spec : {M : Type 1} → statement M
 end-writeset-spec =
     tie.close
     (tie.spec
     cast-j
-    shared-slice-read-mine
+    byte-at-requires
     record-at-requires
     end-rows-requires
     apply-values-requires
