@@ -29,7 +29,7 @@ append-one old at byte h b text w =
     let r : length text < length b = omega arith in
     record {
       bytes = rw (w .bytes, e, take-all (length b) text (omega arith), drop-cons b (length text) 0 r, set-at text (getD b (length text) 0) (drop (suc (length text)) b) byte (length text) refl)
-        (rw (take-all (length b) (text ++ (byte ∷ [])) (simp length-append (omega arith)), length-append, append-assoc, add-one));
+          (rw (take-all (length b) (text ++ (byte ∷ [])) (simp length-append (omega arith)), length-append, append-assoc, add-one));
       count = simp length-append (omega arith);
     }
 

@@ -1,2 +1,3 @@
--- What the program prints.
+-- What the program does with a line: the bytes that it delivers, and what it prints.
+pub mod Deliveries
 pub mod Text
