@@ -1,3 +1,4 @@
 -- Laws that the proofs of several functions cite.
 pub mod DeliveryLaws
+pub mod EffectLaws
 pub mod TextLaws

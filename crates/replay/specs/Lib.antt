@@ -1,3 +1,4 @@
--- What the program does with a line: the bytes that it delivers, and what it prints.
+-- What the program does with a line: the bytes that it delivers, what the call gives and leaves, and what is printed.
 pub mod Deliveries
+pub mod Effects
 pub mod Text
