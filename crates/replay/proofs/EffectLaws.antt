@@ -1,26 +1,28 @@
 -- What a call's outcome shows, by the reply that the call gives. Assumes nothing.
-use Prim.Native.Nat.{ℕ, _≤_}
+use Prim.Native.Nat.{ℕ, suc, _+_, _-_, _≤_}
 use mathlib.Core.Path.{_≡_, refl, ap, _∙_}
 use mathlib.Core.Bool.{Bool, true, false, cond}
 use mathlib.Core.List.{List, [], _∷_}
 use native.Mathlib.Omega.{arith}
 use lib.Dec.{eqb}
 use lib.IntN.{ℤ}
-use lib.ListN.{take, drop, replicate}
+use lib.ListN.{length, getD, take, drop, replicate, length-append, length-replicate}
+use lib.Seq.{take-append-seam}
 use Rattle.memory.specs.Memory.{Memory}
 use Rattle.memory.specs.Rows.{writeCount}
 use Rattle.engine.specs.declared.Report.{Report}
-use Rattle.engine.specs.Calls.{Answer, Outcome, outcome, unless}
-use Rattle.engine.specs.Calls.Answer.{refused}
+use Rattle.engine.specs.Calls.{Step, Answer, Outcome, outcome, unless}
+use Rattle.engine.specs.Calls.Answer.{refused, worked}
 use Rattle.engine.specs.Make.{makeRefusal, makeStep}
 use Rattle.engine.specs.Client.{rowIn, isOwn, beginRow, beginRefusal, beginAt, readRow, readRefusal, writeRow, writeRefusal, staleAt, rewriteAt, insertWrite, askRow, askRefusal, readOnlyAt, queueAt, withdrawRow, withdrawRefusal, withdrawAt, reportStep}
-use Rattle.engine.specs.Moves.{sendRefusal, sendNow, sendStep, deliverRefusal, deliverNow, deliverStep}
+use Rattle.engine.specs.Moves.{sendRefusal, sendNow, sendStep, deliverRefusal, deliverNow, deliverStep, blockAtTurn, workRefusal, writesetAt, passNext, commitWriteset, workStep}
 use Rattle.call_reply.specs.declared.Reply.{Reply}
 use Rattle.call_reply.specs.declared.BeginReply.{BeginReply}
 use Rattle.call_reply.specs.declared.ReadReply.{ReadReply}
 use Rattle.call_reply.specs.declared.AskReply.{AskReply}
 use Rattle.call_reply.specs.declared.ReportReply.{ReportReply}
-use Rattle.call_reply.specs.Replies.{ticketIn, valueIn, isReadOnly, number, reply, beginReply, readReply, askReply, reportReply, Gives, blockLeft, GivesBlock}
+use Rattle.call_reply.specs.declared.WorkReply.{WorkReply}
+use Rattle.call_reply.specs.Replies.{ticketIn, valueIn, isReadOnly, stepIn, number, reply, beginReply, readReply, askReply, reportReply, sixOf, workReply, Gives, blockLeft, GivesBlock}
 use Rattle.replay.specs.declared.Played.{Played}
 use Rattle.replay.specs.declared.Replica.{Replica}
 use Rattle.replay.specs.Effects.{memoryOf, numbersOf, valuesOf, Effect, effect, effectOf, Plays}
@@ -183,3 +185,59 @@ module _ (m : Memory) (lent : List ℕ) where
       ≡ effect lent (readRow m at item)
   unfolding readRow read-shows
   read-effect at item g = rw (g .0, g .1) (unless-by read-shows (readRefusal m at item) m _ refl (λ e. rw e))
+
+-- ---- work
+
+-- six numbers, one by one
+pub six-is : (l : List ℕ) → length l ≡ 6 → getD l 0 0 ∷ (getD l 1 0 ∷ (getD l 2 0 ∷ (getD l 3 0 ∷ (getD l 4 0 ∷ (getD l 5 0 ∷ []))))) ≡ l
+six-is [] h = absurd (omega (arith, h))
+six-is (a ∷ []) h = absurd (omega (arith, h))
+six-is (a ∷ (b ∷ [])) h = absurd (omega (arith, h))
+six-is (a ∷ (b ∷ (c ∷ []))) h = absurd (omega (arith, h))
+six-is (a ∷ (b ∷ (c ∷ (d ∷ [])))) h = absurd (omega (arith, h))
+six-is (a ∷ (b ∷ (c ∷ (d ∷ (e ∷ []))))) h = absurd (omega (arith, h))
+six-is (a ∷ (b ∷ (c ∷ (d ∷ (e ∷ (f ∷ [])))))) h = refl
+six-is (a ∷ (b ∷ (c ∷ (d ∷ (e ∷ (f ∷ (g ∷ l))))))) h = absurd (omega (arith, h))
+
+module _ (m : Memory) (lent : List ℕ) where
+  work-shows : (o : Outcome) → Type 0
+  work-shows o =
+      let s = stepIn (o .answer) in
+      record {
+        number = number o;
+        numbers = take (cond (eqb (number o) 0) (4 + length (s .aborted)) 0) (s .sender ∷ (s .ticket ∷ (cond (s .moved) 1 0 ∷ (length (s .aborted) ∷ sixOf (s .aborted)))));
+        values = [];
+        block = lent;
+        memory = o .memory;
+      } ≡ effect lent o
+
+  worked-shows : (s : Step) (left : Memory) → work-shows (outcome (worked s) left)
+  unfolding work-shows
+  worked-shows s left =
+      let l = s .aborted in
+      let e : 4 + length l ≡ suc (suc (suc (suc (length l)))) = omega arith in
+      rw (e, take-append-seam l (replicate (6 - length l) 0))
+
+  pub work-effect : {r : WorkReply} {left : Memory} → Gives workReply (workStep m) r left
+      → record {
+        number = r .number;
+        numbers = take (cond (eqb (r .number) 0) (4 + r .count) 0) (r .sender ∷ (r .ticket ∷ (cond (r .moved) 1 0 ∷ (r .count ∷ r .aborted))));
+        values = [];
+        block = lent;
+        memory = left;
+      } ≡ effect lent (workStep m)
+  unfolding workStep passNext commitWriteset work-shows
+  work-effect g =
+      let next = passNext m in
+      let commit = commitWriteset m (eqb (getD (blockAtTurn m) 1 0) (m .counts .own)) (writesetAt (blockAtTurn m) (m .counts .done)) in
+      rw (g .0, g .1)
+      (unless-by work-shows (workRefusal m) m _
+      (by-number work-shows (eqb (getD (blockAtTurn m) 0 0) 1) (λ e. worked-shows (stepIn (next .answer)) (next .memory)) (λ e. worked-shows (stepIn (commit .answer)) (commit .memory)))
+      (λ e. rw e))
+
+-- six tickets at most
+pub work-few : (o : Outcome) {r : WorkReply} {left : Memory} → Gives workReply o r left → length (r .aborted) ≡ 6 → r .count ≤ 6
+work-few o g h =
+    let l = stepIn (o .answer) .aborted in
+    let k : length (sixOf l) ≡ 6 = rw (g .0) at h in
+    rw (g .0) (omega (arith, k, length-append l (replicate (6 - length l) 0), length-replicate {A = ℕ} (6 - length l) 0))

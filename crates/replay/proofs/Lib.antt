@@ -1,4 +1,5 @@
 -- Laws that the proofs of several functions cite.
 pub mod DeliveryLaws
 pub mod EffectLaws
+pub mod RunLaws
 pub mod TextLaws

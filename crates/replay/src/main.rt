@@ -50,7 +50,12 @@ pub struct Played {
 fn main() {
     let mut out = [0u8; 16];
     print::put_unknown(&mut out);
-    let c = Call { letter: 0, first: 0, second: 0, value: 0 };
+    let c = Call {
+        letter: 0,
+        first: 0,
+        second: 0,
+        value: 0,
+    };
     kept::delivered(c, &out, 0, &out);
     kept::start_of(0);
 }

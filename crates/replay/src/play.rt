@@ -1,10 +1,9 @@
 // A call at a replica, which goes in and out by value: its small parts as they are, its large ones lent from copies.
-ghost use Prim.Native.Nat.{ℕ, _*_, _≤_, min};
+ghost use Prim.Native.Nat.{ℕ, _+_, _≤_};
 ghost use mathlib.Core.Path.{_≡_};
 ghost use mathlib.Core.Bool.{cond};
-ghost use mathlib.Core.List.{List};
+ghost use mathlib.Core.List.{List, _∷_};
 ghost use lib.Dec.{eqb};
-ghost use lib.IntN.{pos};
 ghost use lib.ListN.{set, replicate};
 ghost use Rattle.engine.specs.Make.{makeStep};
 ghost use Rattle.engine.specs.Client.{beginStep, readStep, writeStep, askStep, withdrawStep, reportStep};
@@ -14,6 +13,7 @@ use super::Call;
 use super::Played;
 use super::Replica;
 use call_client::rows::row_at;
+use call_reply::WorkReply;
 use memory::Txn;
 use memory::rows::free_row;
 use memory::rows::row_of;
@@ -239,6 +239,46 @@ fn report(replica: Replica) -> Played
     )
 }
 
+// What a work did.
+fn step_of(replica: Replica, reply: WorkReply) -> Played
+    ensures { λ r. ⌜ (r ≡ record {
+      replica = replica;
+      number = reply .number;
+      count = cond (eqb (reply .number) 0) (4 + reply .count) 0;
+      numbers = reply .sender ∷ (reply .ticket ∷ (cond (reply .moved) 1 0 ∷ (reply .count ∷ reply .aborted)));
+      shown = 0;
+      values = r .values;
+    })
+        × (r .count ≤ 4 + reply .count) ⌝ }
+{
+    let aborted = reply.aborted;
+    with_numbers(
+        replica,
+        reply.number,
+        accepted(reply.number, 4 + reply.count as usize),
+        [
+            reply.sender as u32,
+            reply.ticket,
+            flag(reply.moved),
+            reply.count as u32,
+            aborted[0],
+            aborted[1],
+            aborted[2],
+            aborted[3],
+            aborted[4],
+            aborted[5],
+        ],
+    )
+}
+
+// The replica's values.
+fn shown(replica: Replica) -> Played
+    ensures { λ r. ⌜ ((size : ℕ) (lent : List ℕ) → Plays size replica r lent (look lent (memoryOf size replica))) ⌝ }
+{
+    let values = replica.values;
+    with_values(replica, 0, 128, values)
+}
+
 // A replica in the place of the other, which stays where the make is refused.
 fn make(replica: Replica, n: u32, own: u32, value: i32) -> Played
     ensures { λ r. ⌜ ((lent : List ℕ) → Plays (placesSize n) replica r lent (effect lent (makeStep (memoryOf (placesSize n) replica) n own (replicate 128 value)))) ⌝ }
@@ -335,4 +375,62 @@ fn deliver(replica: Replica, bytes: &[u8]) -> Played
     let mut after = replica;
     after.places = places;
     bare(after, number)
+}
+
+fn work(replica: Replica) -> Played
+    ensures { λ r. ⌜ ((lent : List ℕ) → Plays (placesSize (replica .counts .replicas)) replica r lent (effect lent (workStep (memoryOf (placesSize (replica .counts .replicas)) replica)))) ⌝ }
+{
+    let turn = replica.turn;
+    let counts = replica.counts;
+    let rows = replica.rows;
+    let mut queue = replica.queue;
+    let items = replica.items;
+    let mut values = replica.values;
+    let mut stamps = replica.stamps;
+    let mut places = replica.places;
+    let size = places_size(counts.replicas as u32);
+    let worked = call_work::work(
+        rows,
+        turn,
+        counts,
+        &mut queue,
+        &items,
+        &mut values,
+        &mut stamps,
+        &mut places[..size],
+    );
+    let reply = worked.reply;
+    let numbers = reply.counts;
+    let next = worked.turn;
+    let table = worked.rows;
+    let mut after = replica;
+    after.turn = next;
+    after.counts = numbers;
+    after.rows = table;
+    after.queue = queue;
+    after.values = values;
+    after.stamps = stamps;
+    after.places = places;
+    step_of(after, reply)
+}
+
+// The call, by its letter: `bytes` are what it delivers, `block` takes what it sends.
+pub fn run(call: Call, replica: Replica, bytes: &[u8], block: &mut [u8]) -> Played
+    ensures { λ r. ⌜ Plays (sizeLent call (replica .counts)) replica r (now (block .exit))
+        (played call (now (bytes .entry)) (now (block .entry)) (memoryOf (sizeLent call (replica .counts)) replica)) ⌝ }
+{
+    let letter = call.letter;
+    match letter {
+        b'M' => make(replica, call.first, call.second, call.value),
+        b'B' => begin(replica),
+        b'R' => read(replica, call.first, call.second),
+        b'W' => write(replica, call.first, call.second, call.value),
+        b'C' => ask(replica, call.first),
+        b'X' => withdraw(replica, call.first),
+        b'Q' => report(replica),
+        b'S' => send(replica, &mut *block),
+        b'D' | b'F' | b'H' => deliver(replica, bytes),
+        b'K' => work(replica),
+        _ => shown(replica),
+    }
 }
