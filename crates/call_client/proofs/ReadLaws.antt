@@ -1,9 +1,9 @@
--- Each answer of a read, from the tests that lead to it. Assumes nothing.
+-- Each answer of a read, from the tests that lead to it, and its value. Assumes nothing.
 use Prim.Native.Nat.{ℕ, _+_, _*_, _≤_, _<_, min}
 use mathlib.Core.Path.{_≡_, ap, _∙_}
 use native.Mathlib.Omega.{arith}
 use borrow.Author.Tests.{eq-eqb, ne-eqb, lt-ltb, le-ltb, le-leb, lt-leb}
-use lib.IntN.{ℤ, pos}
+use lib.IntN.{pos}
 use lib.ListN.{length, getD}
 use lib.Seq.{slice}
 use Rattle.block.specs.Answers.{firstOf}
@@ -45,18 +45,20 @@ module _ (m : Memory) (r item : ℕ) where
             unfolding readRow readRefusal firstOf
             read-asked h = rw (eq-eqb (length (m .txns .items)) 48 items, eq-eqb (length (m .txns .writes)) 48 writes, eq-eqb (length (m .txns .snapshots)) 768 snapshots, lt-leb 128 item low, lt-leb 6 r there, ← at, ne-eqb (t .stage) 0 h)
 
-            module _ (active : t .stage ≡ 0) (n k : ℕ) (count : n ≡ min (t .writes) 8) (index : k ≡ indexOf item (lent (8 * r) (8 * r + n) (m .txns .items))) where
-              place : k ≡ indexOf item (slice (8 * r) (8 * r + n) (m .txns .items))
-              place = index ∙ ap (indexOf item) (lent-slice (8 * r) (8 * r + n) (m .txns .items) (omega arith))
+            pub read-taken : t .stage ≡ 0 → outcome (got (valueFor m r item)) m ≡ readRow m r item
+            unfolding readRow readRefusal firstOf
+            read-taken h = rw (eq-eqb (length (m .txns .items)) 48 items, eq-eqb (length (m .txns .writes)) 48 writes, eq-eqb (length (m .txns .snapshots)) 768 snapshots, lt-leb 128 item low, lt-leb 6 r there, ← at, eq-eqb (t .stage) 0 h)
 
-              accepted : outcome (got (valueFor m r item)) m ≡ readRow m r item
-              unfolding readRow readRefusal firstOf
-              accepted = rw (eq-eqb (length (m .txns .items)) 48 items, eq-eqb (length (m .txns .writes)) 48 writes, eq-eqb (length (m .txns .snapshots)) 768 snapshots, lt-leb 128 item low, lt-leb 6 r there, ← at, eq-eqb (t .stage) 0 active)
+-- the value: n is the row's count, k where the item stands among the row's own
+module _ (m : Memory) (r item : ℕ) (t : Txn) (at : t ≡ rowAt (m .txns .table) r) (n k : ℕ) (count : n ≡ min (t .writes) 8)
+    (index : k ≡ indexOf item (lent (8 * r) (8 * r + n) (m .txns .items))) where
+  place : k ≡ indexOf item (slice (8 * r) (8 * r + n) (m .txns .items))
+  place = index ∙ ap (indexOf item) (lent-slice (8 * r) (8 * r + n) (m .txns .items) (omega arith))
 
-              pub read-own : k < n → (v : ℤ) → v ≡ getD (m .txns .writes) (8 * r + k) (pos 0) → outcome (got v) m ≡ readRow m r item
-              unfolding valueFor
-              read-own h v e = rw (e) (ap (λ (x : ℤ). outcome (got x) m) (rw (← at, ← count, ← place, lt-ltb k n h)) ∙ accepted)
+  pub value-own : k < n → getD (m .txns .writes) (8 * r + k) (pos 0) ≡ valueFor m r item
+  unfolding valueFor
+  value-own h = rw (← at, ← count, ← place, lt-ltb k n h)
 
-              pub read-old : n ≤ k → (v : ℤ) → v ≡ getD (m .txns .snapshots) (128 * r + item) (pos 0) → outcome (got v) m ≡ readRow m r item
-              unfolding valueFor
-              read-old h v e = rw (e) (ap (λ (x : ℤ). outcome (got x) m) (rw (← at, ← count, ← place, le-ltb k n h)) ∙ accepted)
+  pub value-old : n ≤ k → getD (m .txns .snapshots) (128 * r + item) (pos 0) ≡ valueFor m r item
+  unfolding valueFor
+  value-old h = rw (← at, ← count, ← place, le-ltb k n h)

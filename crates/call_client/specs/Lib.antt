@@ -1,3 +1,2 @@
--- What the contracts of the client's calls say beside the definitions of the calls, and that no row and no record is left out.
-pub mod Lent
+-- No row and no record is left out by the contracts of the client's calls.
 pub mod Tables

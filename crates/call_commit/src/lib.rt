@@ -10,6 +10,7 @@ use block_reader::entry_at;
 use block_reader::record_at;
 use memory::Txn;
 use memory::rows::clear_numbers;
+use memory::rows::lesser;
 use memory::rows::write_count;
 
 // The table without the rows aborted, and their tickets: the first `count`, rising, with zeros behind.
@@ -72,7 +73,7 @@ fn holds(items: &[u8], item: u8) -> bool
 }
 
 // Whether record j has one of the items.
-pub fn shares_item(items: &[u8], block: &[u8], j: usize) -> bool
+fn shares_item(items: &[u8], block: &[u8], j: usize) -> bool
     ensures { λ r. ⌜ r ≡ shares (now (items .entry)) (writesetAt (now (block .entry)) j .entries) ⌝ }
 {
     let n = entry_count(block, j);
@@ -86,12 +87,6 @@ pub fn shares_item(items: &[u8], block: &[u8], j: usize) -> bool
     false
 }
 
-fn at_most(x: usize, most: usize) -> usize
-    ensures { λ r. ⌜ r ≡ min x most ⌝ }
-{
-    if x < most { x } else { most }
-}
-
 // Whether the row's transaction is active or asked and has written an item of record j.
 fn is_hit(t: Txn, r: usize, items: &[u8], block: &[u8], j: usize) -> bool
     requires { ⌜ r < 6 ⌝ }
@@ -103,8 +98,8 @@ fn is_hit(t: Txn, r: usize, items: &[u8], block: &[u8], j: usize) -> bool
     if 2 <= t.stage {
         return false;
     }
-    let from = at_most(8 * r, items.len());
-    let to = at_most(8 * r + write_count(t.writes), items.len());
+    let from = lesser(8 * r, items.len());
+    let to = lesser(8 * r + write_count(t.writes), items.len());
     shares_item(&items[from..to], block, j)
 }
 
@@ -134,7 +129,11 @@ fn insert_rising(tickets: [u32; 6], n: usize, ticket: u32) -> [u32; 6]
 
 // The rows that record j hits are closed; from the last row to the first, as their tickets are listed.
 pub fn abort_rows(table: [Txn; 6], items: &[u8], block: &[u8], j: usize) -> Aborts
-    ensures { λ r. ⌜ ((r .table) ≡ afterAborts (writesetAt (now (block .entry)) j .entries) (now (items .entry)) 0 table) × (take (r .count) (r .tickets) ≡ hitTickets (writesetAt (now (block .entry)) j .entries) (now (items .entry)) 0 table) × (r .count ≤ 6) × (drop (r .count) (r .tickets) ≡ replicate (6 - r .count) 0) ⌝ }
+    ensures { λ r. ⌜ (let es = writesetAt (now (block .entry)) j .entries in
+        (r .table ≡ afterAborts es (now (items .entry)) 0 table)
+        × (take (r .count) (r .tickets) ≡ hitTickets es (now (items .entry)) 0 table)
+        × (r .count ≤ 6)
+        × (drop (r .count) (r .tickets) ≡ replicate (6 - r .count) 0)) ⌝ }
 {
     let mut rows = table;
     let mut tickets = [0u32; 6];
@@ -181,7 +180,7 @@ fn among(tickets: [u32; 6], n: usize, ticket: u32) -> bool
 pub fn queue_without(queue: &mut [u32], tickets: [u32; 6], count: usize)
     ensures { λ _. ⌜ now (queue .exit) ≡ queueWithout (take (min count 6) tickets) (now (queue .entry)) ⌝ }
 {
-    let n = at_most(count, 6);
+    let n = lesser(count, 6);
     let mut kept: usize = 0;
     let mut i: usize = 0;
     while i < queue.len() {

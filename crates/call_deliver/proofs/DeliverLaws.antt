@@ -29,7 +29,8 @@ use Rattle.engine.specs.Moves.{sameBytes, deliverLent, deliverRefusal, deliverN
 use Rattle.engine.proofs.BlockFacts.{taken-block}
 use Rattle.engine.proofs.Passed.{deliver-passed}
 use Rattle.engine.proofs.PlaceLaws.{place-fits}
-use Rattle.call_deliver.specs.Lent.{lengthsFit, deliverParts}
+use Rattle.call_reply.specs.Parts.{deliverParts}
+use Rattle.call_deliver.specs.Lengths.{lengthsFit}
 
 -- ---- bytes compared
 
@@ -70,7 +71,7 @@ pub record Long (n : ℕ) (p b : List ℕ) : Type 0 where
   pub places : length p ≡ 512 * n
   pub bytes : length b ≡ 512
 
-pub lengths-long : (n : ℕ) (places outbox bytes : List ℕ) → lengthsFit n places outbox bytes ≡ true → Long n places bytes
+pub lengths-long : (n : ℕ) (places outbox bytes : List ℕ) → lengthsFit n (length places) (length outbox) (length bytes) ≡ true → Long n places bytes
 lengths-long n places outbox bytes h =
     let a = both _ (eqb (length outbox) 512 && eqb (length bytes) 512) h in
     record { places = eqb-true _ _ (a .left); bytes = eqb-true _ 512 (both (eqb (length outbox) 512) (eqb (length bytes) 512) (a .right) .right) }
@@ -204,7 +205,7 @@ module _ (m : Memory) (bytes : List ℕ) where
 -- ---- the place
 
 -- the place of a slot lies in the places
-pub place-in : (n slot : ℕ) (places outbox bytes : List ℕ) → lengthsFit n places outbox bytes ≡ true → 0 < n
+pub place-in : (n slot : ℕ) (places outbox bytes : List ℕ) → lengthsFit n (length places) (length outbox) (length bytes) ≡ true → 0 < n
     → (at : ℕ) → at ≡ placeStart n slot → at + 512 ≤ length places
 place-in n slot places outbox bytes long some at e =
     omega (arith, place-fits n slot some, lengths-long n places outbox bytes long .places)

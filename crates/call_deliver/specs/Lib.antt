@@ -1,2 +1,2 @@
--- What the contract of deliver says beside the definition of the call.
-pub mod Lent
+-- What the functions of a deliver say beside the definition of the call.
+pub mod Lengths

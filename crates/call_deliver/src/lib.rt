@@ -1,37 +1,33 @@
 // A block that arrives: kept in its place, or refused.
 ghost use mathlib.Core.Path.{_≡_};
 ghost use mathlib.Core.Bool.{true, _&&_, not};
-ghost use Prim.Native.Nat.{_*_, _<_};
 ghost use lib.Dec.{eqb};
 ghost use lib.ListN.{length};
 ghost use Rattle.block.specs.Answers.{headerOf, blockRefusal};
 ghost use Rattle.memory.specs.Memory.{Memory};
-ghost use Rattle.memory.specs.Turns.{isOn, placeStart};
-ghost use Rattle.engine.specs.Calls.{outcome};
+ghost use Rattle.memory.specs.Turns.{isOn};
 ghost use Rattle.engine.specs.Moves.{sameBytes, deliverRefusal, deliverStep};
-ghost use Rattle.call_deliver.specs.Lent.{lengthsFit, deliverAnswer, deliverParts};
+ghost use Rattle.call_reply.specs.Parts.{deliverParts};
+ghost use Rattle.call_reply.specs.Replies.{number, Gives};
+ghost use Rattle.call_deliver.specs.Lengths.{lengthsFit};
 use block::Header;
 use block::Read;
 use block_reader::read_block;
 use memory::Counts;
 use memory::Turn;
+use memory::cursor::place_start;
 
-pub enum DeliverAnswer {
-    Kept,
-    Refused(u8),
-}
-
-// N places of 512 bytes, the block sent last and the block that arrives.
-fn lengths_fit(replicas: u8, places: &[u8], outbox: &[u8], bytes: &[u8]) -> bool
-    ensures { λ r. ⌜ r ≡ lengthsFit replicas (now (places .entry)) (now (outbox .entry)) (now (bytes .entry)) ⌝ }
+// The lengths of N places of 512 bytes, of the block sent last and of the block that arrives.
+fn lengths_fit(replicas: u8, places: usize, outbox: usize, bytes: usize) -> bool
+    ensures { λ r. ⌜ r ≡ lengthsFit replicas places outbox bytes ⌝ }
 {
-    if places.len() != 512 * replicas as usize {
+    if places != 512 * replicas as usize {
         return false;
     }
-    if outbox.len() != 512 {
+    if outbox != 512 {
         return false;
     }
-    bytes.len() == 512
+    bytes == 512
 }
 
 fn same_bytes(a: &[u8], b: &[u8]) -> bool
@@ -63,14 +59,6 @@ fn not_sent_here(turn: Turn, own: u8, sender: u8, outbox: &[u8], bytes: &[u8]) -
     !same_bytes(bytes, outbox)
 }
 
-// Where the place of a slot begins.
-fn place_start(replicas: u8, slot: u32) -> usize
-    requires { ⌜ 0 < replicas ⌝ }
-    ensures { λ r. ⌜ r ≡ placeStart replicas slot ⌝ }
-{
-    512 * (slot % (replicas as u32)) as usize
-}
-
 // Why a block that was read is refused, 0 where it is not. The slot is compared by its distance from the turn, since turn + N may not fit.
 fn refusal(
     turn: Turn,
@@ -80,8 +68,11 @@ fn refusal(
     outbox: &[u8],
     bytes: &[u8],
 ) -> u8
-    requires { ⌜ (lengthsFit (counts .replicas) (now places) (now outbox) (now bytes) ≡ true) × (blockRefusal (now bytes) ≡ 0) × (header ≡ headerOf (now bytes)) ⌝ }
-    ensures { λ r. ⌜ ((m : Memory) → r ≡ deliverRefusal (deliverParts m turn counts (now (places .entry)) (now (outbox .entry))) (now (bytes .entry))) ⌝ }
+    requires { ⌜ (lengthsFit (counts .replicas) (length (now places)) (length (now outbox)) (length (now bytes)) ≡ true)
+        × (blockRefusal (now bytes) ≡ 0)
+        × (header ≡ headerOf (now bytes)) ⌝ }
+    ensures { λ r. ⌜ ((m : Memory) →
+        r ≡ deliverRefusal (deliverParts m turn counts (now (places .entry)) (now (outbox .entry))) (now (bytes .entry))) ⌝ }
 {
     if header.replicas != counts.replicas {
         return 16;
@@ -115,27 +106,25 @@ fn put_block(place: &mut [u8], bytes: &[u8])
 }
 
 // Keeps an accepted block in the place of its slot.
-pub fn deliver(
-    turn: Turn,
-    counts: Counts,
-    places: &mut [u8],
-    outbox: &[u8],
-    bytes: &[u8],
-) -> DeliverAnswer
-    ensures { λ r. ⌜ ((m : Memory) → outcome (deliverAnswer r) (deliverParts m turn counts (now (places .exit)) (now (outbox .entry))) ≡ deliverStep (deliverParts m turn counts (now (places .entry)) (now (outbox .entry))) (now (bytes .entry))) ⌝ }
+pub fn deliver(turn: Turn, counts: Counts, places: &mut [u8], outbox: &[u8], bytes: &[u8]) -> u8
+    ensures { λ r. ⌜ ((m : Memory) →
+        Gives number
+        (deliverStep (deliverParts m turn counts (now (places .entry)) (now (outbox .entry))) (now (bytes .entry)))
+        r
+        (deliverParts m turn counts (now (places .exit)) (now (outbox .entry)))) ⌝ }
 {
-    if !lengths_fit(counts.replicas, &*places, outbox, bytes) {
-        return DeliverAnswer::Refused(1);
+    if !lengths_fit(counts.replicas, places.len(), outbox.len(), bytes.len()) {
+        return 1;
     }
     let read = read_block(bytes);
     let Read::Message(header) = read else {
-        return DeliverAnswer::Refused(read.answer().number);
+        return read.answer().number;
     };
     let number = refusal(turn, counts, header, &*places, outbox, bytes);
     if number != 0 {
-        return DeliverAnswer::Refused(number);
+        return number;
     }
     let at = place_start(counts.replicas, header.slot);
     put_block(&mut places[at..at + 512], bytes);
-    DeliverAnswer::Kept
+    0
 }

@@ -18,7 +18,7 @@ use Rattle.engine.proofs.Tests.{passes}
 use Rattle.engine.specs.Calls.{outcome}
 use Rattle.engine.specs.Calls.Answer.{refused, made}
 use Rattle.engine.specs.Make.{turnZero, countsFor, madeMemory, placesFit, slicesFit, partsFit, makeRefusal, makeStep}
-use Rattle.call_client.specs.Lent.{allParts, slices}
+use Rattle.call_reply.specs.Parts.{allParts}
 
 pub record Long (m : Memory) : Type 0 where
   pub queue : length (m .txns .queue) ≡ 6
@@ -122,19 +122,21 @@ given m n own values e =
       own-low = leb-false n own (r .1);
     }
 
-module _ (q i : List ℕ) (w s v : List ℤ) (t p o : List ℕ) (n own : ℕ) (values : List ℤ) (k : ℕ) (number : k ≡ makeRefusal (slices q i w s v t p o) n own values) where
-  pub make-refused : (k ≡ 0 → ⊥) → outcome (refused k) (slices q i w s v t p o) ≡ makeStep (slices q i w s v t p o) n own values
+module _ (m : Memory) (n own : ℕ) (values : List ℤ) (k : ℕ) (number : k ≡ makeRefusal m n own values) where
+  pub make-refused : (k ≡ 0 → ⊥) → outcome (refused k) m ≡ makeStep m n own values
   unfolding makeStep
   make-refused h = rw (← number, ne-eqb k 0 h)
 
   -- what the functions that clear and copy leave of the lent slices
-  pub make-taken : k ≡ 0 → (q′ i′ : List ℕ) (w′ s′ v′ : List ℤ) (t′ p′ o′ : List ℕ)
-      → q′ ≡ replicate (length q) 0 → i′ ≡ replicate (length i) 0 → w′ ≡ replicate (length w) (pos 0) → s′ ≡ replicate (length s) (pos 0)
-      → v′ ≡ paste v 0 values (min (length values) (length v)) → t′ ≡ replicate (length t) 0 → p′ ≡ replicate (length p) 0 → o′ ≡ replicate (length o) 0
-      → outcome made (allParts turnZero (countsFor n own) (replicate 6 closed) q′ i′ w′ s′ v′ t′ p′ o′) ≡ makeStep (slices q i w s v t p o) n own values
+  pub make-taken : k ≡ 0 → (q i : List ℕ) (w s v : List ℤ) (t p o : List ℕ)
+      → q ≡ replicate (length (m .txns .queue)) 0 → i ≡ replicate (length (m .txns .items)) 0
+      → w ≡ replicate (length (m .txns .writes)) (pos 0) → s ≡ replicate (length (m .txns .snapshots)) (pos 0)
+      → v ≡ paste (m .store .values) 0 values (min (length values) (length (m .store .values))) → t ≡ replicate (length (m .store .stamps)) 0
+      → p ≡ replicate (length (m .blocks .places)) 0 → o ≡ replicate (length (m .blocks .outbox)) 0
+      → outcome made (allParts turnZero (countsFor n own) (replicate 6 closed) q i w s v t p o) ≡ makeStep m n own values
   unfolding makeStep
-  make-taken h q′ i′ w′ s′ v′ t′ p′ o′ eq ei ew es ev et ep eo =
-      let g = given (slices q i w s v t p o) n own values (sym number ∙ h) in
+  make-taken h q i w s v t p o eq ei ew es ev et ep eo =
+      let g = given m n own values (sym number ∙ h) in
       let l = g .long in
       rw (← number, h)
       (ap (outcome made)
@@ -143,7 +145,7 @@ module _ (q i : List ℕ) (w s v : List ℤ) (t p o : List ℕ) (n own : ℕ) (v
       (ei ∙ ap (λ (z : ℕ). replicate z 0) (l .items))
       (ew ∙ ap (λ (z : ℕ). replicate z (pos 0)) (l .writes))
       (es ∙ ap (λ (z : ℕ). replicate z (pos 0)) (l .snapshots))
-      (ev ∙ paste-whole v values (l .values) (g .start))
+      (ev ∙ paste-whole (m .store .values) values (l .values) (g .start))
       (et ∙ ap (λ (z : ℕ). replicate z 0) (l .stamps))
       (ep ∙ ap (λ (z : ℕ). replicate z 0) (g .places))
       (eo ∙ ap (λ (z : ℕ). replicate z 0) (l .outbox))))

@@ -26,7 +26,7 @@ use Rattle.memory.specs.Rows.{closed, rowOf, rowAt, writeCount, indexFrom, inde
 use Rattle.memory.proofs.RowLaws.{row-within}
 use Rattle.engine.specs.Moves.{waiting, writesetOf, messageFor}
 use Rattle.engine.proofs.Tests.{cond-by, less-by}
-use Rattle.call_send.specs.Lent.{writesetIn, headerWith}
+use Rattle.call_send.specs.Writing.{writesetIn, headerWith}
 
 -- ---- a list filled from the front
 
@@ -100,13 +100,9 @@ module _ (table : List Txn) (six : length table ≡ 6) where
 
 -- ---- the writesets
 
--- the block with the first j of them
-abbrev pub blockTo : List ℕ → List Txn → List ℕ → List ℕ → List ℤ → ℕ → List ℕ
-blockTo l₀ table q is vs j = take 16 l₀ ++ recordsBytes (map (writesetIn table is vs) (take j q))
-
 module _ (table : List Txn) (is : List ℕ) (vs : List ℤ) (long : (length is ≡ 48) × (length vs ≡ 48)) where
-  -- the call for a ticket writes its writeset: row r, of n writes
-  writeset-written : (t r n a : ℕ) (part ys : List ℕ) → r ≡ rowOf t table → n ≡ writeCount (rowAt table r) → 8 * r + n ≤ 48 → length part ≡ 72
+  -- the record writer's call for a ticket writes its writeset: row r, of n writes
+  pub writeset-written : (t r n a : ℕ) (part ys : List ℕ) → r ≡ rowOf t table → n ≡ writeCount (rowAt table r) → 8 * r + n ≤ 48 → length part ≡ 72
       → written a ys ≡ recordStep part t (take (8 * r + n - 8 * r) (drop (8 * r) is)) (take (8 * r + n - 8 * r) (drop (8 * r) vs))
       → ys ≡ recordBytes (writesetIn table is vs t)
   unfolding writesetOf
@@ -116,25 +112,26 @@ module _ (table : List Txn) (is : List ℕ) (vs : List ℤ) (long : (length is �
       let d = record-done part t (slice (8 * r) (8 * r + n) is) (slice (8 * r) (8 * r + n) vs) h (omega arith) (v ∙ sym i) in
       rw (← row, ← count) (ap (λ (w : Written). w .bytes) (rw (lent-slice (8 * r) (8 * r + n) is (omega arith), lent-slice (8 * r) (8 * r + n) vs (omega arith)) at q ∙ d))
 
+-- the block with the first j of them
+abbrev pub blockTo : List ℕ → List Txn → List ℕ → List ℕ → List ℤ → ℕ → List ℕ
+blockTo l₀ table q is vs j = take 16 l₀ ++ recordsBytes (map (writesetIn table is vs) (take j q))
+
 module _ (l₀ : List ℕ) (table : List Txn) (q is : List ℕ) (vs : List ℤ) where
   pub writesets-none : length l₀ ≡ 512 → Filled l₀ 16 (blockTo l₀ table q is vs 0) l₀
   unfolding recordsBytes
   writesets-none h = rw (append-nil (take 16 l₀)) (record { size = length-take-le 16 l₀ (omega arith); is = sym (take-append-drop 16 l₀) })
 
-  -- a turn of the loop: the call for ticket j, of row r and n writes, on its part
-  pub writesets-put : (j r n a : ℕ) (l part ys : List ℕ) → j < length q → (length is ≡ 48) × (length vs ≡ 48)
-      → r ≡ rowOf (getD q j 0) table → n ≡ writeCount (rowAt table r) → 8 * r + n ≤ 48
-      → length part ≡ 16 + 72 * j + 72 - (16 + 72 * j) → length ys ≡ length part
-      → written a ys ≡ recordStep part (getD q j 0) (take (8 * r + n - 8 * r) (drop (8 * r) is)) (take (8 * r + n - 8 * r) (drop (8 * r) vs))
+  -- a turn of the loop: the writeset of ticket j, on its part
+  pub writesets-put : (j : ℕ) (l ys : List ℕ) → j < length q → length ys ≡ 16 + 72 * j + 72 - (16 + 72 * j)
+      → ys ≡ recordBytes (writesetIn table is vs (getD q j 0))
       → Filled l₀ (16 + 72 * j) (blockTo l₀ table q is vs j) l
       → Filled l₀ (16 + 72 * (j + 1)) (blockTo l₀ table q is vs (j + 1)) (putMid (16 + 72 * j) (16 + 72 * j + 72 - (16 + 72 * j)) l ys)
-  writesets-put j r n a l part ys h long row count fits p y w f =
+  writesets-put j l ys h p d f =
       let k : 16 + 72 * j + 72 - (16 + 72 * j) ≡ 72 = omega arith in
       let e : 16 + 72 * (j + 1) ≡ 16 + 72 * j + 72 = omega arith in
-      let d = writeset-written table is vs long (getD q j 0) r n a part ys row count fits (p ∙ k) w in
       let s : recordsBytes (map (writesetIn table is vs) (take (j + 1) q)) ≡ recordsBytes (map (writesetIn table is vs) (take j q)) ++ ys =
       rw (map-next 0 q j h (writesetIn table is vs), records-append, ← d) in
-      rw (k, e, s, ← append-assoc (take 16 l₀) (recordsBytes (map (writesetIn table is vs) (take j q))) ys) (filled-part f 72 ys (y ∙ p ∙ k))
+      rw (k, e, s, ← append-assoc (take 16 l₀) (recordsBytes (map (writesetIn table is vs) (take j q))) ys) (filled-part f 72 ys (p ∙ k))
 
   pub writesets-end : (n : ℕ) (l : List ℕ) → Filled l₀ (16 + 72 * n) (blockTo l₀ table q is vs n) l
       → l ≡ take 16 l₀ ++ (recordsBytes (map (writesetIn table is vs) (take n q)) ++ drop (16 + 72 * n) l₀)

@@ -2,15 +2,13 @@
 use Prim.Native.Nat.{ℕ, _≤_, _<_}
 use mathlib.Core.Path.{_≡_, refl, sym, ap, _∙_}
 use mathlib.Core.Bool.{true, false}
-use mathlib.Core.List.{List, [], map}
+use mathlib.Core.List.{List, map}
 use borrow.Author.Tests.{eq-eqb, ne-eqb, le-leb, lt-leb, eqb-true, not-false}
-use lib.IntN.{ℤ}
 use lib.ListN.{length, replicate}
 use Rattle.block.specs.Answers.{firstOf}
 use Rattle.block.specs.Bytes.{blockOf}
 use Rattle.block.specs.Message.{ownerOf}
 use Rattle.block.proofs.BoolLaws.{both}
-use Rattle.memory.specs.declared.Counts.{Counts}
 use Rattle.memory.specs.declared.Turn.{Turn}
 use Rattle.memory.specs.declared.Txn.{Txn}
 use Rattle.memory.specs.Memory.{Memory}
@@ -19,17 +17,7 @@ use Rattle.engine.specs.Calls.{outcome}
 use Rattle.engine.specs.Calls.Answer.{refused, sent}
 use Rattle.engine.specs.Moves.{messageFor, sendRow, sendLent, sendRefusal, sendNow, sendStep}
 use Rattle.engine.proofs.Tests.{passes}
-use Rattle.call_send.specs.Lent.{sendParts, blockLeft}
-
--- a memory of the parts lent alone
-abbrev pub alone : Turn → Counts → List Txn → List ℕ → List ℕ → List ℤ → List ℕ → Memory
-alone turn counts table queue items writes outbox = record {
-  turn = turn;
-  counts = counts;
-  txns = record { table = table; queue = queue; items = items; writes = writes; snapshots = [] };
-  store = record { values = []; stamps = [] };
-  blocks = record { places = []; outbox = outbox };
-}
+use Rattle.call_reply.specs.Parts.{sendParts}
 
 -- what is known once a send is not refused
 pub record Long (m : Memory) (block : List ℕ) : Type 0 where
@@ -55,18 +43,18 @@ module _ (m : Memory) (block : List ℕ) where
       send-others h = rw (lent, lt-leb 100_000_000 (m .turn .slot) low, ← owner, ne-eqb k (m .counts .own) h)
 
       module _ (own : k ≡ m .counts .own) where
-        pub send-already : m .turn .sent ≡ true → 12 ≡ sendRefusal m block
+        pub send-already : (m .turn .sent ≡ 0 → ⊥) → 12 ≡ sendRefusal m block
         unfolding sendRefusal firstOf
-        send-already h = rw (lent, lt-leb 100_000_000 (m .turn .slot) low, ← owner, eq-eqb k (m .counts .own) own, h)
+        send-already h = rw (lent, lt-leb 100_000_000 (m .turn .slot) low, ← owner, eq-eqb k (m .counts .own) own, ne-eqb (m .turn .sent) 0 h)
 
-        pub send-free : m .turn .sent ≡ false → 0 ≡ sendRefusal m block
+        pub send-free : m .turn .sent ≡ 0 → 0 ≡ sendRefusal m block
         unfolding sendRefusal firstOf
-        send-free h = rw (lent, lt-leb 100_000_000 (m .turn .slot) low, ← owner, eq-eqb k (m .counts .own) own, h)
+        send-free h = rw (lent, lt-leb 100_000_000 (m .turn .slot) low, ← owner, eq-eqb k (m .counts .own) own, eq-eqb (m .turn .sent) 0 h)
 
   module _ (n : ℕ) (number : n ≡ sendRefusal m block) where
-    pub send-refused : (n ≡ 0 → ⊥) → (outcome (refused n) m ≡ sendStep m block) × (block ≡ blockLeft (sendStep m block .answer) block)
+    pub send-refused : (n ≡ 0 → ⊥) → outcome (refused n) m ≡ sendStep m block
     unfolding sendStep
-    send-refused h = rw (← number, ne-eqb n 0 h) (refl, refl)
+    send-refused h = rw (← number, ne-eqb n 0 h)
 
     module _ (none : n ≡ 0) where
       pub send-long : Long m block
@@ -87,9 +75,8 @@ module _ (m : Memory) (block : List ℕ) where
       -- turn t, rows, queue q, outbox o and lent block b as they are left
       pub send-taken : (t : Turn) (rows : List Txn) (q o b : List ℕ) → t ≡ markSent (m .turn) → rows ≡ map sendRow (m .txns .table)
           → q ≡ replicate (length (m .txns .queue)) 0 → o ≡ b → b ≡ blockOf (messageFor m)
-          → (outcome (sent b) (sendParts m t (m .counts) rows q (m .txns .items) (m .txns .writes) o) ≡ sendStep m block)
-          × (b ≡ blockLeft (sendStep m block .answer) block)
+          → outcome (sent b) (sendParts m t (m .counts) rows q (m .txns .items) (m .txns .writes) o) ≡ sendStep m block
       unfolding sendStep sendNow
       send-taken t rows q o b mark asked zeros copy is =
           let z : q ≡ replicate 6 0 = zeros ∙ ap (λ (k : ℕ). replicate k 0) (send-long .queue) in
-          rw (← number, none, mark, asked, z, copy, is) (refl, refl)
+          rw (← number, none, mark, asked, z, copy, is)

@@ -1,2 +1,2 @@
--- What the contract of a send says beside its definition.
-pub mod Lent
+-- What the functions of a send say beside the definition of the call.
+pub mod Writing

@@ -1,2 +1,2 @@
--- What the contract of a work says beside the definition of the call.
-pub mod Lent
+-- What the functions of a work say beside the definition of the call.
+pub mod Writesets

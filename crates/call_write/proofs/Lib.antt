@@ -1,2 +1,2 @@
--- One law for each answer of a write, over plain variables.
+-- The laws of a write, over plain variables.
 pub mod WriteLaws

@@ -1,17 +1,16 @@
--- Each answer of a write, from the tests that lead to it: first those before the row's own writes are looked at, then those at the row. Assumes nothing.
+-- A write that no early refusal meets is that of an active transaction; and each answer of that, from the tests that lead to it. Assumes nothing.
 use Prim.Native.Nat.{ℕ, suc, _+_, _*_, _-_, _≤_, _<_, min}
 use mathlib.Core.Path.{_≡_, refl, ap, _∙_}
-use mathlib.Core.Bool.{Bool, true, false, cond, _&&_}
+use mathlib.Core.Bool.{Bool, true, false, cond}
 use mathlib.Core.List.{List, [], _∷_}
 use native.Mathlib.Omega.{arith}
 use borrow.Rule.Slice.PartMut.{putMid}
-use borrow.Author.Tests.{eq-eqb, ne-eqb, lt-ltb, le-ltb, le-leb, lt-leb, eqb-true}
+use borrow.Author.Tests.{eq-eqb, ne-eqb, lt-ltb, le-ltb, lt-leb}
 use lib.Dec.{eqb}
 use lib.IntN.{ℤ}
 use lib.ListN.{length, getD, set, drop, length-take}
 use lib.Seq.{slice}
 use Rattle.block.specs.Answers.{refuse, firstOf}
-use Rattle.block.proofs.BoolLaws.{both}
 use Rattle.block.proofs.ListLaws.{lent, lent-slice}
 use Rattle.memory.specs.declared.Txn.{Txn}
 use Rattle.memory.specs.declared.Held.{Held}
@@ -24,25 +23,14 @@ use Rattle.engine.specs.Calls.Answer.{refused, wrote}
 use Rattle.engine.specs.Client.{isOwn, heldByOther, isStale, isFull, writeRefusal, rewriteAt, insertWrite, staleAt, writeRow}
 use Rattle.call_write.specs.Parts.{Inserted, inserted, insertIn, writeActive}
 
-pub record Long (a b c : ℕ) : Type 0 where
-  pub items : a ≡ 48
-  pub writes : b ≡ 48
-  pub stamps : c ≡ 128
-
-pub writing-long : (a b c : ℕ) → (eqb a 48 && eqb b 48 && eqb c 128) ≡ true → Long a b c
-writing-long a b c h =
-    let p = both _ _ h in
-    let q = both _ _ (p .left) in
-    record { items = eqb-true a 48 (q .left); writes = eqb-true b 48 (q .right); stamps = eqb-true c 128 (p .right) }
-
 -- the last three refusals, where the item is not the transaction's own
 lastThree : Bool → Bool → Bool → Bool → ℕ
 lastThree own held stale full = firstOf (cond own [] (refuse 8 held ∷ refuse 9 stale ∷ refuse 10 full ∷ []))
 
 -- by the numbers or by the tests: the same outcome
 by-cases : (m : Memory) (own held stale full : Bool) (rewritten ended added : Outcome)
-    → cond own rewritten (cond held (outcome (refused 8) m) (cond stale ended (cond full (outcome (refused 10) m) added)))
-    ≡ cond (eqb (lastThree own held stale full) 9) ended (unless (lastThree own held stale full) m (cond own rewritten added))
+    → cond (eqb (lastThree own held stale full) 9) ended (unless (lastThree own held stale full) m (cond own rewritten added))
+    ≡ cond own rewritten (cond held (outcome (refused 8) m) (cond stale ended (cond full (outcome (refused 10) m) added)))
 unfolding lastThree firstOf
 by-cases m true h s f a b c = refl
 by-cases m false true s f a b c = refl
@@ -50,39 +38,28 @@ by-cases m false false true f a b c = refl
 by-cases m false false false true a b c = refl
 by-cases m false false false false a b c = refl
 
-module _ (m : Memory) (r item : ℕ) (value : ℤ) where
-  pub write-lengths : (eqb (length (m .txns .items)) 48 && eqb (length (m .txns .writes)) 48 && eqb (length (m .store .stamps)) 128) ≡ false
-      → outcome (refused 1) m ≡ writeRow m r item value
-  unfolding writeRow writeRefusal firstOf
-  write-lengths h = rw h
+module _ (m : Memory) (r item : ℕ) (value : ℤ) (items : length (m .txns .items) ≡ 48) (writes : length (m .txns .writes) ≡ 48) (stamps : length (m .store .stamps) ≡ 128)
+    (low : item < 128) (there : r < 6) (active : rowAt (m .txns .table) r .stage ≡ 0) (off : m .turn .applying ≡ 0) where
+  past : writeRefusal m r item ≡ lastThree (isOwn m r item) (heldByOther m r item) (isStale m r item) (isFull m r)
+  unfolding writeRefusal firstOf lastThree
+  past =
+      rw (
+        eq-eqb (length (m .txns .items)) 48 items,
+        eq-eqb (length (m .txns .writes)) 48 writes,
+        eq-eqb (length (m .store .stamps)) 128 stamps,
+        lt-leb 128 item low,
+        lt-leb 6 r there,
+        active,
+        off,
+      )
 
-  module _ (long : (eqb (length (m .txns .items)) 48 && eqb (length (m .txns .writes)) 48 && eqb (length (m .store .stamps)) 128) ≡ true) where
-    pub write-item : 128 ≤ item → outcome (refused 2) m ≡ writeRow m r item value
-    unfolding writeRow writeRefusal firstOf
-    write-item h = rw (long, le-leb 128 item h)
+  pub write-active : writeRow m r item value ≡ writeActive m r item value
+  unfolding writeRow writeActive
+  write-active = rw past (by-cases m _ _ _ _ _ _ _)
 
-    module _ (low : item < 128) where
-      pub write-absent : 6 ≤ r → outcome (refused 3) m ≡ writeRow m r item value
-      unfolding writeRow writeRefusal firstOf
-      write-absent h = rw (long, lt-leb 128 item low, le-leb 6 r h)
-
-      module _ (there : r < 6) where
-        pub write-asked : (rowAt (m .txns .table) r .stage ≡ 0 → ⊥) → outcome (refused 4) m ≡ writeRow m r item value
-        unfolding writeRow writeRefusal firstOf
-        write-asked h = rw (long, lt-leb 128 item low, lt-leb 6 r there, ne-eqb (rowAt (m .txns .table) r .stage) 0 h)
-
-        module _ (active : rowAt (m .txns .table) r .stage ≡ 0) where
-          pub write-applying : m .turn .applying ≡ true → outcome (refused 7) m ≡ writeRow m r item value
-          unfolding writeRow writeRefusal firstOf
-          write-applying h = rw (long, lt-leb 128 item low, lt-leb 6 r there, eq-eqb (rowAt (m .txns .table) r .stage) 0 active, h)
-
-          past : m .turn .applying ≡ false → writeRefusal m r item ≡ lastThree (isOwn m r item) (heldByOther m r item) (isStale m r item) (isFull m r)
-          unfolding writeRefusal firstOf lastThree
-          past h = rw (long, lt-leb 128 item low, lt-leb 6 r there, eq-eqb (rowAt (m .txns .table) r .stage) 0 active, h)
-
-          pub write-active : m .turn .applying ≡ false → writeActive m r item value ≡ writeRow m r item value
-          unfolding writeRow writeActive
-          write-active h = rw (past h) (by-cases m _ _ _ _ _ _ _)
+-- what a refusal of `early_refusal` says
+pub write-refused : (n : ℕ) (m : Memory) (w o : Outcome) → (n ≡ 0 → ⊥) → w ≡ unless n m o → outcome (refused n) m ≡ w
+write-refused n m w o h e = rw (e, ne-eqb n 0 h)
 
 -- ---- at the row
 

@@ -1,25 +1,22 @@
-// A write, at a row: `at` is any number. The contract of `write_row` is one equation with the step at that row, of engine's `specs/Client.antt`, on every memory that has
-// the parts lent.
+// A write, at a row: `at` is any number. Its contract gives the reply and the memory after by `writeRow` of engine's `specs/Client.antt`, on every memory that has the parts
+// lent.
+ghost use Prim.Native.Nat.{_≤_, _<_};
 ghost use mathlib.Core.Path.{_≡_};
 ghost use mathlib.Core.List.{List};
-ghost use mathlib.Core.Bool.{_&&_};
-ghost use Prim.Native.Nat.{_<_};
-ghost use lib.Dec.{eqb};
+ghost use lib.IntN.{ℤ};
 ghost use lib.ListN.{length, set};
 ghost use Rattle.memory.specs.declared.Txn.{Txn};
 ghost use Rattle.memory.specs.Memory.{Memory, bump, withAborted};
 ghost use Rattle.memory.specs.Rows.{closed, rowAt, writeCount};
-ghost use Rattle.engine.specs.Calls.{outcome};
-ghost use Rattle.engine.specs.Calls.Answer.{wrote};
+ghost use Rattle.engine.specs.Calls.{unless};
 ghost use Rattle.engine.specs.Client.{writeRow};
-ghost use Rattle.call_client.specs.declared.Answered.{Answered};
-ghost use Rattle.call_client.specs.Lent.{plainAnswer, writeParts};
+ghost use Rattle.call_reply.specs.Parts.{writeParts};
+ghost use Rattle.call_reply.specs.Replies.{Gives, reply};
 ghost use Rattle.call_write.specs.Parts.{inserted, insertIn, writeActive};
-use call_client::RowChanged;
-use call_client::rows::changed;
 use call_client::rows::free;
-use call_client::rows::kept;
 use call_client::rows::row_at;
+use call_reply::Changed;
+use call_reply::Reply;
 use memory::Counts;
 use memory::Held;
 use memory::Turn;
@@ -32,19 +29,33 @@ use memory::rows::insert_item;
 use memory::rows::insert_value;
 use memory::rows::write_count;
 
+fn changed(number: u8, row: Txn, counts: Counts) -> Changed
+    ensures { λ r. ⌜ r ≡ record { reply = record { number = number; counts = counts }; row = row } ⌝ }
+{
+    Changed {
+        reply: Reply {
+            counts: counts,
+            number: number,
+        },
+        row: row,
+    }
+}
+
 // The row's transaction ends as aborted, and the write is answered 9.
-fn stale(counts: Counts) -> RowChanged
-    ensures { λ r. ⌜ r ≡ record { answer = Answered.Refused 9; row = closed; counts = withAborted counts (bump (counts .aborted)) } ⌝ }
+fn stale(counts: Counts) -> Changed
+    ensures { λ r. ⌜ r ≡ record { reply = record { number = 9; counts = withAborted counts (bump (counts .aborted)) }; row = closed } ⌝ }
 {
     let mut after = counts;
     after.aborted = bump(counts.aborted);
-    kept(9, free(), after)
+    changed(9, free(), after)
 }
 
 // A new item, in its place among the row's items.
 fn insert(t: Txn, items: &mut [u8], writes: &mut [i32], at: usize, item: u8, value: i32) -> Txn
     requires { ⌜ (length (now items) ≡ 48) × (length (now writes) ≡ 48) × (at < 6) × (writeCount t < 8) ⌝ }
-    ensures { λ r. ⌜ ((table : List Txn) → t ≡ rowAt table at → inserted (set table at r) (now (items .exit)) (now (writes .exit)) ≡ insertIn table (now (items .entry)) (now (writes .entry)) at item value) ⌝ }
+    ensures { λ r. ⌜ ((table : List Txn) → t ≡ rowAt table at →
+        inserted (set table at r) (now (items .exit)) (now (writes .exit))
+        ≡ insertIn table (now (items .entry)) (now (writes .entry)) at item value) ⌝ }
 {
     let n = write_count(t.writes);
     let from = 8 * at;
@@ -62,8 +73,8 @@ fn insert(t: Txn, items: &mut [u8], writes: &mut [i32], at: usize, item: u8, val
 
 // A write by the active transaction of a row.
 fn write_at(
-    table: [Txn; 6],
     at: usize,
+    rows: [Txn; 6],
     t: Txn,
     counts: Counts,
     items: &mut [u8],
@@ -71,46 +82,77 @@ fn write_at(
     stamps: &[u32],
     item: u8,
     value: i32,
-) -> RowChanged
+) -> Changed
     requires { ⌜ (length (now items) ≡ 48) × (length (now writes) ≡ 48) × (length (now stamps) ≡ 128) × (at < 6) × (item < 128) ⌝ }
-    ensures { λ r. ⌜ ((m : Memory) → t ≡ rowAt table at → outcome (plainAnswer wrote (r .answer)) (writeParts m (m .turn) (r .counts) (set table at (r .row)) (now (items .exit)) (now (writes .exit)) (now (stamps .entry))) ≡ writeActive (writeParts m (m .turn) counts table (now (items .entry)) (now (writes .entry)) (now (stamps .entry))) at item value) ⌝ }
+    ensures { λ r. ⌜ ((m : Memory) → t ≡ rowAt rows at →
+        Gives reply
+        (writeActive (writeParts m (m .turn) counts rows (now (items .entry)) (now (writes .entry)) (now (stamps .entry))) at item value)
+        (r .reply)
+        (writeParts m (m .turn) (r .reply .counts) (set rows at (r .row)) (now (items .exit)) (now (writes .exit)) (now (stamps .entry)))) ⌝ }
 {
     let n = write_count(t.writes);
     let from = 8 * at;
     let k = index_of(&items[from..from + n], item);
     if k < n {
         writes[from + k] = value;
-        return changed(t, counts);
+        return changed(0, t, counts);
     }
-    if let Held::By(_) = holder(table, &*items, at, item) {
-        return kept(8, t, counts);
+    if let Held::By(_) = holder(rows, &*items, at, item) {
+        return changed(8, t, counts);
     }
     if t.snapshot < stamps[item as usize] {
         return stale(counts);
     }
     if n == 8 {
-        return kept(10, t, counts);
+        return changed(10, t, counts);
     }
-    let row = insert(t, &mut *items, &mut *writes, at, item, value);
-    changed(row, counts)
+    let row = insert(t, items, writes, at, item, value);
+    changed(0, row, counts)
 }
 
-fn writing_fits(items: &[u8], writes: &[i32], stamps: &[u32]) -> bool
-    ensures { λ r. ⌜ r ≡ (eqb (length (now (items .entry))) 48 && eqb (length (now (writes .entry))) 48 && eqb (length (now (stamps .entry))) 128) ⌝ }
-{
-    if items.len() != 48 {
-        return false;
-    }
-    if writes.len() != 48 {
-        return false;
-    }
-    stamps.len() == 128
-}
-
-// Records the value and locks the item.
-pub fn write_row(
-    table: [Txn; 6],
+// The first of 1, 2, 3, 4 and 7 that a write is refused by, 0 where there is none, from the lengths of the lent parts: these come before the row's own writes are looked at.
+fn early_refusal(
     at: usize,
+    stage: u32,
+    applying: u8,
+    items: usize,
+    writes: usize,
+    stamps: usize,
+    item: u32,
+) -> u8
+    ensures { λ r. ⌜ ((m : Memory) (value : ℤ) → stage ≡ rowAt (m .txns .table) at .stage → applying ≡ m .turn .applying →
+        items ≡ length (m .txns .items) → writes ≡ length (m .txns .writes) → stamps ≡ length (m .store .stamps) →
+        writeRow m at item value ≡ unless r m (writeActive m at item value))
+        × (r ≡ 0 → (items ≡ 48) × (writes ≡ 48) × (stamps ≡ 128) × (at < 6) × (item < 128)) ⌝ }
+{
+    if items != 48 {
+        return 1;
+    }
+    if writes != 48 {
+        return 1;
+    }
+    if stamps != 128 {
+        return 1;
+    }
+    if 128 <= item {
+        return 2;
+    }
+    if 6 <= at {
+        return 3;
+    }
+    if stage != 0 {
+        return 4;
+    }
+    if applying != 0 {
+        return 7;
+    }
+    0
+}
+
+// Records the value and locks the item. The rows are for the transaction's record and for the locks of others; past the last row the record is a free one.
+pub fn write(
+    at: usize,
+    rows: [Txn; 6],
     turn: Turn,
     counts: Counts,
     items: &mut [u8],
@@ -118,32 +160,34 @@ pub fn write_row(
     stamps: &[u32],
     item: u32,
     value: i32,
-) -> RowChanged
-    ensures { λ r. ⌜ ((m : Memory) → outcome (plainAnswer wrote (r .answer)) (writeParts m turn (r .counts) (set table at (r .row)) (now (items .exit)) (now (writes .exit)) (now (stamps .entry))) ≡ writeRow (writeParts m turn counts table (now (items .entry)) (now (writes .entry)) (now (stamps .entry))) at item value) ⌝ }
+) -> Changed
+    ensures { λ r. ⌜ ((m : Memory) →
+        Gives reply
+        (writeRow (writeParts m turn counts rows (now (items .entry)) (now (writes .entry)) (now (stamps .entry))) at item value)
+        (r .reply)
+        (writeParts m turn (r .reply .counts) (set rows at (r .row)) (now (items .exit)) (now (writes .exit)) (now (stamps .entry))))
+        × (6 ≤ at → r .row ≡ closed) ⌝ }
 {
-    let t = row_at(table, at);
-    if !writing_fits(&*items, &*writes, stamps) {
-        return kept(1, t, counts);
-    }
-    if 128 <= item {
-        return kept(2, t, counts);
-    }
-    if 6 <= at {
-        return kept(3, t, counts);
-    }
-    if t.stage != 0 {
-        return kept(4, t, counts);
-    }
-    if turn.applying != 0 {
-        return kept(7, t, counts);
+    let t = row_at(rows, at);
+    let number = early_refusal(
+        at,
+        t.stage,
+        turn.applying,
+        items.len(),
+        writes.len(),
+        stamps.len(),
+        item,
+    );
+    if number != 0 {
+        return changed(number, t, counts);
     }
     write_at(
-        table,
         at,
+        rows,
         t,
         counts,
-        &mut *items,
-        &mut *writes,
+        items,
+        writes,
         stamps,
         item as u8,
         value,

@@ -18,23 +18,23 @@ returns-2 c =
     let a = o .before .before .before .before .args in
     hit-sent (writesetAt (a .block .now) (a .j) .entries) (a .items .now) (a .r) (a .t) (o .if1 .left) (omega arith)
 
-mul-at-most : tie.Need-mul-at-most
-mul-at-most c = search needs
+mul-lesser : tie.Need-mul-lesser
+mul-lesser c = search needs
 
-at-most-requires : tie.Need-at-most-requires
-at-most-requires c κs = search needs
+lesser-requires : tie.Need-lesser-requires
+lesser-requires c κs = search needs
 
-mul-at-most-2 : tie.Need-mul-at-most-2
-mul-at-most-2 c = search needs
+mul-lesser-2 : tie.Need-mul-lesser-2
+mul-lesser-2 c = search needs
 
 write-count-requires : tie.Need-write-count-requires
 write-count-requires c κs = search needs
 
-add-at-most : tie.Need-add-at-most
-add-at-most c = search needs
+add-lesser : tie.Need-add-lesser
+add-lesser c = search needs
 
-at-most-requires-2 : tie.Need-at-most-requires-2
-at-most-requires-2 c κs = search needs
+lesser-requires-2 : tie.Need-lesser-requires-2
+lesser-requires-2 c κs = search needs
 
 sub-shares-item : tie.Need-sub-shares-item
 sub-shares-item c = search needs
@@ -56,8 +56,8 @@ returns-3 c =
     let o = m .before .before .before in
     let a = o .before .before .before .before .args in
     c .shares-item .ensures
-    ∙ hit-shares (writesetAt (a .block .now) (a .j) .entries) (a .items .now) (a .r) (a .t) (o .if1 .left) (omega arith) (w .write-count .result) (m .at-most .result) (p .at-most2 .result)
-    (w .write-count .ensures) (m .at-most .ensures) (p .at-most2 .ensures)
+    ∙ hit-shares (writesetAt (a .block .now) (a .j) .entries) (a .items .now) (a .r) (a .t) (o .if1 .left) (omega arith) (w .write-count .result) (m .lesser .result) (p .lesser2 .result)
+    (w .write-count .ensures) (m .lesser .ensures) (p .lesser2 .ensures)
 
 pub is-hit-spec : {M : Type 1} → statement M
 is-hit-spec =
@@ -65,12 +65,12 @@ is-hit-spec =
     (tie.spec
     returns
     returns-2
-    mul-at-most
-    at-most-requires
-    mul-at-most-2
+    mul-lesser
+    lesser-requires
+    mul-lesser-2
     write-count-requires
-    add-at-most
-    at-most-requires-2
+    add-lesser
+    lesser-requires-2
     sub-shares-item
     part-shares-item-start
     part-shares-item-end

@@ -17,11 +17,11 @@ Inv-loop queue₀ tickets count n kept₀ i₀ queue kept i = Kept (take n ticke
 abbrev μ-loop : tie.MeasureT-loop
 μ-loop queue₀ tickets count n kept₀ i₀ queue kept i = length queue₀ - i
 
-at-most-requires : tie.Need-at-most-requires Inv-loop μ-loop
-at-most-requires c κs = search needs
+lesser-requires : tie.Need-lesser-requires Inv-loop μ-loop
+lesser-requires c κs = search needs
 
 loop-holds : tie.Need-loop-holds Inv-loop μ-loop
-loop-holds c = kept-none (take (c .at-most .result) (c .before .before .args .tickets)) (c .before .before .args .queue .now)
+loop-holds c = kept-none (take (c .lesser .result) (c .before .before .args .tickets)) (c .before .before .args .queue .now)
 
 mul-ticket : tie.Need-mul-ticket Inv-loop μ-loop
 mul-ticket c = search needs
@@ -52,7 +52,7 @@ loop-again c =
     let m = c .before in
     let b = m .before .before .before in
     let a = b .before .before .before .args in
-    let gone = take (b .before .at-most .result) (a .tickets) in
+    let gone = take (b .before .lesser .result) (a .tickets) in
     ⊎-elim
     (λ w. rw (w .1, w .2)
     (kept-stays gone (a .queue .now) (b .loop .queue) (b .loop .kept) (b .loop .i) (omega arith) (b .loop .inv) (sym (m .among .ensures) ∙ not-true _ (w .0 .taken))))
@@ -83,8 +83,8 @@ returns c =
     let p = c .before .before in
     let b = p .before .before .before in
     let a = b .before .before .before .args in
-    rw (← b .before .at-most .ensures)
-    (kept-end (take (b .before .at-most .result) (a .tickets)) (a .queue .now) (b .loop .queue) (b .loop .kept) (b .loop .i) (omega arith) (b .loop .inv)
+    rw (← b .before .lesser .ensures)
+    (kept-end (take (b .before .lesser .result) (a .tickets)) (a .queue .now) (b .loop .queue) (b .loop .kept) (b .loop .i) (omega arith) (b .loop .inv)
     (p .clear-numbers .last .0) (p .clear-numbers .ensures ∙ ap (λ (k : ℕ). replicate k 0) (p .before .clear-numbers-arg .given .2)))
 
 pub queue-without-spec : {M : Type 1} → statement M
@@ -93,7 +93,7 @@ queue-without-spec =
     (tie.spec
     Inv-loop
     μ-loop
-    at-most-requires
+    lesser-requires
     loop-holds
     mul-ticket
     slice-read-ticket

@@ -3,7 +3,7 @@ use Prim.Native.Nat.{_≤_}
 use mathlib.Core.Path.{refl, _∙_}
 use native.Mathlib.Omega.{arith}
 use Rattle.memory.proofs.RowLaws.{index-within}
-use Rattle.call_send.specs.Lent.{sendParts}
+use Rattle.call_reply.specs.Parts.{sendParts}
 use Rattle.call_send.proofs.BlockLaws.{message-put}
 use borrow.Author.Needs.{needs}
 use Rattle.call_send.proofs.put_block.Statement.{statement}
@@ -67,7 +67,7 @@ returns c = λ m.
     let e = z .before .before .before in
     let s = e .before .before .before .before in
     let a = s .args in
-    message-put (sendParts m (a .turn) (a .counts) (a .table) (a .queue .now) (a .items .now) (a .writes .now) (m .blocks .outbox))
+    message-put (sendParts m (a .turn) (a .counts) (a .rows) (a .queue .now) (a .items .now) (a .writes .now) (m .blocks .outbox))
     (e .queue-end .result) (e .queue-end .ensures) (few e) 512 (h .write-header .result) (w .write-check .result)
     (z .copy-block .last .1 .0) _ (h .write-header .last .0) (p .put-writesets .last .0) (w .write-check .last .0)
     refl (z .copy-block .ensures) (g .write-header-arg .given .2) (b .block2 .given .0) (rw (f .header-for .ensures) at (h .write-header .ensures))

@@ -12,10 +12,10 @@ use Rattle.call_send.proofs.send_rows.Statement.{statement}
 use Rattle.call_send.proofs.send_rows.Tie as tie
 
 abbrev Inv-loop : tie.InvT-loop
-Inv-loop table rows₀ i₀ rows i = (i ≤ 6) × (rows ≡ map sendRow (take i table) ++ drop i table)
+Inv-loop rows after₀ i₀ after i = (i ≤ 6) × (after ≡ map sendRow (take i rows) ++ drop i rows)
 
 abbrev μ-loop : tie.MeasureT-loop
-μ-loop table rows₀ i₀ rows i = 6 - i
+μ-loop rows after₀ i₀ after i = 6 - i
 
 loop-holds : tie.Need-loop-holds Inv-loop μ-loop
 loop-holds c = (omega arith, refl)
@@ -29,11 +29,11 @@ array-copy-out-send-row c = search needs
 send-row-requires : tie.Need-send-row-requires Inv-loop μ-loop
 send-row-requires c κs = search needs
 
-mul-rows : tie.Need-mul-rows Inv-loop μ-loop
-mul-rows c = search needs
+mul-after : tie.Need-mul-after Inv-loop μ-loop
+mul-after c = search needs
 
-array-set-from-rows : tie.Need-array-set-from-rows Inv-loop μ-loop
-array-set-from-rows c = search needs
+array-set-from-after : tie.Need-array-set-from-after Inv-loop μ-loop
+array-set-from-after c = search needs
 
 add-i : tie.Need-add-i Inv-loop μ-loop
 add-i c = search needs
@@ -66,8 +66,8 @@ send-rows-spec =
     mul-send-row
     array-copy-out-send-row
     send-row-requires
-    mul-rows
-    array-set-from-rows
+    mul-after
+    array-set-from-after
     add-i
     loop-less
     loop-again

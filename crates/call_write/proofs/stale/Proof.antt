@@ -9,11 +9,11 @@ bump-requires c κs = search needs
 free-requires : tie.Need-free-requires
 free-requires c κs = search needs
 
-kept-requires : tie.Need-kept-requires
-kept-requires c κs = search needs
+changed-requires : tie.Need-changed-requires
+changed-requires c κs = search needs
 
 returns : tie.Need-returns
-returns c = rw (c .kept .ensures, c .before .free .ensures, c .before .before .bump .ensures)
+returns c = rw (c .changed .ensures, c .before .free .ensures, c .before .before .bump .ensures)
 
 pub stale-spec : {M : Type 1} → statement M
-stale-spec = tie.close (tie.spec bump-requires free-requires kept-requires returns)
+stale-spec = tie.close (tie.spec bump-requires free-requires changed-requires returns)

@@ -3,6 +3,8 @@ use mir.Facts.{toZ-ofZ}
 use Rattle.engine.specs.Client.{rewriteAt, staleAt}
 use Rattle.call_write.specs.Parts.{inserted}
 use lib.ListN.{set}
+use Rattle.call_reply.specs.Replies.{reply}
+use Rattle.call_reply.proofs.ReplyLaws.{gives}
 use Rattle.call_client.proofs.RowLaws.{same-row}
 use Rattle.call_write.proofs.WriteLaws.{write-mine, write-held, write-stale, write-full, write-new}
 use borrow.Author.Needs.{needs}
@@ -53,8 +55,8 @@ unfolding rewriteAt
 returns c = λ m here.
     let s = c .before .before .before .before .before .before .before .before in
     let a = s .args in
-    rw (c .changed .ensures, same-row (a .table) (a .at) (a .t) here, toZ-ofZ (s .fits .value))
-    (write-mine _ (a .at) (a .item) (a .value) (c .before .before .before .before .before .write-count .result) (c .before .before .index-of .result) (rw here at (c .before .before .before .before .before .write-count .ensures)) (c .before .before .index-of .ensures) (c .before .if1 .taken))
+    rw (c .changed .ensures, same-row (a .rows) (a .at) (a .t) here, toZ-ofZ (s .fits .value))
+    (gives reply (write-mine _ (a .at) (a .item) (a .value) (c .before .before .before .before .before .write-count .result) (c .before .before .index-of .result) (rw here at (c .before .before .before .before .before .write-count .ensures)) (c .before .before .index-of .ensures) (c .before .if1 .taken)))
 
 holder-requires : tie.Need-holder-requires
 holder-requires c κs = search needs
@@ -62,8 +64,8 @@ holder-requires c κs = search needs
 enum-told : tie.Need-enum-told
 enum-told c = search needs
 
-kept-requires : tie.Need-kept-requires
-kept-requires c κs = search needs
+changed-requires-2 : tie.Need-changed-requires-2
+changed-requires-2 c κs = search needs
 
 same-length-3 : tie.Need-same-length-3
 same-length-3 c = search needs
@@ -72,8 +74,8 @@ returns-2 : tie.Need-returns-2
 returns-2 c = λ m here.
     let s = c .before .before .before .before .before .before .before .before .before .before .before .before in
     let a = s .args in
-    rw (c .kept .ensures, same-row (a .table) (a .at) (a .t) here)
-    (write-held _ (a .at) (a .item) (a .value) (c .before .before .before .before .before .before .before .before .before .write-count .result) (c .before .before .before .before .before .before .index-of .result) (rw here at (c .before .before .before .before .before .before .before .before .before .write-count .ensures)) (c .before .before .before .before .before .before .index-of .ensures) (c .before .before .before .before .before .if1 .left) (c .before .before .before .holder .result) (c .before .before .before .holder .ensures) _ (c .before .enum-told .given .1))
+    rw (c .changed2 .ensures, same-row (a .rows) (a .at) (a .t) here)
+    (gives reply (write-held _ (a .at) (a .item) (a .value) (c .before .before .before .before .before .before .before .before .before .write-count .result) (c .before .before .before .before .before .before .index-of .result) (rw here at (c .before .before .before .before .before .before .before .before .before .write-count .ensures)) (c .before .before .before .before .before .before .index-of .ensures) (c .before .before .before .before .before .if1 .left) (c .before .before .before .holder .result) (c .before .before .before .holder .ensures) _ (c .before .enum-told .given .1)))
 
 enum-told-2 : tie.Need-enum-told-2
 enum-told-2 c = search needs
@@ -96,10 +98,10 @@ returns-3 c = λ m here.
     let s = c .before .before .before .before .before .before .before .before .before .before .before .before .before .before .before in
     let a = s .args in
     rw (c .stale .ensures)
-    (write-stale _ (a .at) (a .item) (a .value) (c .before .before .before .before .before .before .before .before .before .before .before .before .write-count .result) (c .before .before .before .before .before .before .before .before .before .index-of .result) (rw here at (c .before .before .before .before .before .before .before .before .before .before .before .before .write-count .ensures)) (c .before .before .before .before .before .before .before .before .before .index-of .ensures) (c .before .before .before .before .before .before .before .before .if1 .left) (c .before .before .before .before .before .before .holder .result) (c .before .before .before .before .before .before .holder .ensures) (c .before .before .before .before .enum-told2 .given .1) (rw here at (c .before .if2 .taken)))
+    (gives reply (write-stale _ (a .at) (a .item) (a .value) (c .before .before .before .before .before .before .before .before .before .before .before .before .write-count .result) (c .before .before .before .before .before .before .before .before .before .index-of .result) (rw here at (c .before .before .before .before .before .before .before .before .before .before .before .before .write-count .ensures)) (c .before .before .before .before .before .before .before .before .before .index-of .ensures) (c .before .before .before .before .before .before .before .before .if1 .left) (c .before .before .before .before .before .before .holder .result) (c .before .before .before .before .before .before .holder .ensures) (c .before .before .before .before .enum-told2 .given .1) (rw here at (c .before .if2 .taken))))
 
-kept-requires-2 : tie.Need-kept-requires-2
-kept-requires-2 c κs = search needs
+changed-requires-3 : tie.Need-changed-requires-3
+changed-requires-3 c κs = search needs
 
 same-length-5 : tie.Need-same-length-5
 same-length-5 c = search needs
@@ -108,14 +110,14 @@ returns-4 : tie.Need-returns-4
 returns-4 c = λ m here.
     let s = c .before .before .before .before .before .before .before .before .before .before .before .before .before .before .before .before in
     let a = s .args in
-    rw (c .kept2 .ensures, same-row (a .table) (a .at) (a .t) here)
-    (write-full _ (a .at) (a .item) (a .value) (c .before .before .before .before .before .before .before .before .before .before .before .before .before .write-count .result) (c .before .before .before .before .before .before .before .before .before .before .index-of .result) (rw here at (c .before .before .before .before .before .before .before .before .before .before .before .before .before .write-count .ensures)) (c .before .before .before .before .before .before .before .before .before .before .index-of .ensures) (c .before .before .before .before .before .before .before .before .before .if1 .left) (c .before .before .before .before .before .before .before .holder .result) (c .before .before .before .before .before .before .before .holder .ensures) (c .before .before .before .before .before .enum-told2 .given .1) (rw here at (c .before .before .if2 .left)) (c .before .if3 .taken))
+    rw (c .changed3 .ensures, same-row (a .rows) (a .at) (a .t) here)
+    (gives reply (write-full _ (a .at) (a .item) (a .value) (c .before .before .before .before .before .before .before .before .before .before .before .before .before .write-count .result) (c .before .before .before .before .before .before .before .before .before .before .index-of .result) (rw here at (c .before .before .before .before .before .before .before .before .before .before .before .before .before .write-count .ensures)) (c .before .before .before .before .before .before .before .before .before .before .index-of .ensures) (c .before .before .before .before .before .before .before .before .before .if1 .left) (c .before .before .before .before .before .before .before .holder .result) (c .before .before .before .before .before .before .before .holder .ensures) (c .before .before .before .before .before .enum-told2 .given .1) (rw here at (c .before .before .if2 .left)) (c .before .if3 .taken)))
 
 insert-requires : tie.Need-insert-requires
 insert-requires c κs = search needs
 
-changed-requires-2 : tie.Need-changed-requires-2
-changed-requires-2 c κs = search needs
+changed-requires-4 : tie.Need-changed-requires-4
+changed-requires-4 c κs = search needs
 
 same-length-6 : tie.Need-same-length-6
 same-length-6 c = search needs
@@ -128,9 +130,10 @@ returns-5 c = λ m here.
     let s = c .before .before .before .before .before .before .before .before .before .before .before .before .before .before .before .before .before .before .before .before .before .before in
     let a = s .args in
     let i = c .before .before .before .before .insert in
-    rw (c .changed2 .ensures)
+    rw (c .changed4 .ensures)
+    (gives reply
     (write-new _ (a .at) (a .item) (a .value) (c .before .before .before .before .before .before .before .before .before .before .before .before .before .before .before .before .before .before .before .write-count .result) (c .before .before .before .before .before .before .before .before .before .before .before .before .before .before .before .before .index-of .result) (rw here at (c .before .before .before .before .before .before .before .before .before .before .before .before .before .before .before .before .before .before .before .write-count .ensures)) (c .before .before .before .before .before .before .before .before .before .before .before .before .before .before .before .before .index-of .ensures) (c .before .before .before .before .before .before .before .before .before .before .before .before .before .before .before .if1 .left) (c .before .before .before .before .before .before .before .before .before .before .before .before .before .holder .result) (c .before .before .before .before .before .before .before .before .before .before .before .before .before .holder .ensures) (c .before .before .before .before .before .before .before .before .before .before .before .enum-told2 .given .1) (rw here at (c .before .before .before .before .before .before .before .before .if2 .left)) (c .before .before .before .before .before .before .before .if3 .left)
-    (inserted (set (a .table) (a .at) (i .result)) (i .last .1 .0) (i .last .1 .1 .0)) (rw (toZ-ofZ (s .fits .value)) at (i .ensures (a .table) here)))
+    (inserted (set (a .rows) (a .at) (i .result)) (i .last .1 .0) (i .last .1 .1 .0)) (rw (toZ-ofZ (s .fits .value)) at (i .ensures (a .rows) here))))
 
 pub write-at-spec : {M : Type 1} → statement M
 write-at-spec =
@@ -152,7 +155,7 @@ write-at-spec =
     returns
     holder-requires
     enum-told
-    kept-requires
+    changed-requires-2
     same-length-3
     returns-2
     enum-told-2
@@ -161,11 +164,11 @@ write-at-spec =
     stale-requires
     same-length-4
     returns-3
-    kept-requires-2
+    changed-requires-3
     same-length-5
     returns-4
     insert-requires
-    changed-requires-2
+    changed-requires-4
     same-length-6
     same-length-7
     returns-5)
