@@ -1,0 +1,57 @@
+-- `play::ask` meets its contract.
+use mathlib.Core.Path.{refl}
+use native.Mathlib.Omega.{arith}
+use borrow.Author.Needs.{needs}
+use Rattle.replay.specs.Effects.{memoryOf}
+use Rattle.replay.proofs.EffectLaws.{plays-numbers, ask-effect}
+use Rattle.replay.proofs.play.ask.Statement.{statement}
+use Rattle.replay.proofs.play.ask.Tie as tie
+
+row-of-requires : tie.Need-row-of-requires
+row-of-requires c κs = search needs
+
+row-at-requires : tie.Need-row-at-requires
+row-at-requires c κs = search needs
+
+slice-aggregate-ask : tie.Need-slice-aggregate-ask
+slice-aggregate-ask c = search needs
+
+ask-requires : tie.Need-ask-requires
+ask-requires c κs = search needs
+
+with-row-requires : tie.Need-with-row-requires
+with-row-requires c κs = search needs
+
+accepted-requires : tie.Need-accepted-requires
+accepted-requires c κs = search needs
+
+flag-requires : tie.Need-flag-requires
+flag-requires c κs = search needs
+
+with-numbers-requires : tie.Need-with-numbers-requires
+with-numbers-requires c κs = search needs
+
+returns : tie.Need-returns
+returns c =
+    λ size lent.
+    let s = c .before .before .before .before .before .before .before .before .before .before .before .before .before .before .before .args .replica in
+    let g = c .before .before .before .before .before .before .before .before .ask .ensures (memoryOf size s) (s .rows) (c .before .before .before .before .before .before .before .before .before .before .row-at .ensures) in
+    plays-numbers
+    (c .with-numbers .ensures)
+    (rw (c .before .before .accepted .ensures .0, c .before .flag .ensures, c .before .before .before .with-row .ensures, ← c .before .before .before .before .before .before .before .before .before .before .before .row-of .ensures) (ask-effect (memoryOf size s) lent _ (c .before .before .before .before .before .before .before .before .before .before .before .row-of .result) g))
+    refl
+    (omega (arith, c .before .before .accepted .ensures .1))
+
+pub ask-spec : {M : Type 1} → statement M
+ask-spec =
+    tie.close
+    (tie.spec
+    row-of-requires
+    row-at-requires
+    slice-aggregate-ask
+    ask-requires
+    with-row-requires
+    accepted-requires
+    flag-requires
+    with-numbers-requires
+    returns)
