@@ -297,9 +297,9 @@ fn make(replica: Replica, n: u32, own: u32, value: i32) -> Played
     let mut places = replica.places;
     let mut outbox = replica.outbox;
     let made = call_make::make(
+        rows,
         turn,
         counts,
-        rows,
         n,
         own,
         &start,
