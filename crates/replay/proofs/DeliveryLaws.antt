@@ -159,6 +159,11 @@ no-delivery bytes e = rw e
 pub a-delivery : {known : Bool} {front bytes : List ℕ} {n : ℕ} → known ≡ true → Filled front bytes n → _≡_ {A = Delivery} (record { known = true; count = n; bytes = bytes }) (delivery known front)
 a-delivery e f = rw (e, filled-all f, f .count)
 
+pub delivery-short : (d : Delivery) (known : Bool) (bytes : List ℕ) → d ≡ delivery known bytes → d .count ≤ length (d .bytes)
+unfolding padded
+delivery-short d true bytes e = rw e (omega (arith, length-append bytes (replicate (520 - length bytes) 0)))
+delivery-short d false bytes e = rw e (omega arith)
+
 -- ---- digits read: the first i bytes are those that the first 2·i digits write, and what the other digits write is to come
 
 pub record Decoded (d bytes : List ℕ) (i : ℕ) : Type 0 where

@@ -1,7 +1,8 @@
 // Plays a list of calls at up to six replicas, one call to a line, and prints each answer.
-ghost use Prim.Native.Nat.{_≤_};
+ghost use Prim.Native.Nat.{_+_, _≤_, _<_};
 ghost use mathlib.Core.Path.{_≡_};
-ghost use lib.ListN.{length};
+ghost use lib.ListN.{length, take};
+ghost use Rattle.replay.specs.Text.{answerText, Holds};
 use libc::STDERR_FILENO;
 use libc::STDIN_FILENO;
 use libc::STDOUT_FILENO;
@@ -84,6 +85,14 @@ struct Answered {
     replica: Replica,
     sent: u64,
     length: usize,
+}
+
+// How many bytes of answers are held, to how many lines there is an answer, and how many of these are written. `failed` where the system could not write.
+struct Output {
+    held: usize,
+    answered: u64,
+    written: u64,
+    failed: bool,
 }
 
 // The source with a byte to read, unless the input has ended.
@@ -191,14 +200,35 @@ fn nobody() -> Replica {
     }
 }
 
-// Whether the call can be made: at a replica that was made, unless it makes one.
-fn is_ready(call: Call, replicas: u8) -> bool {
+// Whether the call can be made: at the place of a replica that was made, unless it makes one.
+fn is_ready(k: usize, call: Call, replicas: u8) -> bool {
+    if 6 <= k {
+        return false;
+    }
     let letter = call.letter;
     match letter {
         0 => false,
         b'M' => true,
         _ => replicas != 0,
     }
+}
+
+// What the call gave, put as a line.
+fn put_played(played: Played, block: &[u8], out: &mut [u8]) -> usize
+    requires { ⌜ (played .count ≤ 10) × (played .shown ≤ 128) ⌝ }
+    ensures { λ r. ⌜ Holds (now (out .entry)) (answerText (played .number) (take (played .count) (played .numbers)) (take (played .shown) (played .values)) (now (block .entry))) (now (out .exit)) r ⌝ }
+{
+    let numbers = played.numbers;
+    let count = played.count;
+    let values = played.values;
+    let shown = played.shown;
+    print::put_answer(
+        &mut *out,
+        played.number,
+        &numbers[..count],
+        &values[..shown],
+        block,
+    )
 }
 
 // How many bytes of a block the answer shows: those of a block that was sent.
@@ -211,9 +241,50 @@ fn block_shown(letter: u8, number: u8) -> usize
     if number == 0 { 512 } else { 0 }
 }
 
-// The line's call at its replica, and the answer put. `kept` are the blocks sent last.
-fn answer(
+// The call at its replica, and the answer put. The block goes behind those sent before it.
+fn play_at(
     call: Call,
+    replica: Replica,
+    bytes: &[u8],
+    sent: u64,
+    kept: &mut [u8],
+    out: &mut [u8],
+) -> Answered
+    requires { ⌜ length (now kept) ≡ 32768 ⌝ }
+    ensures { λ r. ⌜ r .length ≤ length (now (out .exit)) ⌝ }
+{
+    let at = kept::start_of(sent);
+    let played = play::run(call, replica, bytes, &mut kept[at..at + 512]);
+    let after = played.replica;
+    let end = at + block_shown(call.letter, played.number);
+    let length = put_played(played, &kept[at..end], &mut *out);
+    let next = if at < end {
+        std::num::wrapping_add_u64(sent, 1)
+    } else {
+        sent
+    };
+    Answered {
+        replica: after,
+        sent: next,
+        length: length,
+    }
+}
+
+// The line of what is no call: the replica and the blocks stay.
+fn unknown(replica: Replica, sent: u64, out: &mut [u8]) -> Answered
+    ensures { λ r. ⌜ r .length ≤ length (now (out .exit)) ⌝ }
+{
+    let length = print::put_unknown(&mut *out);
+    Answered {
+        replica: replica,
+        sent: sent,
+        length: length,
+    }
+}
+
+// A line at its replica, the one at place k. `kept` are the blocks sent last.
+fn answer(
+    k: usize,
     replica: Replica,
     line: &[u8],
     sent: u64,
@@ -223,49 +294,19 @@ fn answer(
     requires { ⌜ length (now kept) ≡ 32768 ⌝ }
     ensures { λ r. ⌜ r .length ≤ length (now (out .exit)) ⌝ }
 {
+    let call = parse::call_of(line);
     let counts = replica.counts;
-    if !is_ready(call, counts.replicas) {
-        return Answered {
-            replica: replica,
-            sent: sent,
-            length: print::put_unknown(&mut *out),
-        };
+    if !is_ready(k, call, counts.replicas) {
+        return unknown(replica, sent, &mut *out);
     }
     let from = kept::start_of(call.first as u64);
     let delivery = kept::delivered(call, line, sent, &kept[from..from + 512]);
     if !delivery.known {
-        return Answered {
-            replica: replica,
-            sent: sent,
-            length: print::put_unknown(&mut *out),
-        };
+        return unknown(replica, sent, &mut *out);
     }
     let bytes = delivery.bytes;
     let n = delivery.count;
-    let at = kept::start_of(sent);
-    let played = play::run(call, replica, &bytes[..n], &mut kept[at..at + 512]);
-    let after = played.replica;
-    let numbers = played.numbers;
-    let count = played.count;
-    let values = played.values;
-    let shown = played.shown;
-    let end = at + block_shown(call.letter, played.number);
-    let length = print::put_answer(
-        &mut *out,
-        played.number,
-        &numbers[..count],
-        &values[..shown],
-        &kept[at..end],
-    );
-    Answered {
-        replica: after,
-        sent: if at < end {
-            std::num::wrapping_add_u64(sent, 1)
-        } else {
-            sent
-        },
-        length: length,
-    }
+    play_at(call, replica, &bytes[..n], sent, &mut *kept, &mut *out)
 }
 
 // One line on standard error: what failed, and how many lines were answered before.
@@ -275,24 +316,75 @@ fn complain(what: &[u8], lines: u64) {
     io::write_all(STDERR_FILENO, b"\n");
 }
 
-// Writes answers; the first `lines` are written already.
-fn write(text: &[u8], lines: u64) -> bool {
-    if io::write_all(STDOUT_FILENO, text) {
-        return true;
+// The answers held, written.
+fn written(output: Output, out: &[u8]) -> Output
+    requires { ⌜ output .held ≤ length (now out) ⌝ }
+    ensures { λ r. ⌜ r .held ≡ 0 ⌝ }
+{
+    let held = output.held;
+    let done = io::write_all(STDOUT_FILENO, &out[..held]);
+    if !done {
+        complain(
+            b"replay: cannot write standard output; lines answered: ",
+            output.written,
+        );
     }
-    complain(
-        b"replay: cannot write standard output; lines answered: ",
-        lines,
-    );
-    false
+    Output {
+        held: 0,
+        answered: output.answered,
+        written: output.answered,
+        failed: !done,
+    }
 }
 
-// Whether the answers are to be written: before more input is waited for, and where there is no room for another line.
-fn must_write(source: Source, held: usize) -> bool {
+// The answers are written before more input is waited for, and where there may be no room for another line.
+fn with_room(output: Output, source: Source, out: &[u8]) -> Output
+    requires { ⌜ output .held ≤ length (now out) ⌝ }
+    ensures { λ r. ⌜ r .held ≤ length (now (out .entry)) ⌝ }
+{
     if source.end <= source.at {
-        return true;
+        return written(output, out);
     }
-    61440 < held
+    if 61440 < output.held {
+        return written(output, out);
+    }
+    output
+}
+
+// The input has ended, or could not be read.
+fn finish(output: Output, failed: bool, out: &[u8])
+    requires { ⌜ output .held ≤ length (now out) ⌝ }
+{
+    let last = written(output, out);
+    if last.failed {
+        return;
+    }
+    if failed {
+        complain(
+            b"replay: cannot read standard input; lines answered: ",
+            output.answered,
+        );
+    }
+}
+
+// With the answer to one line more.
+fn with_line(output: Output, length: usize) -> Output
+    requires { ⌜ output .held + length ≤ 65536 ⌝ }
+    ensures { λ r. ⌜ r .held ≡ output .held + length ⌝ }
+{
+    Output {
+        held: output.held + length,
+        answered: std::num::wrapping_add_u64(output.answered, 1),
+        written: output.written,
+        failed: false,
+    }
+}
+
+// One of the six: any for what names none.
+fn at_most_five(k: usize) -> usize
+    ensures { λ r. ⌜ r < 6 ⌝ }
+{
+    if k < 6 { k } else { 5 }
 }
 
 // Every line of the input, in its order.
@@ -308,46 +400,35 @@ fn main() {
         end: 0,
         failed: false,
     };
+    let mut output = Output {
+        held: 0,
+        answered: 0,
+        written: 0,
+        failed: false,
+    };
     let mut sent: u64 = 0;
-    let mut held: usize = 0;
-    let mut answered: u64 = 0;
-    let mut written: u64 = 0;
     let mut turns = u64::MAX;
     while turns > 0 {
-        if must_write(source, held) {
-            if !write(&out[..held], written) {
-                return;
-            }
-            held = 0;
-            written = answered;
+        output = with_room(output, source, &out);
+        if output.failed {
+            return;
         }
         let read = next_line(source, &mut buffer, &mut line);
         source = read.source;
         if read.ended {
-            if write(&out[..held], written) {
-                if source.failed {
-                    complain(
-                        b"replay: cannot read standard input; lines answered: ",
-                        answered,
-                    );
-                }
-            }
+            finish(output, source.failed, &out);
             return;
         }
         let n = read.length;
         let k = parse::replica_named(&line[..n]);
-        if k < 6 {
-            let call = parse::call_of(&line[..n]);
-            let replica = replicas[k];
-            let next = answer(call, replica, &line[..n], sent, &mut kept, &mut out[held..]);
-            let after = next.replica;
-            replicas[k] = after;
-            sent = next.sent;
-            held += next.length;
-        } else {
-            held += print::put_unknown(&mut out[held..]);
-        }
-        answered = std::num::wrapping_add_u64(answered, 1);
+        let at = at_most_five(k);
+        let replica = replicas[at];
+        let held = output.held;
+        let next = answer(k, replica, &line[..n], sent, &mut kept, &mut out[held..]);
+        let after = next.replica;
+        replicas[at] = after;
+        sent = next.sent;
+        output = with_line(output, next.length);
         turns -= 1;
     }
 }

@@ -1,218 +1,137 @@
+-- `main` is safe: what is to be read lies within the buffer, and what is held within the other. The measure is the number of turns that are left.
+use Prim.Native.Nat.{_+_, _-_, _≤_}
+use mathlib.Core.Path.{_≡_, sym, _∙_}
+use native.Mathlib.Omega.{arith}
+use borrow.Author.Needs.{needs}
+use borrow.Rule.Slice.PartMut.{same-len-mid}
+use lib.ListN.{length, drop, length-take}
+use lib.Seq.{length-take-le}
 use Rattle.replay.proofs.main.Statement.{statement}
 use Rattle.replay.proofs.main.Tie as tie
-use Rattle.replay.proofs.main.Reads as reads
-use Rattle.replay.proofs.main.Lts as lts
-use Rattle.io.proofs.large_buffer.Reads as large-buffer-reads
-use Rattle.replay.proofs.answer.Reads as answer-reads
-use Rattle.replay.proofs.complain.Reads as complain-reads
-use Rattle.replay.proofs.must_write.Reads as must-write-reads
-use Rattle.replay.proofs.next_line.Reads as next-line-reads
-use Rattle.replay.proofs.nobody.Reads as nobody-reads
-use Rattle.replay.proofs.parse.call_of.Reads as call-of-reads
-use Rattle.replay.proofs.parse.replica_named.Reads as replica-named-reads
-use Rattle.replay.proofs.print.put_unknown.Reads as put-unknown-reads
-use Rattle.replay.proofs.write.Reads as write-reads
-use Rattle.std.proofs.num.wrapping_add_u64.Reads as wrapping-add-u64-reads
 
 abbrev Inv-loop : tie.InvT-loop
-Inv-loop replicas₀ kept₀ buffer₀ line₀ out₀ source₀ sent₀ held₀ answered₀ written₀ turns₀ t19 replicas kept buffer line out source sent held answered written turns =
-    ?
+Inv-loop replicas₀ kept₀ buffer₀ line₀ out₀ source₀ output₀ sent₀ turns₀ replicas kept buffer line out source output sent turns =
+    (length kept ≡ 32768) × (length buffer ≡ 65536) × (length line ≡ 1045) × (length out ≡ 65536) × (source .end ≤ 65536) × (output .held ≤ 65536)
 
 abbrev μ-loop : tie.MeasureT-loop
-μ-loop replicas₀ kept₀ buffer₀ line₀ out₀ source₀ sent₀ held₀ answered₀ written₀ turns₀ t19 replicas kept buffer line out source sent held answered written turns =
-    ?
+μ-loop replicas₀ kept₀ buffer₀ line₀ out₀ source₀ output₀ sent₀ turns₀ replicas kept buffer line out source output sent turns = turns
 
--- src/main.rt:297:25
+-- the line is put within the rest of the buffer
+room : (c : tie.After-answer Inv-loop μ-loop) → c .before .before .before .before .before .before .before .before .before .before .before .before .before .before .before .before .with-room .result .held + c .answer .result .length ≤ 65536
+room c =
+    let held = c .before .before .before .before .before .before .before .before .before .before .before .before .before .before .before .before .with-room .result .held in
+    let out = c .before .before .before .before .before .before .before .before .before .before .before .before .before .before .before .before .before .before .before .loop .out in
+    let h : held ≤ 65536 = omega (arith, c .before .before .before .before .before .before .before .before .before .before .before .before .before .before .before .before .with-room .ensures, c .before .before .before .before .before .before .before .before .before .before .before .before .before .before .before .before .before .before .before .loop .inv .3) in
+    omega (arith, c .answer .ensures, c .answer .kept .1 .1 .1 .1 .1 .0, length-take (65536 - held) (drop held out))
+
 nobody-requires : tie.Need-nobody-requires Inv-loop μ-loop
-nobody-requires c κs = ?
+nobody-requires c κs = search needs
 
--- src/main.rt:299:22
 large-buffer-requires : tie.Need-large-buffer-requires Inv-loop μ-loop
-large-buffer-requires c κs = ?
+large-buffer-requires c κs = search needs
 
--- src/main.rt:302:19
 large-buffer-requires-2 : tie.Need-large-buffer-requires-2 Inv-loop μ-loop
-large-buffer-requires-2 c κs = ?
+large-buffer-requires-2 c κs = search needs
 
--- src/main.rt:313:5
 loop-holds : tie.Need-loop-holds Inv-loop μ-loop
-loop-holds c = ?
+loop-holds c = search needs
 
--- src/main.rt:314:12
-must-write-requires : tie.Need-must-write-requires Inv-loop μ-loop
-must-write-requires c κs = ?
+slice-aggregate-with-room : tie.Need-slice-aggregate-with-room Inv-loop μ-loop
+slice-aggregate-with-room c = search needs
 
--- src/main.rt:315:23
-array-share-prefix-out : tie.Need-array-share-prefix-out Inv-loop μ-loop
-array-share-prefix-out c = ?
+with-room-requires : tie.Need-with-room-requires Inv-loop μ-loop
+with-room-requires c κs = search needs
 
--- src/main.rt:315:23
-slice-aggregate-write : tie.Need-slice-aggregate-write Inv-loop μ-loop
-slice-aggregate-write c = ?
-
--- src/main.rt:315:17
-write-requires : tie.Need-write-requires Inv-loop μ-loop
-write-requires c κs = ?
-
--- src/main.rt:316:17
 returns : tie.Need-returns Inv-loop μ-loop
-returns c = ?
+returns c = search needs
 
--- src/main.rt:321:38
 slice-aggregate-next-line : tie.Need-slice-aggregate-next-line Inv-loop μ-loop
-slice-aggregate-next-line c = ?
+slice-aggregate-next-line c = search needs
 
--- src/main.rt:321:51
 slice-aggregate-next-line-2 : tie.Need-slice-aggregate-next-line-2 Inv-loop μ-loop
-slice-aggregate-next-line-2 c = ?
+slice-aggregate-next-line-2 c = search needs
 
--- src/main.rt:321:13
 next-line-requires : tie.Need-next-line-requires Inv-loop μ-loop
-next-line-requires c κs = ?
+next-line-requires c κs = search needs
 
--- src/main.rt:324:22
-array-share-prefix-out-2 : tie.Need-array-share-prefix-out-2 Inv-loop μ-loop
-array-share-prefix-out-2 c = ?
+slice-aggregate-finish : tie.Need-slice-aggregate-finish Inv-loop μ-loop
+slice-aggregate-finish c = search needs
 
--- src/main.rt:324:22
-slice-aggregate-write-2 : tie.Need-slice-aggregate-write-2 Inv-loop μ-loop
-slice-aggregate-write-2 c = ?
+finish-requires : tie.Need-finish-requires Inv-loop μ-loop
+finish-requires c κs = search needs
 
--- src/main.rt:324:16
-write-requires-2 : tie.Need-write-requires-2 Inv-loop μ-loop
-write-requires-2 c κs = ?
-
--- src/main.rt:326:30
-slice-aggregate-complain : tie.Need-slice-aggregate-complain Inv-loop μ-loop
-slice-aggregate-complain c = ?
-
--- src/main.rt:326:21
-complain-requires : tie.Need-complain-requires Inv-loop μ-loop
-complain-requires c κs = ?
-
--- src/main.rt:329:13
 returns-2 : tie.Need-returns-2 Inv-loop μ-loop
-returns-2 c = ?
+returns-2 c = search needs
 
--- src/main.rt:329:13
-returns-3 : tie.Need-returns-3 Inv-loop μ-loop
-returns-3 c = ?
-
--- src/main.rt:329:13
-returns-4 : tie.Need-returns-4 Inv-loop μ-loop
-returns-4 c = ?
-
--- src/main.rt:332:38
 array-share-prefix-line : tie.Need-array-share-prefix-line Inv-loop μ-loop
-array-share-prefix-line c = ?
+array-share-prefix-line c = search needs
 
--- src/main.rt:332:38
 slice-aggregate-replica-named : tie.Need-slice-aggregate-replica-named Inv-loop μ-loop
-slice-aggregate-replica-named c = ?
+slice-aggregate-replica-named c = sym (length-take-le (c .before .before .before .before .before .next-line .result .length) (c .before .before .before .before .before .next-line .last .1 .1 .0) (c .before .before .before .before .before .next-line .ensures .1))
 
--- src/main.rt:332:13
 replica-named-requires : tie.Need-replica-named-requires Inv-loop μ-loop
-replica-named-requires c κs = ?
+replica-named-requires c κs = search needs
 
--- src/main.rt:334:39
-array-share-prefix-line-2 : tie.Need-array-share-prefix-line-2 Inv-loop μ-loop
-array-share-prefix-line-2 c = ?
+at-most-five-requires : tie.Need-at-most-five-requires Inv-loop μ-loop
+at-most-five-requires c κs = search needs
 
--- src/main.rt:334:39
-slice-aggregate-call-of : tie.Need-slice-aggregate-call-of Inv-loop μ-loop
-slice-aggregate-call-of c = ?
-
--- src/main.rt:334:17
-call-of-requires : tie.Need-call-of-requires Inv-loop μ-loop
-call-of-requires c κs = ?
-
--- src/main.rt:335:27
 mul-replica : tie.Need-mul-replica Inv-loop μ-loop
-mul-replica c = ?
+mul-replica c = search needs
 
--- src/main.rt:335:27
 array-copy-out-replica : tie.Need-array-copy-out-replica Inv-loop μ-loop
-array-copy-out-replica c = ?
+array-copy-out-replica c = search needs
 
--- src/main.rt:336:46
-array-share-prefix-line-3 : tie.Need-array-share-prefix-line-3 Inv-loop μ-loop
-array-share-prefix-line-3 c = ?
+array-share-prefix-line-2 : tie.Need-array-share-prefix-line-2 Inv-loop μ-loop
+array-share-prefix-line-2 c = search needs
 
--- src/main.rt:336:46
 slice-aggregate-answer : tie.Need-slice-aggregate-answer Inv-loop μ-loop
-slice-aggregate-answer c = ?
+slice-aggregate-answer c = sym (length-take-le (c .before .before .before .before .before .before .before .before .before .next-line .result .length) (c .before .before .before .before .before .before .before .before .before .next-line .last .1 .1 .0) (c .before .before .before .before .before .before .before .before .before .next-line .ensures .1))
 
--- src/main.rt:336:64
 slice-aggregate-answer-2 : tie.Need-slice-aggregate-answer-2 Inv-loop μ-loop
-slice-aggregate-answer-2 c = ?
+slice-aggregate-answer-2 c = search needs
 
--- src/main.rt:336:75
 sub-answer : tie.Need-sub-answer Inv-loop μ-loop
-sub-answer c = ?
+sub-answer c = search needs
 
--- src/main.rt:336:75
 part-out-start : tie.Need-part-out-start Inv-loop μ-loop
-part-out-start c = ?
+part-out-start c = search needs
 
--- src/main.rt:336:75
 part-out-end : tie.Need-part-out-end Inv-loop μ-loop
-part-out-end c = ?
+part-out-end c = search needs
 
--- src/main.rt:336:17
 answer-requires : tie.Need-answer-requires Inv-loop μ-loop
-answer-requires c κs = ?
+answer-requires c κs = search needs
 
--- src/main.rt:338:13
 mul-replicas : tie.Need-mul-replicas Inv-loop μ-loop
-mul-replicas c = ?
+mul-replicas c = search needs
 
--- src/main.rt:338:13
 array-set-from-replicas : tie.Need-array-set-from-replicas Inv-loop μ-loop
-array-set-from-replicas c = ?
+array-set-from-replicas c = search needs
 
--- src/main.rt:340:13
-add-held : tie.Need-add-held Inv-loop μ-loop
-add-held c = ?
+with-line-requires : tie.Need-with-line-requires Inv-loop μ-loop
+with-line-requires c κs = room (c .before .before .before)
 
--- src/main.rt:342:40
-sub-put-unknown : tie.Need-sub-put-unknown Inv-loop μ-loop
-sub-put-unknown c = ?
-
--- src/main.rt:342:40
-part-out-start-2 : tie.Need-part-out-start-2 Inv-loop μ-loop
-part-out-start-2 c = ?
-
--- src/main.rt:342:40
-part-out-end-2 : tie.Need-part-out-end-2 Inv-loop μ-loop
-part-out-end-2 c = ?
-
--- src/main.rt:342:21
-put-unknown-requires : tie.Need-put-unknown-requires Inv-loop μ-loop
-put-unknown-requires c κs = ?
-
--- src/main.rt:342:13
-add-held-2 : tie.Need-add-held-2 Inv-loop μ-loop
-add-held-2 c = ?
-
--- src/main.rt:344:9
-wrapping-add-u64-requires : tie.Need-wrapping-add-u64-requires Inv-loop μ-loop
-wrapping-add-u64-requires c κs = ?
-
--- src/main.rt:345:9
 sub-turns : tie.Need-sub-turns Inv-loop μ-loop
-sub-turns c = ?
+sub-turns c = omega (arith, c .before .before .before .before .before .before .before .before .before .before .before .before .before .before .before .before .before .before .before .before .before .before .loop-test .taken)
 
--- src/main.rt:313:5
 loop-less : tie.Need-loop-less Inv-loop μ-loop
-loop-less c = ?
+loop-less c = omega (arith, c .before .before .before .before .before .before .before .before .before .before .before .before .before .before .before .before .before .before .before .before .before .before .loop-test .taken)
 
--- src/main.rt:313:5
 loop-again : tie.Need-loop-again Inv-loop μ-loop
-loop-again c = ?
+loop-again c =
+    let i = c .before .before .before .before .before .before .before .before .before .before .before .before .before .before .before .before .before .before .before .before .before .before .before .loop .inv in
+    let a = c .before .before .before .before .answer in
+    let n = c .before .before .before .before .before .before .before .before .before .before .before .before .before .before .before .before .next-line in (
+      a .kept .1 .1 .1 .1 .0 ∙ i .0,
+      n .kept .1 .0 ∙ i .1,
+      n .kept .1 .1 .0 ∙ i .2,
+      same-len-mid (c .before .before .before .before .before .before .before .before .before .before .before .before .before .before .before .before .before .before .before .before .with-room .result .held) (65536 - c .before .before .before .before .before .before .before .before .before .before .before .before .before .before .before .before .before .before .before .before .with-room .result .held) (c .before .before .before .before .before .before .before .before .before .before .before .before .before .before .before .before .before .before .before .before .before .before .before .loop .out) (a .last .1 .1 .1 .1 .1 .0) (a .kept .1 .1 .1 .1 .1 .0) ∙ i .3,
+      omega (arith, n .ensures .0, n .kept .1 .0, i .1),
+      rw (c .with-line .ensures) (room (c .before .before .before .before)),
+    )
 
--- src/main.rt:296:1
-returns-5 : tie.Need-returns-5 Inv-loop μ-loop
-returns-5 c = ?
+returns-3 : tie.Need-returns-3 Inv-loop μ-loop
+returns-3 c = search needs
 
 pub main-spec : {M : Type 1} → statement M
 main-spec =
@@ -224,31 +143,22 @@ main-spec =
     large-buffer-requires
     large-buffer-requires-2
     loop-holds
-    must-write-requires
-    array-share-prefix-out
-    slice-aggregate-write
-    write-requires
+    slice-aggregate-with-room
+    with-room-requires
     returns
     slice-aggregate-next-line
     slice-aggregate-next-line-2
     next-line-requires
-    array-share-prefix-out-2
-    slice-aggregate-write-2
-    write-requires-2
-    slice-aggregate-complain
-    complain-requires
+    slice-aggregate-finish
+    finish-requires
     returns-2
-    returns-3
-    returns-4
     array-share-prefix-line
     slice-aggregate-replica-named
     replica-named-requires
-    array-share-prefix-line-2
-    slice-aggregate-call-of
-    call-of-requires
+    at-most-five-requires
     mul-replica
     array-copy-out-replica
-    array-share-prefix-line-3
+    array-share-prefix-line-2
     slice-aggregate-answer
     slice-aggregate-answer-2
     sub-answer
@@ -257,14 +167,8 @@ main-spec =
     answer-requires
     mul-replicas
     array-set-from-replicas
-    add-held
-    sub-put-unknown
-    part-out-start-2
-    part-out-end-2
-    put-unknown-requires
-    add-held-2
-    wrapping-add-u64-requires
+    with-line-requires
     sub-turns
     loop-less
     loop-again
-    returns-5)
+    returns-3)

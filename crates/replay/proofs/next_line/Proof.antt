@@ -28,7 +28,7 @@ same-length-2 : tie.Need-same-length-2 Inv-loop μ-loop
 same-length-2 c = search needs
 
 returns : tie.Need-returns Inv-loop μ-loop
-returns c = search needs
+returns c = (rw (c .last-line .ensures .0) (c .before .before .before .before .before .ready .ensures), rw (c .last-line .ensures .1) (c .before .before .before .before .before .before .before .before .loop .inv .1))
 
 add-from : tie.Need-add-from Inv-loop μ-loop
 add-from c = search needs
@@ -67,7 +67,7 @@ same-length-6 : tie.Need-same-length-6 Inv-loop μ-loop
 same-length-6 c = search needs
 
 returns-3 : tie.Need-returns-3 Inv-loop μ-loop
-returns-3 c = search needs
+returns-3 c = (rw (c .last-line2 .ensures .0) (c .before .before .loop .inv .0), rw (c .last-line2 .ensures .1) (c .before .before .loop .inv .1))
 
 pub next-line-spec : {M : Type 1} → statement M
 next-line-spec =
