@@ -78,6 +78,19 @@ module _ {size : ℕ} {block : List ℕ} {replica after : Replica} {p : Played} 
     shown = rw is (omega arith);
   }
 
+-- one number in front
+pub numbered : {p : Played} {replica : Replica} {n count k first : ℕ} {zeros : List ℕ}
+    → p ≡ record { replica = replica; number = n; count = count; numbers = first ∷ zeros; shown = 0; values = p .values }
+    → count ≡ k
+    → p ≡ record { replica = replica; number = n; count = k; numbers = first ∷ drop 1 (p .numbers); shown = 0; values = p .values }
+numbered {p} {zeros} e h =
+    let z : drop 1 (p .numbers) ≡ zeros = ap (λ (q : Played). drop 1 (q .numbers)) e in
+    rw (z, ← h) e
+
+pub one-few : (b : Bool) → cond b 1 0 ≤ 10
+one-few true = omega arith
+one-few false = omega arith
+
 -- ---- calls that give a number alone
 
 module _ (lent : List ℕ) where

@@ -5,8 +5,9 @@ use mathlib.Core.Bool.{cond, _||_}
 use mathlib.Core.List.{List, [], _∷_}
 use lib.Dec.{eqb}
 use lib.IntN.{ℤ}
-use lib.ListN.{length, take, drop, replicate}
+use lib.ListN.{length, take, drop, set, replicate}
 use Rattle.memory.specs.declared.Counts.{Counts}
+use Rattle.memory.specs.declared.Txn.{Txn}
 use Rattle.memory.specs.Memory.{Memory}
 use Rattle.engine.specs.declared.Report.{Report}
 use Rattle.engine.specs.Calls.{Step, Answer, numberOf, Outcome}
@@ -34,6 +35,22 @@ memoryOf size r =
 -- a make is lent the places of the group that it names, any other call those of the replica's own
 abbrev pub sizeLent : Call → Counts → ℕ
 sizeLent c counts = placesSize (cond (eqb (c .letter) 77) (c .first) (counts .replicas))
+
+-- with other numbers, and another record at row r
+abbrev pub withRow : Replica → Counts → ℕ → Txn → Replica
+withRow replica counts r t = record {
+  turn = replica .turn;
+  counts = counts;
+  rows = set (replica .rows) r t;
+  queue = replica .queue;
+  items = replica .items;
+  writes = replica .writes;
+  snapshots = replica .snapshots;
+  values = replica .values;
+  stamps = replica .stamps;
+  places = replica .places;
+  outbox = replica .outbox;
+}
 
 -- ---- what is printed of an answer, behind its number
 

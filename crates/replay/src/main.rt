@@ -80,18 +80,29 @@ struct Line {
     ended: bool,
 }
 
-// The replica and the number of blocks sent after a line, and how many bytes of the answer were put.
+// The place of a replica, a call, and the first `count` bytes for it; not `known` where the line names no replica, or no bytes.
+struct Request {
+    place: usize,
+    known: bool,
+    call: Call,
+    count: usize,
+    bytes: [u8; 520],
+}
+
+// The replica after a call, whether it sent a block, and how many bytes of the answer were put.
 struct Answered {
     replica: Replica,
-    sent: u64,
+    sent: bool,
     length: usize,
 }
 
-// How many bytes of answers are held, to how many lines there is an answer, and how many of these are written. `failed` where the system could not write.
+// How many bytes of answers are held, to how many lines there is an answer, how many of these are written, and how many blocks were sent. `failed` where the system could
+// not write.
 struct Output {
     held: usize,
     answered: u64,
     written: u64,
+    sent: u64,
     failed: bool,
 }
 
@@ -200,12 +211,37 @@ fn nobody() -> Replica {
     }
 }
 
-// Whether the call can be made: at the place of a replica that was made, unless it makes one.
-fn is_ready(k: usize, call: Call, replicas: u8) -> bool {
-    if 6 <= k {
+// One of the six: any for what names none.
+fn at_most_five(k: usize) -> usize
+    ensures { λ r. ⌜ r < 6 ⌝ }
+{
+    if k < 6 { k } else { 5 }
+}
+
+// What the line asks. `kept` are the blocks sent last.
+fn request_of(line: &[u8], sent: u64, kept: &[u8]) -> Request
+    requires { ⌜ length (now kept) ≡ 32768 ⌝ }
+    ensures { λ r. ⌜ (r .place < 6) × (r .count ≤ length (r .bytes)) ⌝ }
+{
+    let place = parse::replica_named(line);
+    let call = parse::call_of(line);
+    let from = kept::start_of(call.first as u64);
+    let delivery = kept::delivered(call, line, sent, &kept[from..from + 512]);
+    let bytes = delivery.bytes;
+    Request {
+        place: at_most_five(place),
+        known: if place < 6 { delivery.known } else { false },
+        call: call,
+        count: delivery.count,
+        bytes: bytes,
+    }
+}
+
+// Whether the call can be made: at a replica that was made, unless it makes one.
+fn is_ready(known: bool, letter: u8, replicas: u8) -> bool {
+    if !known {
         return false;
     }
-    let letter = call.letter;
     match letter {
         0 => false,
         b'M' => true,
@@ -241,72 +277,30 @@ fn block_shown(letter: u8, number: u8) -> usize
     if number == 0 { 512 } else { 0 }
 }
 
-// The call at its replica, and the answer put. The block goes behind those sent before it.
-fn play_at(
-    call: Call,
-    replica: Replica,
-    bytes: &[u8],
-    sent: u64,
-    kept: &mut [u8],
-    out: &mut [u8],
-) -> Answered
-    requires { ⌜ length (now kept) ≡ 32768 ⌝ }
+// The call at its replica, and the answer put. A block that is sent goes into `block`.
+fn answer(request: Request, replica: Replica, block: &mut [u8], out: &mut [u8]) -> Answered
+    requires { ⌜ (request .count ≤ length (request .bytes)) × (length (now block) ≡ 512) ⌝ }
     ensures { λ r. ⌜ r .length ≤ length (now (out .exit)) ⌝ }
 {
-    let at = kept::start_of(sent);
-    let played = play::run(call, replica, bytes, &mut kept[at..at + 512]);
+    let call = request.call;
+    let counts = replica.counts;
+    if !is_ready(request.known, call.letter, counts.replicas) {
+        return Answered {
+            replica: replica,
+            sent: false,
+            length: print::put_unknown(&mut *out),
+        };
+    }
+    let bytes = request.bytes;
+    let n = request.count;
+    let played = play::run(call, replica, &bytes[..n], &mut *block);
     let after = played.replica;
-    let end = at + block_shown(call.letter, played.number);
-    let length = put_played(played, &kept[at..end], &mut *out);
-    let next = if at < end {
-        std::num::wrapping_add_u64(sent, 1)
-    } else {
-        sent
-    };
+    let shown = block_shown(call.letter, played.number);
     Answered {
         replica: after,
-        sent: next,
-        length: length,
+        sent: 0 < shown,
+        length: put_played(played, &block[..shown], &mut *out),
     }
-}
-
-// The line of what is no call: the replica and the blocks stay.
-fn unknown(replica: Replica, sent: u64, out: &mut [u8]) -> Answered
-    ensures { λ r. ⌜ r .length ≤ length (now (out .exit)) ⌝ }
-{
-    let length = print::put_unknown(&mut *out);
-    Answered {
-        replica: replica,
-        sent: sent,
-        length: length,
-    }
-}
-
-// A line at its replica, the one at place k. `kept` are the blocks sent last.
-fn answer(
-    k: usize,
-    replica: Replica,
-    line: &[u8],
-    sent: u64,
-    kept: &mut [u8],
-    out: &mut [u8],
-) -> Answered
-    requires { ⌜ length (now kept) ≡ 32768 ⌝ }
-    ensures { λ r. ⌜ r .length ≤ length (now (out .exit)) ⌝ }
-{
-    let call = parse::call_of(line);
-    let counts = replica.counts;
-    if !is_ready(k, call, counts.replicas) {
-        return unknown(replica, sent, &mut *out);
-    }
-    let from = kept::start_of(call.first as u64);
-    let delivery = kept::delivered(call, line, sent, &kept[from..from + 512]);
-    if !delivery.known {
-        return unknown(replica, sent, &mut *out);
-    }
-    let bytes = delivery.bytes;
-    let n = delivery.count;
-    play_at(call, replica, &bytes[..n], sent, &mut *kept, &mut *out)
 }
 
 // One line on standard error: what failed, and how many lines were answered before.
@@ -333,6 +327,7 @@ fn written(output: Output, out: &[u8]) -> Output
         held: 0,
         answered: output.answered,
         written: output.answered,
+        sent: output.sent,
         failed: !done,
     }
 }
@@ -367,8 +362,8 @@ fn finish(output: Output, failed: bool, out: &[u8])
     }
 }
 
-// With the answer to one line more.
-fn with_line(output: Output, length: usize) -> Output
+// With the answer to one line more, and with a block more where one was sent.
+fn with_line(output: Output, length: usize, sent: bool) -> Output
     requires { ⌜ output .held + length ≤ 65536 ⌝ }
     ensures { λ r. ⌜ r .held ≡ output .held + length ⌝ }
 {
@@ -376,15 +371,9 @@ fn with_line(output: Output, length: usize) -> Output
         held: output.held + length,
         answered: std::num::wrapping_add_u64(output.answered, 1),
         written: output.written,
+        sent: std::num::wrapping_add_u64(output.sent, if sent { 1 } else { 0 }),
         failed: false,
     }
-}
-
-// One of the six: any for what names none.
-fn at_most_five(k: usize) -> usize
-    ensures { λ r. ⌜ r < 6 ⌝ }
-{
-    if k < 6 { k } else { 5 }
 }
 
 // Every line of the input, in its order.
@@ -404,9 +393,9 @@ fn main() {
         held: 0,
         answered: 0,
         written: 0,
+        sent: 0,
         failed: false,
     };
-    let mut sent: u64 = 0;
     let mut turns = u64::MAX;
     while turns > 0 {
         output = with_room(output, source, &out);
@@ -420,15 +409,20 @@ fn main() {
             return;
         }
         let n = read.length;
-        let k = parse::replica_named(&line[..n]);
-        let at = at_most_five(k);
+        let request = request_of(&line[..n], output.sent, &kept);
+        let at = request.place;
         let replica = replicas[at];
+        let slot = kept::start_of(output.sent);
         let held = output.held;
-        let next = answer(k, replica, &line[..n], sent, &mut kept, &mut out[held..]);
+        let next = answer(
+            request,
+            replica,
+            &mut kept[slot..slot + 512],
+            &mut out[held..],
+        );
         let after = next.replica;
         replicas[at] = after;
-        sent = next.sent;
-        output = with_line(output, next.length);
+        output = with_line(output, next.length, next.sent);
         turns -= 1;
     }
 }

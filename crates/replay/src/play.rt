@@ -4,16 +4,17 @@ ghost use mathlib.Core.Path.{_≡_};
 ghost use mathlib.Core.Bool.{cond};
 ghost use mathlib.Core.List.{List, _∷_};
 ghost use lib.Dec.{eqb};
-ghost use lib.ListN.{set, replicate};
+ghost use lib.ListN.{drop, set, replicate};
 ghost use Rattle.engine.specs.Make.{makeStep};
 ghost use Rattle.engine.specs.Client.{beginStep, readStep, writeStep, askStep, withdrawStep, reportStep};
 ghost use Rattle.engine.specs.Moves.{sendStep, deliverStep, workStep};
-ghost use Rattle.replay.specs.Effects.{placesSize, memoryOf, sizeLent, effect, look, played, Plays};
+ghost use Rattle.replay.specs.Effects.{placesSize, memoryOf, sizeLent, withRow, effect, look, played, Plays};
 use super::Call;
 use super::Played;
 use super::Replica;
 use call_client::rows::row_at;
 use call_reply::WorkReply;
+use memory::Counts;
 use memory::Txn;
 use memory::rows::free_row;
 use memory::rows::row_of;
@@ -86,7 +87,7 @@ fn places_size(n: u32) -> usize
     if n < 6 { 512 * (n as usize) } else { 3072 }
 }
 
-fn with_row(rows: [Txn; 6], at: usize, row: Txn) -> [Txn; 6]
+fn put_row(rows: [Txn; 6], at: usize, row: Txn) -> [Txn; 6]
     ensures { λ r. ⌜ r ≡ set rows at row ⌝ }
 {
     let mut after = rows;
@@ -94,6 +95,30 @@ fn with_row(rows: [Txn; 6], at: usize, row: Txn) -> [Txn; 6]
         after[at] = row;
     }
     after
+}
+
+// The replica with these numbers, and the row's record in place of the old one; past the last there is none.
+fn with_row(replica: Replica, counts: Counts, at: usize, row: Txn) -> Replica
+    ensures { λ r. ⌜ r ≡ withRow replica counts at row ⌝ }
+{
+    let rows = replica.rows;
+    let table = put_row(rows, at, row);
+    let mut after = replica;
+    after.counts = counts;
+    after.rows = table;
+    after
+}
+
+// One number behind the call's own, where it is accepted.
+fn with_number(replica: Replica, number: u8, first: u32) -> Played
+    ensures { λ r. ⌜ r ≡ record { replica = replica; number = number; count = cond (eqb number 0) 1 0; numbers = first ∷ drop 1 (r .numbers); shown = 0; values = r .values } ⌝ }
+{
+    with_numbers(
+        replica,
+        number,
+        accepted(number, 1),
+        [first, 0, 0, 0, 0, 0, 0, 0, 0, 0],
+    )
 }
 
 fn begin(replica: Replica) -> Played
@@ -109,17 +134,9 @@ fn begin(replica: Replica) -> Played
     let reply = begun.reply;
     let numbers = reply.counts;
     let next = begun.row;
-    let table = with_row(rows, at, next);
-    let mut after = replica;
-    after.counts = numbers;
-    after.rows = table;
+    let mut after = with_row(replica, numbers, at, next);
     after.snapshots = snapshots;
-    with_numbers(
-        after,
-        reply.number,
-        accepted(reply.number, 1),
-        [reply.ticket, 0, 0, 0, 0, 0, 0, 0, 0, 0],
-    )
+    with_number(after, reply.number, reply.ticket)
 }
 
 fn read(replica: Replica, ticket: u32, item: u32) -> Played
@@ -160,10 +177,7 @@ fn write(replica: Replica, ticket: u32, item: u32, value: i32) -> Played
     let reply = changed.reply;
     let numbers = reply.counts;
     let next = changed.row;
-    let table = with_row(rows, at, next);
-    let mut after = replica;
-    after.counts = numbers;
-    after.rows = table;
+    let mut after = with_row(replica, numbers, at, next);
     after.items = items;
     after.writes = writes;
     bare(after, reply.number)
@@ -181,17 +195,9 @@ fn ask(replica: Replica, ticket: u32) -> Played
     let reply = asked.reply;
     let numbers = reply.counts;
     let next = asked.row;
-    let table = with_row(rows, at, next);
-    let mut after = replica;
-    after.counts = numbers;
-    after.rows = table;
+    let mut after = with_row(replica, numbers, at, next);
     after.queue = queue;
-    with_numbers(
-        after,
-        reply.number,
-        accepted(reply.number, 1),
-        [flag(reply.read_only), 0, 0, 0, 0, 0, 0, 0, 0, 0],
-    )
+    with_number(after, reply.number, flag(reply.read_only))
 }
 
 fn withdraw(replica: Replica, ticket: u32) -> Played
@@ -205,11 +211,7 @@ fn withdraw(replica: Replica, ticket: u32) -> Played
     let reply = changed.reply;
     let numbers = reply.counts;
     let next = changed.row;
-    let table = with_row(rows, at, next);
-    let mut after = replica;
-    after.counts = numbers;
-    after.rows = table;
-    bare(after, reply.number)
+    bare(with_row(replica, numbers, at, next), reply.number)
 }
 
 fn report(replica: Replica) -> Played

@@ -10,19 +10,20 @@ use Rattle.replay.proofs.main.Statement.{statement}
 use Rattle.replay.proofs.main.Tie as tie
 
 abbrev Inv-loop : tie.InvT-loop
-Inv-loop replicas₀ kept₀ buffer₀ line₀ out₀ source₀ output₀ sent₀ turns₀ replicas kept buffer line out source output sent turns =
+Inv-loop replicas₀ kept₀ buffer₀ line₀ out₀ source₀ output₀ turns₀ replicas kept buffer line out source output turns =
     (length kept ≡ 32768) × (length buffer ≡ 65536) × (length line ≡ 1045) × (length out ≡ 65536) × (source .end ≤ 65536) × (output .held ≤ 65536)
 
 abbrev μ-loop : tie.MeasureT-loop
-μ-loop replicas₀ kept₀ buffer₀ line₀ out₀ source₀ output₀ sent₀ turns₀ replicas kept buffer line out source output sent turns = turns
+μ-loop replicas₀ kept₀ buffer₀ line₀ out₀ source₀ output₀ turns₀ replicas kept buffer line out source output turns = turns
+
+held-in : (c : tie.After-with-room Inv-loop μ-loop) → c .with-room .result .held ≤ 65536
+held-in c = omega (arith, c .with-room .ensures, c .before .before .before .loop .inv .3)
 
 -- the line is put within the rest of the buffer
 room : (c : tie.After-answer Inv-loop μ-loop) → c .before .before .before .before .before .before .before .before .before .before .before .before .before .before .before .before .with-room .result .held + c .answer .result .length ≤ 65536
 room c =
     let held = c .before .before .before .before .before .before .before .before .before .before .before .before .before .before .before .before .with-room .result .held in
-    let out = c .before .before .before .before .before .before .before .before .before .before .before .before .before .before .before .before .before .before .before .loop .out in
-    let h : held ≤ 65536 = omega (arith, c .before .before .before .before .before .before .before .before .before .before .before .before .before .before .before .before .with-room .ensures, c .before .before .before .before .before .before .before .before .before .before .before .before .before .before .before .before .before .before .before .loop .inv .3) in
-    omega (arith, c .answer .ensures, c .answer .kept .1 .1 .1 .1 .1 .0, length-take (65536 - held) (drop held out))
+    omega (arith, held-in (c .before .before .before .before .before .before .before .before .before .before .before .before .before .before .before .before), c .answer .ensures, c .answer .kept .1 .1 .1 .0, length-take (65536 - held) (drop held (c .before .before .before .before .before .before .before .before .before .before .before .before .before .before .before .before .before .before .before .loop .out)))
 
 nobody-requires : tie.Need-nobody-requires Inv-loop μ-loop
 nobody-requires c κs = search needs
@@ -66,14 +67,14 @@ returns-2 c = search needs
 array-share-prefix-line : tie.Need-array-share-prefix-line Inv-loop μ-loop
 array-share-prefix-line c = search needs
 
-slice-aggregate-replica-named : tie.Need-slice-aggregate-replica-named Inv-loop μ-loop
-slice-aggregate-replica-named c = sym (length-take-le (c .before .before .before .before .before .next-line .result .length) (c .before .before .before .before .before .next-line .last .1 .1 .0) (c .before .before .before .before .before .next-line .ensures .1))
+slice-aggregate-request-of : tie.Need-slice-aggregate-request-of Inv-loop μ-loop
+slice-aggregate-request-of c = sym (length-take-le (c .before .before .before .before .before .next-line .result .length) (c .before .before .before .before .before .next-line .last .1 .1 .0) (c .before .before .before .before .before .next-line .ensures .1))
 
-replica-named-requires : tie.Need-replica-named-requires Inv-loop μ-loop
-replica-named-requires c κs = search needs
+slice-aggregate-request-of-2 : tie.Need-slice-aggregate-request-of-2 Inv-loop μ-loop
+slice-aggregate-request-of-2 c = search needs
 
-at-most-five-requires : tie.Need-at-most-five-requires Inv-loop μ-loop
-at-most-five-requires c κs = search needs
+request-of-requires : tie.Need-request-of-requires Inv-loop μ-loop
+request-of-requires c κs = search needs
 
 mul-replica : tie.Need-mul-replica Inv-loop μ-loop
 mul-replica c = search needs
@@ -81,23 +82,29 @@ mul-replica c = search needs
 array-copy-out-replica : tie.Need-array-copy-out-replica Inv-loop μ-loop
 array-copy-out-replica c = search needs
 
-array-share-prefix-line-2 : tie.Need-array-share-prefix-line-2 Inv-loop μ-loop
-array-share-prefix-line-2 c = search needs
+start-of-requires : tie.Need-start-of-requires Inv-loop μ-loop
+start-of-requires c κs = search needs
 
-slice-aggregate-answer : tie.Need-slice-aggregate-answer Inv-loop μ-loop
-slice-aggregate-answer c = sym (length-take-le (c .before .before .before .before .before .before .before .before .before .next-line .result .length) (c .before .before .before .before .before .before .before .before .before .next-line .last .1 .1 .0) (c .before .before .before .before .before .before .before .before .before .next-line .ensures .1))
-
-slice-aggregate-answer-2 : tie.Need-slice-aggregate-answer-2 Inv-loop μ-loop
-slice-aggregate-answer-2 c = search needs
+add-answer : tie.Need-add-answer Inv-loop μ-loop
+add-answer c = search needs
 
 sub-answer : tie.Need-sub-answer Inv-loop μ-loop
 sub-answer c = search needs
 
+part-kept-start : tie.Need-part-kept-start Inv-loop μ-loop
+part-kept-start c = search needs
+
+part-kept-end : tie.Need-part-kept-end Inv-loop μ-loop
+part-kept-end c = search needs
+
+sub-answer-2 : tie.Need-sub-answer-2 Inv-loop μ-loop
+sub-answer-2 c = held-in (c .before .before .before .before .before .before .before .before .before .before .before .before .before .before)
+
 part-out-start : tie.Need-part-out-start Inv-loop μ-loop
-part-out-start c = search needs
+part-out-start c = held-in (c .before .before .before .before .before .before .before .before .before .before .before .before .before .before)
 
 part-out-end : tie.Need-part-out-end Inv-loop μ-loop
-part-out-end c = search needs
+part-out-end c = omega (arith, c .before .before .before .before .before .before .before .before .before .before .before .before .before .before .before .before .before .loop .inv .3)
 
 answer-requires : tie.Need-answer-requires Inv-loop μ-loop
 answer-requires c κs = search needs
@@ -121,11 +128,13 @@ loop-again : tie.Need-loop-again Inv-loop μ-loop
 loop-again c =
     let i = c .before .before .before .before .before .before .before .before .before .before .before .before .before .before .before .before .before .before .before .before .before .before .before .loop .inv in
     let a = c .before .before .before .before .answer in
-    let n = c .before .before .before .before .before .before .before .before .before .before .before .before .before .before .before .before .next-line in (
-      a .kept .1 .1 .1 .1 .0 ∙ i .0,
+    let n = c .before .before .before .before .before .before .before .before .before .before .before .before .before .before .before .before .next-line in
+    let slot = c .before .before .before .before .before .before .before .start-of .result in
+    let held = c .before .before .before .before .before .before .before .before .before .before .before .before .before .before .before .before .before .before .before .before .with-room .result .held in (
+      same-len-mid slot (slot + 512 - slot) (c .before .before .before .before .before .before .before .before .before .before .before .before .before .before .before .before .before .before .before .before .before .before .before .loop .kept) (a .last .1 .1 .0) (a .kept .1 .1 .0) ∙ i .0,
       n .kept .1 .0 ∙ i .1,
       n .kept .1 .1 .0 ∙ i .2,
-      same-len-mid (c .before .before .before .before .before .before .before .before .before .before .before .before .before .before .before .before .before .before .before .before .with-room .result .held) (65536 - c .before .before .before .before .before .before .before .before .before .before .before .before .before .before .before .before .before .before .before .before .with-room .result .held) (c .before .before .before .before .before .before .before .before .before .before .before .before .before .before .before .before .before .before .before .before .before .before .before .loop .out) (a .last .1 .1 .1 .1 .1 .0) (a .kept .1 .1 .1 .1 .1 .0) ∙ i .3,
+      same-len-mid held (65536 - held) (c .before .before .before .before .before .before .before .before .before .before .before .before .before .before .before .before .before .before .before .before .before .before .before .loop .out) (a .last .1 .1 .1 .0) (a .kept .1 .1 .1 .0) ∙ i .3,
       omega (arith, n .ensures .0, n .kept .1 .0, i .1),
       rw (c .with-line .ensures) (room (c .before .before .before .before)),
     )
@@ -153,15 +162,17 @@ main-spec =
     finish-requires
     returns-2
     array-share-prefix-line
-    slice-aggregate-replica-named
-    replica-named-requires
-    at-most-five-requires
+    slice-aggregate-request-of
+    slice-aggregate-request-of-2
+    request-of-requires
     mul-replica
     array-copy-out-replica
-    array-share-prefix-line-2
-    slice-aggregate-answer
-    slice-aggregate-answer-2
+    start-of-requires
+    add-answer
     sub-answer
+    part-kept-start
+    part-kept-end
+    sub-answer-2
     part-out-start
     part-out-end
     answer-requires

@@ -1,9 +1,11 @@
 -- `play::ask` meets its contract.
-use mathlib.Core.Path.{refl}
-use native.Mathlib.Omega.{arith}
+use mathlib.Core.Path.{ap}
 use borrow.Author.Needs.{needs}
+use lib.Dec.{eqb}
+use lib.ListN.{drop}
 use Rattle.replay.specs.Effects.{memoryOf}
-use Rattle.replay.proofs.EffectLaws.{plays-numbers, ask-effect}
+use Rattle.replay.specs.declared.Replica.{Replica}
+use Rattle.replay.proofs.EffectLaws.{plays-numbers, ask-effect, one-few}
 use Rattle.replay.proofs.play.ask.Statement.{statement}
 use Rattle.replay.proofs.play.ask.Tie as tie
 
@@ -22,25 +24,22 @@ ask-requires c κs = search needs
 with-row-requires : tie.Need-with-row-requires
 with-row-requires c κs = search needs
 
-accepted-requires : tie.Need-accepted-requires
-accepted-requires c κs = search needs
-
 flag-requires : tie.Need-flag-requires
 flag-requires c κs = search needs
 
-with-numbers-requires : tie.Need-with-numbers-requires
-with-numbers-requires c κs = search needs
+with-number-requires : tie.Need-with-number-requires
+with-number-requires c κs = search needs
 
 returns : tie.Need-returns
 returns c =
     λ size lent.
-    let s = c .before .before .before .before .before .before .before .before .before .before .before .before .before .before .before .args .replica in
-    let g = c .before .before .before .before .before .before .before .before .ask .ensures (memoryOf size s) (s .rows) (c .before .before .before .before .before .before .before .before .before .before .row-at .ensures) in
+    let s = c .before .before .before .before .before .before .before .before .before .before .before .before .before .before .args .replica in
+    let g = c .before .before .before .before .before .before .before .ask .ensures (memoryOf size s) (s .rows) (c .before .before .before .before .before .before .before .before .before .row-at .ensures) in
     plays-numbers
-    (c .with-numbers .ensures)
-    (rw (c .before .before .accepted .ensures .0, c .before .flag .ensures, c .before .before .before .with-row .ensures, ← c .before .before .before .before .before .before .before .before .before .before .before .row-of .ensures) (ask-effect (memoryOf size s) lent _ (c .before .before .before .before .before .before .before .before .before .before .before .row-of .result) g))
-    refl
-    (omega (arith, c .before .before .accepted .ensures .1))
+    (rw (c .before .flag .ensures) at (c .with-number .ensures))
+    (rw (c .before .before .with-row .ensures, ← c .before .before .before .before .before .before .before .before .before .before .row-of .ensures) (ask-effect (memoryOf size s) lent (drop 1 (c .with-number .result .numbers)) (c .before .before .before .before .before .before .before .before .before .before .row-of .result) g))
+    (ap (λ (r : Replica). drop size (r .places)) (c .before .before .with-row .ensures))
+    (one-few (eqb (c .before .before .before .before .before .before .before .ask .result .reply .number) 0))
 
 pub ask-spec : {M : Type 1} → statement M
 ask-spec =
@@ -51,7 +50,6 @@ ask-spec =
     slice-aggregate-ask
     ask-requires
     with-row-requires
-    accepted-requires
     flag-requires
-    with-numbers-requires
+    with-number-requires
     returns)

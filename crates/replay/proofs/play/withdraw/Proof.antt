@@ -1,7 +1,9 @@
 -- `play::withdraw` meets its contract.
-use mathlib.Core.Path.{refl}
+use mathlib.Core.Path.{ap}
 use borrow.Author.Needs.{needs}
+use lib.ListN.{drop}
 use Rattle.replay.specs.Effects.{memoryOf}
+use Rattle.replay.specs.declared.Replica.{Replica}
 use Rattle.replay.proofs.EffectLaws.{plays-bare, bare-effect, bare-withdraw}
 use Rattle.replay.proofs.play.withdraw.Statement.{statement}
 use Rattle.replay.proofs.play.withdraw.Tie as tie
@@ -29,7 +31,7 @@ returns c =
     plays-bare
     (c .bare .ensures)
     (rw (c .before .with-row .ensures, ← c .before .before .before .before .before .before .before .row-of .ensures) (bare-effect lent (bare-withdraw lent (memoryOf size s) (c .before .before .before .before .before .before .before .row-of .result)) g))
-    refl
+    (ap (λ (r : Replica). drop size (r .places)) (c .before .with-row .ensures))
 
 pub withdraw-spec : {M : Type 1} → statement M
 withdraw-spec =

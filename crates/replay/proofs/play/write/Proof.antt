@@ -1,8 +1,10 @@
 -- `play::write` meets its contract.
-use mathlib.Core.Path.{refl}
+use mathlib.Core.Path.{ap}
 use borrow.Author.Needs.{needs}
+use lib.ListN.{drop}
 use mir.Facts.{toZ-ofZ}
 use Rattle.replay.specs.Effects.{memoryOf}
+use Rattle.replay.specs.declared.Replica.{Replica}
 use Rattle.replay.proofs.EffectLaws.{plays-bare, bare-effect, bare-write}
 use Rattle.replay.proofs.play.write.Statement.{statement}
 use Rattle.replay.proofs.play.write.Tie as tie
@@ -36,7 +38,7 @@ returns c =
     plays-bare
     (c .bare .ensures)
     (rw (c .before .with-row .ensures, ← c .before .before .before .before .before .before .before .before .before .before .before .row-of .ensures) (bare-effect lent (bare-write lent (memoryOf size s) (c .before .before .before .before .before .before .before .before .before .before .before .row-of .result) (c .before .before .before .before .before .before .before .before .before .before .before .before .before .before .before .before .before .before .args .item) (c .before .before .before .before .before .before .before .before .before .before .before .before .before .before .before .before .before .before .args .value)) g))
-    refl
+    (ap (λ (r : Replica). drop size (r .places)) (c .before .with-row .ensures))
 
 pub write-spec : {M : Type 1} → statement M
 write-spec =
