@@ -14,10 +14,9 @@
  * A refused call changes nothing; only STEMLINE_STALE ends its transaction.
  *
  * The counts go in by value and come back in the reply as they are after the
- * call: the caller stores them, accepted or not. (A refused make gives zeros.)
- * stemline_send and stemline_deliver change no counts.
+ * call: the caller stores them, accepted or not. stemline_send and
+ * stemline_deliver change no counts.
  *
- * A bool field holds 0 or 1; any other byte there is undefined behaviour.
  * Calls at one replica come one after the other. */
 #ifndef STEMLINE_H
 #define STEMLINE_H
@@ -78,10 +77,11 @@ typedef struct stemline_txn {
     uint32_t writes;   /* how many items it has written */
 } stemline_txn;
 
+/* A mark is off where it is 0, on where it is any other number. */
 typedef struct stemline_turn {
-    uint32_t slot; /* the slot that is processed next */
-    bool sent;     /* the own block for it was sent */
-    bool applying; /* a block of another replica is committed in part */
+    uint32_t slot;    /* the slot that is processed next */
+    uint8_t sent;     /* mark: the own block for it was sent */
+    uint8_t applying; /* mark: a block of another replica is committed in part */
 } stemline_turn;
 
 typedef struct stemline_counts {
@@ -95,7 +95,7 @@ typedef struct stemline_counts {
 
 typedef struct stemline_report_values {
     uint32_t turn, commits, tickets;
-    uint32_t active; /* open transactions */
+    uint32_t open_count; /* open transactions */
     uint32_t committed, read_only, aborted, withdrawn;
 } stemline_report_values;
 
@@ -136,10 +136,12 @@ typedef struct stemline_work_reply {
     stemline_counts counts;
 } stemline_work_reply;
 
-/* Fills all parts: replica own of n, 2 to 6, with 128 values to start with.
+/* Fills all parts: replica own of n, 2 to 6, with 128 values to start with. The
+ * counts given are those of the replica that was there before, which a refused
+ * make leaves as it is; where none was, any, such as zeros.
  * Refused by 1, 2. With an n out of range the places may have any length. */
 stemline_reply stemline_make(
-    stemline_txn *table, size_t table_length, stemline_turn *turn,
+    stemline_txn *table, size_t table_length, stemline_turn *turn, stemline_counts counts,
     uint32_t n, uint32_t own, const int32_t *start, size_t start_length,
     uint32_t *queue, size_t queue_length, uint8_t *items, size_t items_length,
     int32_t *writes, size_t writes_length, int32_t *snapshots, size_t snapshots_length,

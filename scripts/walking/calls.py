@@ -18,7 +18,7 @@ def shared(elem):
 @dataclass
 class Call:
     name: str
-    by_value: str  # the function that does the work, after its crate
+    by_value: str  # the function that does the work, behind its crate
     result: str  # what that function returns
     reply: str  # what the exported function returns
     params: list
@@ -31,7 +31,7 @@ class Call:
 
     @property
     def crate(self):
-        return "calls" if self.by_value.startswith("client_calls.") else "turn_calls"
+        return self.by_value.split(".")[0]
 
     @property
     def function(self):
@@ -85,7 +85,7 @@ class Call:
     @property
     def turn_passed(self):
         """Whether the call by value is passed the turn."""
-        return self.turn is not None and self.name != "make"
+        return self.turn is not None
 
     @property
     def direct(self):
@@ -114,54 +114,54 @@ CALLS = {
     call.name: call
     for call in [
         Call(
-            "make", "make_on", "Made", "Reply",
-            [("table", TABLE_MUT), ("turn", TURN_MUT), ("size", U32), ("me", U32), ("start", shared("i32")), ("queue", mut("u32")),
+            "make", "call_make.make", "Made", "Reply",
+            [("table", TABLE_MUT), ("turn", TURN_MUT), ("counts", COUNTS), ("size", U32), ("me", U32), ("start", shared("i32")), ("queue", mut("u32")),
              ("items", mut("u8")), ("writes", mut("i32")), ("snapshots", mut("i32")), ("values", mut("i32")), ("stamps", mut("u32")),
              ("places", mut("u8")), ("outbox", mut("u8"))],
-            "not_made", "allParts {h} (countsFor 0 0) {t} " + ALL, "makeStep {m} size me start", "", "allParts {h} ({r} .counts) {t} " + LATER, "reply",
+            "replied", "allParts {h} counts {t} " + ALL, "makeStep {m} size me start", "", "allParts {h} ({r} .counts) {t} " + LATER, "reply",
         ),
         Call(
-            "begin", "client_calls.begin_on", "Begun", "BeginReply",
+            "begin", "call_client.begin", "Begun", "BeginReply",
             [("table", TABLE_MUT), ("counts", COUNTS), ("values", shared("i32")), ("snapshots", mut("i32"))],
             "no_begin", "beginParts m {t} counts values snapshots", "beginStep {m}", "beginRow {m} at", "beginParts m {t} ({r} .counts) values snapshots′", "beginReply",
         ),
         Call(
-            "read", "client_calls.read_on", "ReadReply", "ReadReply",
+            "read", "call_client.read", "ReadReply", "ReadReply",
             [("table", TABLE), ("ticket", U32), ("items", shared("u8")), ("writes", shared("i32")), ("snapshots", shared("i32")), ("item", U32)],
             "no_read", "readParts m {t} items writes snapshots", "readStep {m} ticket item", "readRow {m} at item", "", "readReply",
         ),
         Call(
-            "write", "client_calls.write_on", "Changed", "Reply",
+            "write", "call_write.write", "Changed", "Reply",
             [("table", TABLE_MUT), ("turn", TURN), ("ticket", U32), ("counts", COUNTS), ("items", mut("u8")), ("writes", mut("i32")), ("stamps", shared("u32")),
              ("item", U32), ("value", I32)],
             "replied", "writeParts m {h} counts {t} items writes stamps", "writeStep {m} ticket item value", "writeRow {m} at item value",
             "writeParts m {h} ({r} .counts) {t} items′ writes′ stamps", "reply",
         ),
         Call(
-            "ask", "client_calls.ask_on", "Asked", "AskReply",
+            "ask", "call_client.ask", "Asked", "AskReply",
             [("table", TABLE_MUT), ("ticket", U32), ("counts", COUNTS), ("queue", mut("u32"))],
             "no_ask", "askParts m counts {t} queue", "askStep {m} ticket", "askRow {m} at", "askParts m ({r} .counts) {t} queue′", "askReply",
         ),
         Call(
-            "withdraw", "client_calls.withdraw_on", "Changed", "Reply", [("table", TABLE_MUT), ("ticket", U32), ("counts", COUNTS)],
+            "withdraw", "call_client.withdraw", "Changed", "Reply", [("table", TABLE_MUT), ("ticket", U32), ("counts", COUNTS)],
             "replied", "withdrawParts m counts {t}", "withdrawStep {m} ticket", "withdrawRow {m} at", "withdrawParts m ({r} .counts) {t}", "reply",
         ),
         Call(
-            "report", "client_calls.report_on", "ReportReply", "ReportReply", [("table", TABLE), ("turn", TURN), ("counts", COUNTS)],
+            "report", "call_client.report", "ReportReply", "ReportReply", [("table", TABLE), ("turn", TURN), ("counts", COUNTS)],
             "no_report", "reportParts m {h} counts {t}", "reportStep {m}", "", "", "reportReply",
         ),
         Call(
-            "send", "send_on", "Sent", "u8",
+            "send", "call_send.send", "Sent", "u8",
             [("table", TABLE_MUT), ("turn", TURN_MUT), ("counts", COUNTS), ("queue", mut("u32")), ("items", shared("u8")), ("writes", shared("i32")),
              ("outbox", mut("u8")), ("block", mut("u8"))],
             "", "sendParts m {h} counts {t} queue items writes outbox", "sendStep {m} block", "", "sendParts m {h} counts {t} queue′ items writes outbox′", "number",
         ),
         Call(
-            "deliver", "deliver_on", "u8", "u8",
+            "deliver", "call_deliver.deliver", "u8", "u8",
             [("turn", TURN), ("counts", COUNTS), ("places", mut("u8")), ("outbox", shared("u8")), ("bytes", shared("u8"))],
         ),
         Call(
-            "work", "work_on", "Worked", "WorkReply",
+            "work", "call_work.work", "Worked", "WorkReply",
             [("table", TABLE_MUT), ("turn", TURN_MUT), ("counts", COUNTS), ("queue", mut("u32")), ("items", shared("u8")), ("values", mut("i32")),
              ("stamps", mut("u32")), ("places", mut("u8"))],
             "no_work", "workParts m {h} counts {t} queue items values stamps places", "workStep {m}", "",

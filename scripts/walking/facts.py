@@ -24,7 +24,7 @@ def den(name):
 
 def no_reply(call):
     """The reply where the table is not six rows."""
-    return NOTHING[call.reply].format(counts="countsFor 0 0" if call.name == "make" else "counts")
+    return NOTHING[call.reply].format(counts="counts")
 
 
 def reply_of(call, r="r"):
@@ -41,16 +41,21 @@ class Facts:
         self.changes_table = call.table == TABLE_MUT
         self.moves_turn = call.turn == TURN_MUT
 
-    def step(self, table, turn):
-        before = self.call.before.format(t=table, h=turn)
-        return before, self.call.step.format(m=f"({before})")
+    def before(self, table, turn):
+        return self.call.before.format(t=table, h=turn)
+
+    @property
+    def step(self):
+        """The call, as a function of the memory."""
+        return f"(λ (x : Memory). {self.call.step.format(m='x')})"
 
     def after(self, table, turn, reply):
         return self.call.after.format(t=table, h=turn, r=reply) if self.call.after else self.call.before.format(t=table, h=turn)
 
     def claim(self, reply, after, outcome):
-        said = f"({reply} ≡ {self.call.replied} ({outcome})) × ({after} ≡ {outcome} .memory)"
-        return said + (f" × (block′ ≡ blockLeft ({outcome} .answer) block)" if self.call.name == "send" else "")
+        if self.call.name == "send":
+            return f"GivesBlock ({outcome}) block ({reply}) ({after}) block′"
+        return f"Gives {self.call.replied} ({outcome}) ({reply}) ({after})"
 
     # ---- what the call by value says
     def on(self):
@@ -60,35 +65,35 @@ class Facts:
             first.append(("turn", "Turn"))
         names = first + [(n, typ(k)) for n, k in self.passed] + [("r", den(call.result))] + [(n + "′", typ(k)) for n, k in self.muts]
         table = "rows" if call.by_rows else "table"
-        all_of = "(turn : Turn) → " if call.name == "make" else "(m : Memory) → "
+        all_of = "" if call.name == "make" else "(m : Memory) → "
         if call.by_row:
             put = f"(set {table} at (r .row))"
             all_of += "(table : List Txn) → t ≡ rowAt table at → " * call.row_passed
         else:
             put = "(r .rows)"
-        turn = "(moved (r .change) turn)" if self.moves_turn else "turn"
-        before, outcome = self.step(table, "turn")
-        if call.by_row:
-            outcome = call.at_row.format(m=f"({before})")
+        turn = "(r .turn)" if self.moves_turn else "turn"
+        before = self.before(table, "turn")
+        outcome = (call.at_row if call.by_row else call.step).format(m=f"({before})")
         after = self.after(put if self.changes_table else table, turn, reply_of(call))
         types = " → ".join(t for _, t in names)
-        return f"abbrev pub {self.name}On : {types} → Type 0\n{self.name}On {' '.join(n for n, _ in names)} = {all_of}{self.claim(reply_of(call), after, outcome)}\n"
+        claim = f"{all_of}{self.claim(reply_of(call), after, outcome)}"
+        if call.name == "write":
+            claim = f"({claim}) × (6 ≤ at → r .row ≡ closed)"
+        return f"abbrev pub {self.name}On : {types} → Type 0\n{self.name}On {' '.join(n for n, _ in names)} = {claim}\n"
 
     # ---- what the exported call says
     def did(self):
         call = self.call
         names = [("table", "List Txn")] + ([("turn", "Turn")] if call.turn else []) + [(n, typ(k)) for n, k in self.rest] + [("r", den(call.reply))]
         names += [("table′", "List Txn")] * self.changes_table + [("turn′", "Turn")] * self.moves_turn + [(n + "′", typ(k)) for n, k in self.muts]
-        before, step = self.step("table", "turn")
         after = self.after("table′" if self.changes_table else "table", "turn′" if self.moves_turn else "turn", "r")
         all_of = "" if call.name == "make" else "(m : Memory) → "
         types = " → ".join(t for _, t in names)
-        claim = self.claim("r", after, f"called ({before}) ({step})")
+        claim = self.claim("r", after, f"called {self.called()}")
         return f"abbrev pub {self.name}Did : {types} → Type 0\n{self.name}Did {' '.join(n for n, _ in names)} = {all_of}{claim}\n"
 
     def called(self):
-        before, step = self.step("table", "turn")
-        return f"({before}) ({step})"
+        return f"{self.step} ({self.before('table', 'turn')})"
 
     def binder(self, more=()):
         names = [("table", "List Txn")] + ([("turn", "Turn")] if self.call.turn else []) + [(n, typ(k)) for n, k in self.rest] + list(more)
@@ -104,7 +109,7 @@ class Facts:
         call = self.call
         types, names = self.binder()
         lam = "" if call.name == "make" else "λ m. "
-        parts = "refl, refl, refl" if call.name == "send" else "refl, refl"
+        parts = "(refl, refl), refl" if call.name == "send" else "refl, refl"
         claim = self.claimed(no_reply(call), "table", "turn", "")
         return (
             f"pub {call.name}-not : {types} → (length table ≡ 6 → ⊥) → {claim}\n"
@@ -119,23 +124,22 @@ class Facts:
         at = "(rowFrom 0 0 table)" if call.by_row == "scan" else "(rowOf ticket table)"
         on = [at] * (call.by_row is not None) + [f"(rowAt table {at})"] * call.row_passed + ["(loaded table)"] * call.by_rows + ["turn"] * call.turn_passed
         on = " ".join(on + rest)
-        one = "turn" if call.name == "make" else "m"
-        said = f"(rw (loaded-six table six) at said) {one}" if call.by_rows else f"said {one} table"
+        one = "" if call.name == "make" else " m"
+        said = f"(rw (loaded-six table six) at said{' .0' * (call.name == 'write')}){one}" if call.by_rows else f"said{one} table"
         rows = ""
         if call.by_row:
             table, said = f"(set table {at} (r .row))", said + " refl" * call.row_passed
         else:
             table = "(stored (r .rows) table)"
             rows = ", stored-six (r .rows) table six" * self.changes_table
-        claim = self.claimed(reply_of(call), table, "(moved (r .change) turn)", "′")
+        claim = self.claimed(reply_of(call), table, "(r .turn)", "′")
         lam = "" if call.name == "make" else "λ m. "
         six = f"called-six {self.called()} six"
-        third = f", rw ({six}) (q .2)" if call.name == "send" else ""
         unfolding = "unfolding freeRow\n" if call.by_row == "scan" else ""
         return (
             f"pub {call.name}-did : {types} → length table ≡ 6 → {self.name}On {on}\n      → {claim}\n{unfolding}"
             f"{call.name}-did {names} six said = {lam}\n"
-            f"    let q = {said} in\n    (rw ({six}) (q .0), rw ({six}{rows}) (q .1){third})\n"
+            f"    let q = {said} in\n    rw ({six}{rows}) q\n"
         )
 
     def text(self):
@@ -145,19 +149,19 @@ class Facts:
 
 WITHDRAWN = """module _ (table : List Txn) (ticket : ℕ) (counts : Counts) (r : Changed) (six : length table ≡ 6) (said : WithdrawOn (rowOf ticket table) (rowAt table (rowOf ticket table)) counts r) where
   module _ (m : Memory) where
+    abbrev did : Outcome
+    did = withdrawStep (withdrawParts m counts table) ticket
+
     -- the row that is left, by the number
-    rows-are : set table (rowOf ticket table) (r .row) ≡ withdrawStep (withdrawParts m counts table) ticket .memory .txns .table
+    rows-are : set table (rowOf ticket table) (r .row) ≡ did .memory .txns .table
     rows-are = ap (λ (x : Memory). x .txns .table) (said m table refl .1)
 
-    numbered : r .reply .number ≡ number (withdrawStep (withdrawParts m counts table) ticket)
+    numbered : r .reply .number ≡ number did
     numbered = ap (λ (x : Reply). x .number) (said m table refl .0)
 
     put : (table′ : List Txn) → set table (rowOf ticket table) (r .row) ≡ table′
-        → (r .reply ≡ reply (called (withdrawParts m counts table) (withdrawStep (withdrawParts m counts table) ticket)))
-        × (withdrawParts m (r .reply .counts) table′ ≡ called (withdrawParts m counts table) (withdrawStep (withdrawParts m counts table) ticket) .memory)
-    put table′ e =
-        let q = said m table refl in
-        (rw (called-six (withdrawParts m counts table) (withdrawStep (withdrawParts m counts table) ticket) six) (q .0), rw (called-six (withdrawParts m counts table) (withdrawStep (withdrawParts m counts table) ticket) six) (ap (withdrawParts m (r .reply .counts)) (sym e) ∙ q .1))
+        → Gives reply (called (λ (x : Memory). withdrawStep x ticket) (withdrawParts m counts table)) (r .reply) (withdrawParts m (r .reply .counts) table′)
+    put table′ e = rw (called-six (λ (x : Memory). withdrawStep x ticket) (withdrawParts m counts table) six) (said m table refl .0, ap (withdrawParts m (r .reply .counts)) (sym e) ∙ said m table refl .1)
 
   pub withdraw-kept : (r .reply .number ≡ 0 → ⊥) → WithdrawDid table ticket counts (r .reply) table
   withdraw-kept z = λ m. put m table (rows-are m ∙ withdraw-table table m counts ticket .1 (λ e. z (numbered m ∙ e)))
@@ -167,10 +171,10 @@ WITHDRAWN = """module _ (table : List Txn) (ticket : ℕ) (counts : Counts) (r :
 """
 
 DELIVERED = """abbrev pub DeliverOn : Turn → Counts → List ℕ → List ℕ → List ℕ → ℕ → List ℕ → Type 0
-DeliverOn turn counts places outbox bytes r places′ = (m : Memory) → (r ≡ number (deliverStep (deliverParts m turn counts places outbox) bytes)) × (deliverParts m turn counts places′ outbox ≡ deliverStep (deliverParts m turn counts places outbox) bytes .memory)
+DeliverOn turn counts places outbox bytes r places′ = (m : Memory) → Gives number (deliverStep (deliverParts m turn counts places outbox) bytes) r (deliverParts m turn counts places′ outbox)
 """
 
-USES = """use Prim.Native.Nat.{{ℕ}}
+USES = """use Prim.Native.Nat.{{ℕ{least}}}
 use mathlib.Core.Path.{{{path}}}
 use mathlib.Core.Bool.{{false}}
 use mathlib.Core.List.{{List}}
@@ -188,27 +192,25 @@ SAYS = "-- What {whose} by value (`On`), what it says of the lent parts (`Did`),
 def client():
     names = ["begin", "read", "write", "ask", "withdraw", "report"]
     types = ["Reply", "BeginReply", "ReadReply", "AskReply", "ReportReply", "Changed", "Begun", "Asked"]
-    head = SAYS.format(whose="a client's call says") + USES.format(path="_≡_, refl, sym, ap, _∙_", pos=", pos", lists="set")
-    head += "use Rattle.memory.specs.Rows.{closed, rowFrom, rowOf, freeRow, rowAt}\n"
+    head = SAYS.format(whose="a client's call says") + USES.format(path="_≡_, refl, sym, ap, _∙_", pos=", pos", lists="set", least=", _≤_")
+    head += "use Rattle.memory.specs.Rows.{closed, rowFrom, rowOf, freeRow, rowAt}\nuse Rattle.engine.specs.Calls.{Outcome}\n"
     head += "use Rattle.engine.specs.Client.{beginRow, beginStep, readRow, readStep, writeRow, writeStep, askRow, askStep, withdrawRow, withdrawStep, reportStep}\n"
-    head += "use Rattle.client.specs.Lent.{beginParts, readParts, writeParts, askParts, withdrawParts, reportParts}\n"
-    head += "use Rattle.lent.specs.Table.{loaded}\n"
-    head += "use Rattle.calls.specs.Replies.{noReport, number, reply, beginReply, readReply, askReply, reportReply}\n"
-    head += "".join(f"use Rattle.calls.specs.declared.{t}.{{{t}}}\n" for t in types)
-    head += "use Rattle.replica.specs.Called.{called}\n"
-    head += "use Rattle.replica.proofs.CalledLaws.{called-six, called-other, loaded-six, withdraw-table}\n\n"
+    head += "use Rattle.call_reply.specs.Parts.{beginParts, readParts, writeParts, askParts, withdrawParts, reportParts}\n"
+    head += "use Rattle.host_table.specs.Table.{loaded}\n"
+    head += "use Rattle.call_reply.specs.Replies.{noReport, number, reply, beginReply, readReply, askReply, reportReply, Gives}\n"
+    head += "".join(f"use Rattle.call_reply.specs.declared.{t}.{{{t}}}\n" for t in types)
+    head += "use Rattle.call_reply.specs.Called.{called}\n"
+    head += "use Rattle.call_reply.proofs.CalledLaws.{called-six, called-other}\nuse Rattle.replica.proofs.TableLaws.{loaded-six, withdraw-table}\n\n"
     return head + "\n".join(Facts(CALLS[n]).text() for n in names)
 
 
 def turn():
-    head = SAYS.format(whose="a make, a send, a deliver or a work says") + USES.format(path="_≡_, refl", pos="", lists="replicate")
-    head += "use Rattle.engine.specs.Make.{countsFor, makeStep}\nuse Rattle.engine.specs.Moves.{sendStep, deliverStep, workStep}\n"
-    head += "use Rattle.client.specs.Lent.{allParts}\nuse Rattle.sending.specs.Lent.{sendParts, blockLeft}\n"
-    head += "use Rattle.delivering.specs.Lent.{deliverParts}\nuse Rattle.working.specs.Lent.{workParts}\n"
-    head += "use Rattle.lent.specs.Table.{loaded, stored}\nuse Rattle.lent.specs.Turns.{moved}\n"
-    head += "use Rattle.calls.specs.Replies.{number, reply, workReply}\n"
-    head += "".join(f"use Rattle.calls.specs.declared.{t}.{{{t}}}\n" for t in ["Reply", "WorkReply"])
-    head += "".join(f"use Rattle.turn_calls.specs.declared.{t}.{{{t}}}\n" for t in ["Made", "Sent", "Worked"])
-    head += "use Rattle.replica.specs.Called.{called}\n"
-    head += "use Rattle.replica.proofs.CalledLaws.{called-six, called-other, loaded-six, stored-six}\n\n"
+    head = SAYS.format(whose="a make, a send, a deliver or a work says") + USES.format(path="_≡_, refl", pos="", lists="replicate", least="")
+    head += "use Rattle.engine.specs.Make.{makeStep}\nuse Rattle.engine.specs.Moves.{sendStep, deliverStep, workStep}\n"
+    head += "use Rattle.call_reply.specs.Parts.{allParts, sendParts, deliverParts, workParts}\n"
+    head += "use Rattle.host_table.specs.Table.{loaded, stored}\n"
+    head += "use Rattle.call_reply.specs.Replies.{number, reply, workReply, Gives, GivesBlock}\n"
+    head += "".join(f"use Rattle.call_reply.specs.declared.{t}.{{{t}}}\n" for t in ["Reply", "WorkReply", "Made", "Sent", "Worked"])
+    head += "use Rattle.call_reply.specs.Called.{called}\n"
+    head += "use Rattle.call_reply.proofs.CalledLaws.{called-six, called-other}\nuse Rattle.replica.proofs.TableLaws.{loaded-six, stored-six}\n\n"
     return head + "\n".join(Facts(CALLS[n]).text() for n in ["make", "send", "work"]) + "\n" + DELIVERED

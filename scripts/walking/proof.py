@@ -9,8 +9,8 @@ from .names import listed, nested, nested_type, sub
 from .uses import USES
 from .walk import Walk
 
-HELPERS = {  # by the name in a proof: the function, its contract in `lent`
-    "load": ("load", "Load"), "copy": ("copy_turn", "CopyTurn"), "store": ("store", "Store"), "move": ("move_turn", "MoveTurn"), "scan": ("scan", "Scan"),
+HELPERS = {  # by the name in a proof: the function, its contract in `host_table`
+    "load": ("load", "Load"), "copy": ("copy_turn", "CopyTurn"), "store": ("store", "Store"), "turn": ("set_turn", "SetTurn"), "scan": ("scan", "Scan"),
     "find": ("find", "Find"), "row": ("row", "Row"), "put": ("put", "Put"), "end": ("end", "End"),
 }
 OF_A_CONTRACT = "{M : Type 1} (𝓤 : URA M) (H : Heap 𝓤) (A : Atoms 𝓤) → (Memory → SProp 𝓤) → (Routine → Fun 𝓤) → Contract 𝓤"
@@ -32,10 +32,11 @@ class Proof(Walk):
     def module_of(self, callee):
         call = self.call
         if callee == "call":
-            return f"Rattle.calls.proofs.{call.by_value}" if call.crate == "calls" else f"Rattle.turn_calls.proofs.{call.by_value}"
+            crate, path = call.by_value.split(".", 1)
+            return f"Rattle.{crate}.proofs.{path}"
         if callee == "refuse":
-            return "Rattle.turn_calls.proofs.not_made" if call.refusal == "not_made" else f"Rattle.calls.proofs.replies.{call.refusal}"
-        return f"Rattle.lent.proofs.{HELPERS[callee][0]}"
+            return f"Rattle.call_reply.proofs.replies.{call.refusal}"
+        return f"Rattle.host_table.proofs.{HELPERS[callee][0]}"
 
     def contract_of(self, callee):
         return {"call": "ByValue", "refuse": "Refuse"}.get(callee) or HELPERS[callee][1]
@@ -48,15 +49,14 @@ class Proof(Walk):
     # ---- the file's parts
     def uses(self):
         call, out = self.call, [USES.rstrip()]
-        facts = "ClientFacts" if call.crate == "calls" else "TurnFacts"
+        facts = "ClientFacts" if call.crate in ("call_client", "call_write") else "TurnFacts"
         name = call.name
         laws = {"deliver": [], "withdraw": ["WithdrawDid", "withdraw-not", "withdraw-kept", "withdraw-ended"]}.get(name, [f"{name.capitalize()}Did", f"{name}-not", f"{name}-did"])
         out.append("use Rattle.replica.proofs.Handed.{handed, goes-handed, is-rows}")
         out.append(f"use Rattle.replica.proofs.{facts}.{{{', '.join([name.capitalize() + 'On'] + laws)}}}")
-        crate = "turn_calls" if call.result in ("Made", "Sent", "Worked") else "calls"
-        for alias, of, where in [("D", call.result, crate)] + ([] if call.direct else [("Y", call.reply, "calls")]):
+        for alias, of in [("D", call.result)] + ([] if call.direct else [("Y", call.reply)]):
             if of != "u8":
-                out += [f"use Rattle.{where}.specs.declared.{of}.{{{of}}}", f"use Rattle.{where}.proofs.{of} as {alias}", f"use Rattle.{where}.proofs.{of}.Laws as {alias}′"]
+                out += [f"use Rattle.call_reply.specs.declared.{of}.{{{of}}}", f"use Rattle.call_reply.proofs.{of} as {alias}", f"use Rattle.call_reply.proofs.{of}.Laws as {alias}′"]
         for callee in self.callees:
             module = self.module_of(callee)
             out += [f"use {module} as {callee}"] * (callee in ("call", "refuse"))

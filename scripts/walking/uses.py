@@ -50,14 +50,14 @@ use Rattle.memory.specs.Rows.{closed, rowFrom, rowOf, rowAt}
 use Rattle.memory.proofs.Counts as N
 use Rattle.memory.proofs.Counts.Laws as N′
 use Rattle.memory.proofs.Txn as T
-use Rattle.lent.specs.Table.{loaded, stored}
-use Rattle.lent.specs.Turns.{moved}
-use Rattle.lent.proofs.Lend.{MutAt, ShrAt, MutOf, ShrOf, slice-lent, slice-read, slice-shared, ref-lent, ref-read, ref-shared, calls-lending}
-use Rattle.lent.proofs.Steps.{when, equal, unequal, unit-typed, frees-cell, frees-room}
-use Rattle.lent.proofs.Rows.{R, vals, tells, makes, copies, lawful}
-use Rattle.lent.proofs.Cursor as U
-use Rattle.lent.proofs.Answers.{answers}
-use Rattle.engine.specs.Make.{countsFor}
-use Rattle.calls.specs.Replies.{noReport}
-use Rattle.lent.proofs.Callees.{Scan, Find, Row, Put, End, to-scan, asks-scan, gives-scan, to-find, asks-find, gives-find, to-row, asks-row, gives-row, to-put, asks-put, gives-put, to-end, asks-end, gives-end, Load, Store, CopyTurn, MoveTurn, to-load, asks-load, gives-load, to-store, asks-store, gives-store, stored-length, to-copy, asks-copy, gives-copy, to-move, asks-move, gives-move}
+use Rattle.memory.proofs.Turn as K
+use Rattle.host_table.specs.Table.{loaded, stored}
+use Rattle.host_table.proofs.Lend.{MutAt, ShrAt, MutOf, ShrOf, slice-lent, slice-read, slice-shared, ref-lent, ref-read, ref-shared, calls-lending}
+use Rattle.host_table.proofs.Steps.{when, equal, unequal, unit-typed, frees-all}
+use Rattle.host_table.proofs.Steps.Held.{cell, room}
+use Rattle.host_table.proofs.Rows.{R, vals, tells, makes, copies, lawful}
+use Rattle.host_table.proofs.Cursor as U
+use Rattle.host_table.proofs.Answers.{answers}
+use Rattle.call_reply.specs.Replies.{noReport}
+use Rattle.host_table.proofs.Callees.{Scan, Find, Row, Put, End, to-scan, asks-scan, gives-scan, to-find, asks-find, gives-find, to-row, asks-row, gives-row, to-put, asks-put, gives-put, to-end, asks-end, gives-end, Load, Store, CopyTurn, SetTurn, to-load, asks-load, gives-load, to-store, asks-store, gives-store, stored-length, to-copy, asks-copy, gives-copy, to-turn, asks-turn, gives-turn}
 """

@@ -3,7 +3,7 @@
 from .calls import COUNTS, TABLE_MUT, TURN_MUT, U32
 from .facts import no_reply, reply_of
 from .mir import items, place
-from .names import Names, nested, sub
+from .names import Names, listed, nested, sub
 
 ALL = "𝓤 H A W mem run"
 
@@ -98,8 +98,8 @@ class Walk(Names):
     def leave(self, end, returns="returns !"):
         F = len(self.front)
         self.say(f"{returns} (look ! {self.at(0, F)} refl) $")
-        frees = (f"frees-{'cell' if i in self.full else 'room'} ! {self.at(i, F)} refl refl" for i in range(self.locals))
-        self.say(" $ ".join(frees) + " $ free0 ! $")
+        held = ("cell _ _ _" if i in self.full else "room _ _" for i in reversed(range(self.locals)))
+        self.say(f"frees-all ! ({listed('_' * F)}) ({listed(held)}) $ free0 ! $")
         self.bring(self.ends_in)
         self.say(f"by ! ({end})")
 
@@ -158,8 +158,8 @@ class Walk(Names):
         self.say(f"rewrite ! {self.at(local, len(self.front))} (λ (w : Val). ‵ (fat fullShare D′.mir l{local} 0 w)) (ap only (LL.tells D.the-type D′.the-laws r _ is)) refl $")
         self.say("let fields = LL.owed D.the-type D′.the-laws r _ is in")
         if call.result in ("Made", "Sent", "Worked"):
-            self.say("let is₄ = is-rows (r .rows) _ (fields .1 .0) in")
-            self.say("let v₄ = D′.the-laws .1 .0 .val (map (T.the-type .to) (r .rows)) in")
+            self.say("let is₄ = is-rows (r .rows) _ (fields .1 .1 .0) in")
+            self.say("let v₄ = D′.the-laws .1 .1 .0 .val (map (T.the-type .to) (r .rows)) in")
 
     def call_to(self, name, operands, local):
         table, index = "b₀ o₀ ys", f"{self.found}"
@@ -191,9 +191,9 @@ class Walk(Names):
             self.bring(["table", "t:table"])
             how = f"slice-lent R b₀ o₀ κ₀ q₀ γ₀ ys W room₀ (stored (r .rows) ys) (stored-length {ALL} (r .rows) ys (is₄ .1 .0 .1))"
             self.lend(how, "Store", "store", f"{table} (r .rows) v₄", "u ≡ vunit", operands, "w₁ e₁", "(unit-typed w₁ e₁)", local, " is₄")
-        elif name == "move_turn":
+        elif name == "set_turn":
             self.bring(["turn", "t:turn"])
-            self.lend("ref-lent U.R b₁ o₁ κ₁ q₁ γ₁ h W (moved (r .change) h)", "MoveTurn", "move", "b₁ o₁ h (r .change) (fields .1 .1 .0 .1)", "u ≡ vunit", operands, "w₂ e₂", "(unit-typed w₂ e₂)", local)
+            self.lend("ref-lent U.R b₁ o₁ κ₁ q₁ γ₁ h W (r .turn)", "SetTurn", "turn", "b₁ o₁ h (r .turn) (D′.the-laws .1 .0 .val (K.the-type .to (r .turn)))", "u ≡ vunit", operands, "w₂ e₂", "(unit-typed w₂ e₂)", local, " (fields .1 .0)")
         elif name == self.call.function:
             self.by_value(operands, local)
         else:
@@ -230,7 +230,7 @@ class Walk(Names):
 
     def end(self, table, did, long):
         call = self.call
-        args = [f"({reply_of(call)})"] + [table] * (call.table == TABLE_MUT) + ["(moved (r .change) h)"] * (call.turn == TURN_MUT)
+        args = [f"({reply_of(call)})"] + [table] * (call.table == TABLE_MUT) + ["(r .turn)"] * (call.turn == TURN_MUT)
         args += [self.last(i) for i in self.muts] + ["is" if call.direct else self.reply_is] + [long] * (call.table == TABLE_MUT) + [did]
         return f"ends _ {' '.join(args)}"
 

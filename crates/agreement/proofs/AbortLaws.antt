@@ -14,10 +14,10 @@ use Rattle.block.specs.Writing.{entriesFrom}
 use Rattle.memory.specs.declared.Txn.{Txn}
 use Rattle.memory.specs.Memory.{Transactions}
 use Rattle.memory.specs.Rows.{closed, isOpen, rowAt, writeCount, itemsOf, has}
-use Rattle.engine.specs.Moves.{shares, isHit, spared, insertRising, hitTickets, without}
+use Rattle.engine.specs.Moves.{shares, isHit, afterAborts, insertRising, hitTickets, without}
 use Rattle.engine.proofs.Tests.{same-by, clash}
 use Rattle.engine.proofs.HitLaws.{hit-open}
-use Rattle.protocol.specs.Lists.{pick, keep, any, insert, sort}
+use Rattle.protocol.specs.Lists.{keep, any, insert, sort}
 use Rattle.protocol.specs.Writesets.{Write}
 use Rattle.protocol.specs.Replica.{Transaction}
 use Rattle.protocol.specs.Moves.{conflicts, abortedBy}
@@ -30,11 +30,7 @@ use Rattle.agreement.proofs.RowView.{ticket-of}
 has-any : (t : ℕ) (gone : List ℕ) → any (λ x. eqb x t) gone ≡ has t gone
 unfolding has any
 has-any t [] = refl
-has-any t (x ∷ xs) = go (eqb x t) (has-any t xs)
-  where
-    go : (b : Bool) → any (λ y. eqb y t) xs ≡ has t xs → pick b true (any (λ y. eqb y t) xs) ≡ cond b true (has t xs)
-    go true e = refl
-    go false e = e
+has-any t (x ∷ xs) = rw (has-any t xs)
 
 pub queue-kept : (gone l : List ℕ) → keep (λ t. not (any (λ x. eqb x t) gone)) l ≡ without gone l
 unfolding keep without
@@ -42,7 +38,7 @@ queue-kept gone [] = refl
 queue-kept gone (t ∷ ts) = rw (has-any t gone) (go (has t gone) (queue-kept gone ts))
   where
     go : (b : Bool) → keep (λ y. not (any (λ x. eqb x y) gone)) ts ≡ without gone ts
-        → pick (not b) (t ∷ keep (λ y. not (any (λ x. eqb x y) gone)) ts) (keep (λ y. not (any (λ x. eqb x y) gone)) ts) ≡ cond b (without gone ts) (t ∷ without gone ts)
+        → cond (not b) (t ∷ keep (λ y. not (any (λ x. eqb x y) gone)) ts) (keep (λ y. not (any (λ x. eqb x y) gone)) ts) ≡ cond b (without gone ts) (t ∷ without gone ts)
     go true e = e
     go false e = ap (λ (l : List ℕ). t ∷ l) e
 
@@ -58,14 +54,14 @@ none-shared (e ∷ es) = none-shared es
 
 -- the items with one more in front
 more-shared : (i : ℕ) (is : List ℕ) (es : List Entry)
-    → shares (i ∷ is) es ≡ pick (Rattle.protocol.specs.Writesets.has i (map writeOf es)) true (shares is es)
+    → shares (i ∷ is) es ≡ cond (Rattle.protocol.specs.Writesets.has i (map writeOf es)) true (shares is es)
 unfolding shares has Rattle.protocol.specs.Writesets.has
 more-shared i is [] = refl
 more-shared i is (e ∷ es) =
     rw (eqb-swap i (e .item), more-shared i is es)
     (go (eqb (e .item) i) (has (e .item) is) (Rattle.protocol.specs.Writesets.has i (map writeOf es)) (shares is es))
   where
-    go : (a h p s : Bool) → cond a true h || pick p true s ≡ pick (pick a true p) true (h || s)
+    go : (a h p s : Bool) → cond a true h || cond p true s ≡ cond (cond a true p) true (h || s)
     go true h p s = refl
     go false true true s = refl
     go false true false s = refl
@@ -87,11 +83,7 @@ stage-same s h = same-by s 2 (λ e. rw (eq-eqb s 2 e, le-ltb s 2 (omega arith)))
 rising-same : (x : ℕ) (l : List ℕ) → insert x l ≡ insertRising x l
 unfolding insert insertRising
 rising-same x [] = refl
-rising-same x (y ∷ ys) = go (ltb x y) (rising-same x ys)
-  where
-    go : (b : Bool) → insert x ys ≡ insertRising x ys → pick b (x ∷ (y ∷ ys)) (y ∷ insert x ys) ≡ cond b (x ∷ (y ∷ ys)) (y ∷ insertRising x ys)
-    go true e = refl
-    go false e = ap (λ (l : List ℕ). y ∷ l) e
+rising-same x (y ∷ ys) = rw (rising-same x ys)
 
 -- the rows as transactions do not look at the table nor at the queue
 pub rows-beside : (x : Transactions) (table : List Txn) (queue : List ℕ) (i : ℕ) (ts : List Txn)
@@ -123,13 +115,13 @@ module _ (x : Transactions) (es : List Entry) (items : length (x .items) ≡ 48)
       (share-same (itemsOf i t (x .items)) (slice (8 * i) (8 * i + n) (x .writes)) es
       (length-slice (8 * i) (8 * i + n) (x .items) (omega arith) ∙ sym (length-slice (8 * i) (8 * i + n) (x .writes) (omega arith)))))
 
-  pub rows-spared : (i : ℕ) (ts : List Txn) → Staged i ts → rowsFrom x i (spared es (x .items) i ts) ≡ keep (λ u. not (conflicts w u)) (rowsFrom x i ts)
-  unfolding rowsFrom spared keep
+  pub rows-spared : (i : ℕ) (ts : List Txn) → Staged i ts → rowsFrom x i (afterAborts es (x .items) i ts) ≡ keep (λ u. not (conflicts w u)) (rowsFrom x i ts)
+  unfolding rowsFrom afterAborts keep
   rows-spared i [] s = refl
   rows-spared i (t ∷ ts) s = go (isHit es (x .items) i t) refl (isOpen t) refl (rows-spared (suc i) ts (staged-rest i t ts s))
     where
-      go : (b : Bool) → isHit es (x .items) i t ≡ b → (o : Bool) → isOpen t ≡ o → rowsFrom x (suc i) (spared es (x .items) (suc i) ts) ≡ keep (λ u. not (conflicts w u)) (rowsFrom x (suc i) ts)
-          → rowsFrom x i (cond b closed t ∷ spared es (x .items) (suc i) ts)
+      go : (b : Bool) → isHit es (x .items) i t ≡ b → (o : Bool) → isOpen t ≡ o → rowsFrom x (suc i) (afterAborts es (x .items) (suc i) ts) ≡ keep (λ u. not (conflicts w u)) (rowsFrom x (suc i) ts)
+          → rowsFrom x i (cond b closed t ∷ afterAborts es (x .items) (suc i) ts)
           ≡ keep (λ u. not (conflicts w u)) (cond o (txnOf x i t ∷ rowsFrom x (suc i) ts) (rowsFrom x (suc i) ts))
       go true h true o e = rw (hit-same i t ts s o, h) e
       go true h false o e = clash (hit-open es (x .items) i t h) o

@@ -3,8 +3,8 @@ use Prim.Native.Nat.{ℕ, suc, _-_, _<_, _≤_}
 use mathlib.Core.Path.{_≡_, refl, sym, ap, _∙_, subst}
 use mathlib.Core.List.{List, List·Memᴰ·head, List·Memᴰ·not-nil, Memᴰ·append-left, Memᴰ·append-right, [], _∷_}
 use native.Mathlib.Omega.{arith}
-use lib.IntN.{ℤ}
-use lib.ListN.{length, length-map, take}
+use lib.IntN.{ℤ, pos}
+use lib.ListN.{length, length-map, getD, take}
 use lib.Seq.{length-take-le}
 use borrow.Author.Tests.{ne-eqb}
 use Rattle.memory.specs.Memory.{Memory}
@@ -17,14 +17,16 @@ use Rattle.engine.specs.Step.Call.{read, write, work}
 use Rattle.engine.proofs.Steps.{work-by}
 use Rattle.engine.proofs.ShapeTurn.{working}
 use Rattle.protocol.specs.Lists.{Mem}
+use Rattle.protocol.specs.Writesets.{lookup}
 use Rattle.protocol.specs.Journal.{Journal, journal}
-use Rattle.protocol.specs.Observer.{Observed, Placed, Handout, sequence, idOf, noPlaced}
-use Rattle.protocol.specs.Statement.{NotHandedOut, Committed, WorkClaim, WriteClaim, ReadClaim, Agreed}
+use Rattle.protocol.specs.Observer.{Observed, Placed, Handout, sequence, idOf, applyAll, handoutMessage, noPlaced}
+use Rattle.protocol.specs.Statement.{NotHandedOut, Committed, Agreed}
 use Rattle.protocol.specs.Machine.{MachineSystem, MachineAgreement, CommandPremise, CommandClaims, systemOf}
 use Rattle.protocol.proofs.Refinement.{machine-agreement}
-use Rattle.protocol.proofs.SequenceLaws.{mem-at}
-use Rattle.agreement.specs.Group.{call, heard, Group, CallAt, fresh, run, Comes, Calls}
-use Rattle.agreement.specs.Statement.{PutDown, Agrees, FirstCommitter, groupAfter, Agreement}
+use Rattle.protocol.proofs.ListLaws.{mem-map}
+use Rattle.protocol.proofs.SequenceLaws.{sequence-mono, mem-at}
+use Rattle.agreement.specs.Group.{messageIn, call, heard, Group, CallAt, fresh, run, Comes, Calls}
+use Rattle.agreement.specs.Statement.{InSequence, Agrees, FirstCommitter, groupAfter, Agreement}
 use Rattle.agreement.proofs.View.{setup, Sound, Owed}
 use Rattle.agreement.proofs.Replicas.{places-apart}
 use Rattle.agreement.proofs.Runs.{machine, machineOf, commands, journalsRun, runs, fresh-kept, kept-run, Said, said}
@@ -34,7 +36,7 @@ use Rattle.agreement.proofs.Runs.{machine, machineOf, commands, journal
 next-place : (c : ℕ) → suc c - 1 ≡ c
 next-place c = omega arith
 
-put-down : (D : List (Handout ℤ)) (k t : ℕ) → NotHandedOut D k t → PutDown D k t → ⊥
+put-down : (D : List (Handout ℤ)) (k t : ℕ) → NotHandedOut D k t → InSequence D k t → ⊥
 put-down D k t free p =
     let a = mem-at noPlaced (sequence D) (p .0) (p .1) in
     free (a .0) (a .1 .0) (ap (λ (e : Placed ℤ). e .sender) (sym (a .1 .1)) ∙ p .2) (ap (λ (e : Placed ℤ). e .ticket) (sym (a .1 .1)) ∙ p .3)
@@ -129,24 +131,22 @@ module _ (n : ℕ) (start : List ℤ) (least : 2 ≤ n) (most : n ≤ 6) (long :
 
     committing : (s .ticket ≡ 0 → ⊥) → Committed F (run n start (fresh n start) before .handouts) seen k (s .sender) (s .ticket) (s .aborted)
     unfolding heard
-    committing z =
-        rw (ne-eqb (s .ticket) 0 z) at
-        (subst (λ (o : Answer). WorkClaim F (run n start (fresh n start) before .handouts) seen k (heard work o)) a (at-call before (record { at = k; does = call work }) e))
+    committing z = at-call before (record { at = k; does = call work }) e (s .sender) (s .ticket) (s .aborted) (ap (heard n (call work)) a ∙ rw (ne-eqb (s .ticket) 0 z))
 
     -- a work that names a ticket as aborted commits a writeset
     naming : (t : ℕ) → Mem t (s .aborted) → s .ticket ≡ 0 → ⊥
     naming t q z = none-named n _ (sound-at before (record { at = k; does = call work }) e) t (ap workedOn a ∙ z) (subst (Mem t) (sym (ap namedBy a)) q)
 
   reading : (before : List CallAt) (k t i : ℕ) (v : ℤ) → Comes cs before (record { at = k; does = call (read t i) })
-      → step (groupAfter n start cs before .memories k) (read t i) .answer ≡ got v → ReadClaim (setup n start) F (run n start (fresh n start) before .observed k) t i (Rattle.protocol.specs.Replica.Event.got t i v)
+      → step (groupAfter n start cs before .memories k) (read t i) .answer ≡ got v
+      → let note = run n start (fresh n start) before .observed k .noted t in v ≡ lookup i (getD (applyAll start (take (note .start) F)) i (pos 0)) (note .writes)
   unfolding heard
-  reading before k t i v e a = subst (λ (o : Answer). ReadClaim (setup n start) F (run n start (fresh n start) before .observed k) t i (heard (read t i) o)) a (at-call before (record { at = k; does = call (read t i) }) e)
+  reading before k t i v e a = at-call before (record { at = k; does = call (read t i) }) e v (ap (heard n (call (read t i))) a)
 
   writing : (before : List CallAt) (k t i : ℕ) (v : ℤ) → Comes cs before (record { at = k; does = call (write t i v) })
       → step (groupAfter n start cs before .memories k) (write t i v) .answer ≡ refused 9 → NotHandedOut (run n start (fresh n start) before .handouts) k t
   unfolding heard
-  writing before k t i v e a =
-      subst (λ (o : Answer). WriteClaim (run n start (fresh n start) before .handouts) k t (heard (write t i v) o)) a (at-call before (record { at = k; does = call (write t i v) }) e) refl
+  writing before k t i v e a = at-call before (record { at = k; does = call (write t i v) }) e (ap (heard n (call (write t i v))) a)
 
   agrees : (k : ℕ) → Agrees start F (g .handouts) (g .observed k) (g .memories k .store .values) (reportOf (g .memories k))
   unfolding reportOf
@@ -154,20 +154,25 @@ module _ (n : ℕ) (start : List ℤ) (least : 2 ≤ n) (most : n ≤ 6) (long :
     commits = a .commits;
     counted = ap length (a .commits) ∙ length-map (take (g .memories k .counts .commits) F) idOf ∙ length-take-le (g .memories k .counts .commits) F (a .within);
     below = a .below;
+    reached = λ i h l.
+        let u = sequence-mono (g .handouts) (suc i) (g .memories k .turn .slot) (let q = group .rising i h in omega arith) in
+        let v = a .passed in omega arith;
     values = a .values;
   }
 
   pub agreement-from : Agreement n start cs
   agreement-from = record {
     slots = λ i j h u. rw (group .rising i (omega arith), group .rising j u) h;
-    blocks = group .messages;
+    blocks = λ b m. group .messages .each (messageIn b) (mem-map messageIn (g .blocks) b m);
+    handed = λ h m. group .messages .all (handoutMessage h) (mem-map handoutMessage (g .handouts) h m);
     replicas = λ k h. agrees k;
     reads = reading;
     first = λ q h u. first-committer F q h (group .first (q - 1) (omega arith));
     works = λ before k s e a z. rw (next-place (length (run n start (fresh n start) before .observed k .commits))) (committing before k s e a z .named);
     aborts = λ before k s e a t q.
-        let b = committing before k s e a (naming before k s e a t q) .aborts t q in
-        rw (next-place (length (run n start (fresh n start) before .observed k .commits))) (b .item, b .written, b .committed);
+        let z = naming before k s e a t q in
+        let b = committing before k s e a z .aborts t q in
+        (z, rw (next-place (length (run n start (fresh n start) before .observed k .commits))) (b .item, b .written, b .committed));
     spared = λ before k s e a t q. put-down (run n start (fresh n start) before .handouts) k t (committing before k s e a (naming before k s e a t q) .aborts t q .free);
     never-stale = λ before k t i v e a. put-down (run n start (fresh n start) before .handouts) k t (writing before k t i v e a);
   }

@@ -12,7 +12,7 @@ use borrow.Author.Tests.{eq-eqb, ne-eqb}
 use Rattle.block.specs.declared.Entry.{Entry}
 use Rattle.block.specs.Message.{Record, entriesFit}
 use Rattle.block.specs.Form.{messageOf}
-use Rattle.block.specs.Answers.{readRefusal, entryAt}
+use Rattle.block.specs.Answers.{blockRefusal, entryAt}
 use Rattle.block.specs.Theorems.{noRecord, noEntry}
 use Rattle.block.proofs.BoolLaws.{both, is-within}
 use Rattle.block.proofs.MessageLaws.{message-facts, record-facts-at}
@@ -23,7 +23,7 @@ use Rattle.engine.specs.Moves.{entriesFor, writesetAt, applied, stamped}
 use Rattle.engine.proofs.Tests.{same-by}
 use Rattle.protocol.specs.Lists.{update}
 use Rattle.protocol.specs.Writesets.{applyOne, stampOne, noWriteset}
-use Rattle.agreement.specs.Group.{writeOf, writesetOf, messageIn}
+use Rattle.agreement.specs.Group.{writeOf, writesetFrom, messageIn}
 
 -- ---- the writesets
 
@@ -38,7 +38,7 @@ unfolding messageOf
 counted b = length-recordsOf _ _
 
 -- the writeset read from the block is that of the message
-module _ (b : List ℕ) (taken : readRefusal b ≡ 0) (j : ℕ) (h : j < getD b 3 0) where
+module _ (b : List ℕ) (taken : blockRefusal b ≡ 0) (j : ℕ) (h : j < getD b 3 0) where
   abbrev this : Record
   this = getD (messageOf b .records) j noRecord
 
@@ -53,9 +53,9 @@ module _ (b : List ℕ) (taken : readRefusal b ≡ 0) (j : ℕ) (h : j < getD b 
       let few : min (length (this .entries)) 8 ≡ length (this .entries) = omega (arith, r .writes .below) in
       rw (record-read b (t .long) f j within, few, entries-are b j 0 (this .entries) (λ k u. rw (zero-add k) (entry-read b (t .long) f j within k u)))
 
-  pub writeset-seen : getD (messageIn b .writesets) j noWriteset ≡ writesetOf (writesetAt b j)
+  pub writeset-seen : getD (messageIn b .writesets) j noWriteset ≡ writesetFrom (writesetAt b j)
   unfolding messageIn
-  writeset-seen = List·getD-map writesetOf (messageOf b .records) j noRecord ∙ ap writesetOf (sym writeset-read)
+  writeset-seen = List·getD-map writesetFrom (messageOf b .records) j noRecord ∙ ap writesetFrom (sym writeset-read)
 
   -- its items rise and are items
   pub writeset-fits : entriesFit 0 (writesetAt b j .entries) ≡ true
@@ -65,7 +65,7 @@ module _ (b : List ℕ) (taken : readRefusal b ≡ 0) (j : ℕ) (h : j < getD b 
 
 pub count-seen : (b : List ℕ) → length (messageIn b .writesets) ≡ getD b 3 0
 unfolding messageIn
-count-seen b = length-map (messageOf b .records) writesetOf ∙ counted b
+count-seen b = length-map (messageOf b .records) writesetFrom ∙ counted b
 
 pub sender-seen : (b : List ℕ) → messageIn b .sender ≡ getD b 1 0
 unfolding messageIn messageOf

@@ -11,11 +11,12 @@ use lib.ListN.{getD}
 use borrow.Author.Tests.{eqb-true, eq-eqb, lt-ltb, le-ltb, not-false}
 use Rattle.block.specs.Message.{ownerOf, kindFits, valid}
 use Rattle.block.specs.Form.{messageOf}
-use Rattle.block.specs.Answers.{readRefusal, headerOf}
+use Rattle.block.specs.Answers.{blockRefusal, headerOf}
 use Rattle.block.proofs.BoolLaws.{both, joined}
 use Rattle.block.proofs.MessageLaws.{message-facts}
 use Rattle.block.proofs.AnswerLaws.{is-taken, is-formed}
 use Rattle.memory.specs.Memory.{Memory}
+use Rattle.memory.specs.Turns.{isOn}
 use Rattle.engine.specs.Moves.{isOwnBlock, notSentHere, deliverRefusal, deliverNow}
 use Rattle.engine.specs.Step.{step}
 use Rattle.engine.specs.Step.Call.{deliver}
@@ -39,12 +40,12 @@ no-kind : (k n : ℕ) → kindFits k n ≡ true → k ≡ 0 → ⊥
 unfolding kindFits
 no-kind k n h z = false≢true (rw z at h)
 
-pub kind-some : (b : List ℕ) → readRefusal b ≡ 0 → getD b 0 0 ≡ 0 → ⊥
+pub kind-some : (b : List ℕ) → blockRefusal b ≡ 0 → getD b 0 0 ≡ 0 → ⊥
 unfolding messageOf valid
 kind-some b e = no-kind _ _ (both _ _ (is-formed b (is-taken b e .forms) .fields) .left)
 
 -- its sender owns its slot
-sender-owns : (b : List ℕ) → readRefusal b ≡ 0 → headerOf b .sender ≡ ownerOf (headerOf b .replicas) (headerOf b .slot)
+sender-owns : (b : List ℕ) → blockRefusal b ≡ 0 → headerOf b .sender ≡ ownerOf (headerOf b .replicas) (headerOf b .slot)
 unfolding messageOf headerOf
 sender-owns b e = message-facts (messageOf b) (is-formed b (is-taken b e .forms) .fields) .sender
 
@@ -106,7 +107,7 @@ module _ (n : ℕ) (start : List ℤ) (m : Memory) (S : Sound n m) (b : List ℕ
     below = rw (S .size) at (k .high)
 
     -- an own block, the turn's being sent, is for the turn
-    turns : headerOf b .sender ≡ m .counts .own → m .turn .sent ≡ true → slot ≡ m .turn .slot
+    turns : headerOf b .sender ≡ m .counts .own → isOn (m .turn .sent) ≡ true → slot ≡ m .turn .slot
     turns o u = at-turn n (m .turn .slot) slot (k .low) below (sym (rw (k .replicas, S .size) at (sender-owns b (k .taken))) ∙ o ∙ sym (S .ours u))
 
     own-sent : eqb (messageIn b .sender) (m .counts .own) && not (sentForTurn (setup n start) (view m) (messageIn b)) ≡ false

@@ -10,11 +10,11 @@ use native.Mathlib.Omega.{arith}
 use lib.Dec.{eqb}
 use lib.IntN.{ℤ}
 use lib.ListN.{length, getD, take, drop}
-use lib.Seq.{take-nil, take-add}
+use lib.Seq.{take-add}
 use borrow.Author.Tests.{eq-eqb, ne-eqb}
 use Rattle.block.specs.Bytes.{blockOf}
 use Rattle.block.specs.Form.{messageOf}
-use Rattle.block.specs.Answers.{readRefusal, headerOf, recordAt}
+use Rattle.block.specs.Answers.{blockRefusal, headerOf, recordAt}
 use Rattle.block.proofs.BoolLaws.{joined}
 use Rattle.block.proofs.AnswerLaws.{is-taken}
 use Rattle.block.proofs.Theorems.{theorems}
@@ -32,18 +32,19 @@ use Rattle.engine.proofs.Steps.{begin-by, read-by, write-by, ask-by, withdraw-b
 use Rattle.engine.proofs.Shaping.{bumps}
 use Rattle.engine.proofs.ShapeTurn.{Working, working}
 use Rattle.engine.proofs.RestartLaws.{AllGood, good-none, good-cons, good-taken, reads-good, reads-first}
-use Rattle.protocol.specs.Lists.{pick}
 use Rattle.protocol.specs.Writesets.{Message}
 use Rattle.protocol.specs.Replica.{Event}
-use Rattle.protocol.specs.Journal.{Journal, journal, append, Cut, journalAfter, appended}
+use Rattle.protocol.specs.Journal as model
+use Rattle.protocol.specs.Journal.{Journal, journal, append, Cut, appended}
 use Rattle.protocol.specs.Blocks.{join, readBlocks}
 use Rattle.protocol.proofs.BlockLaws.{cut-of-bytes}
 use Rattle.protocol.proofs.SequenceLaws.{map-append}
-use Rattle.agreement.specs.Group.{messageIn, call, restart, heard, heardRestart, Disk, disk, appendedIn, diskAfter, Lent}
+use Rattle.agreement.specs.Group.{messageIn, call, restart, heard, disk, journalAfter, Lent}
 use Rattle.agreement.proofs.View.{setup, placeAt, view, Sound}
 use Rattle.agreement.proofs.PlaceView.{place-taken}
 use Rattle.agreement.proofs.Sendable.{sendable}
 use Rattle.agreement.proofs.RestartView.{read-enough}
+use Rattle.agreement.proofs.RestartAnswers.{NoRestart, no-restart}
 use Rattle.agreement.proofs.RestartStep.{lentMessages}
 
 -- ---- blocks joined
@@ -68,43 +69,51 @@ good-append n a b f g c q = go (List·Memᴰ·append-cases a q)
     go (inl h) = f c h
     go (inr h) = g c h
 
-is-good : (n : ℕ) (b : List ℕ) → readRefusal b ≡ 0 → headerOf b .replicas ≡ n → isGood n b ≡ true
+is-good : (n : ℕ) (b : List ℕ) → blockRefusal b ≡ 0 → headerOf b .replicas ≡ n → isGood n b ≡ true
 unfolding isGood
 is-good n b e f = joined (eq-eqb _ 0 e) (eq-eqb _ n f)
 
 -- ---- the disk
 
-pub record OnDisk (n : ℕ) (d : Disk) (J : Journal ℤ) : Type 0 where
+-- the bytes are of good blocks with these messages
+pub record OnDisk (n : ℕ) (bytes : List ℕ) (messages : List (Message ℤ)) : Type 0 where
   pub blocks : List (List ℕ)
-  pub bytes : join blocks ≡ d .journal
+  pub joined : join blocks ≡ bytes
   pub good : AllGood n blocks
-  pub says : map messageIn blocks ≡ J .kept
-  pub safe : d .safe ≡ J .safe
+  pub says : map messageIn blocks ≡ messages
 
-pub empty-disk : (n : ℕ) → OnDisk n (disk [] 0) (journal [] 0)
+pub no-block : (n : ℕ) → OnDisk n [] []
 unfolding join
-empty-disk n = record { blocks = []; bytes = refl; good = good-none n; says = refl; safe = refl }
+no-block n = record { blocks = []; joined = refl; good = good-none n; says = refl }
+
+one-block : (n : ℕ) (b : List ℕ) → isGood n b ≡ true → OnDisk n b (messageIn b ∷ [])
+unfolding join
+one-block n b g = record { blocks = b ∷ []; joined = append-nil b; good = good-cons n b [] g (good-none n); says = refl }
 
 -- ---- what a call appends
 
--- the bytes `appended` are blocks, good ones, that say what the model appends
-pub record AppendedBlocks (n : ℕ) (appended : List ℕ) (more : Option (Message ℤ)) : Type 0 where
-  pub blocks : List (List ℕ)
-  pub bytes : join blocks ≡ appended
-  pub good : AllGood n blocks
-  pub says : (l : List (Message ℤ)) → append l more ≡ l ++ map messageIn blocks
+-- the bytes: a send's block; another's, where the turn leaves its slot
+abbrev appendedIn : Answer → List ℕ
+appendedIn (refused n) = []
+appendedIn made = []
+appendedIn (began t) = []
+appendedIn (got v) = []
+appendedIn wrote = []
+appendedIn queued = []
+appendedIn readOnly = []
+appendedIn withdrew = []
+appendedIn (reported r) = []
+appendedIn (sent b) = b
+appendedIn kept = []
+appendedIn (worked s) = s .append
+appendedIn (restarted c b) = []
 
-no-block : (n : ℕ) → AppendedBlocks n [] none
-unfolding join
-no-block n = record { blocks = []; bytes = refl; good = good-none n; says = λ l. sym (append-nil l) }
-
-one-block : (n : ℕ) (b : List ℕ) → isGood n b ≡ true → AppendedBlocks n b (some (messageIn b))
-unfolding join
-one-block n b g = record { blocks = b ∷ []; bytes = append-nil b; good = good-cons n b [] g (good-none n); says = λ l. refl }
+abbrev AppendedBlocks : ℕ → List ℕ → Option (Message ℤ) → Type 0
+AppendedBlocks n bytes more = OnDisk n bytes (append [] more)
 
 -- the turn leaves the slot of b, from `slot` to `turn`
 left-block : (n : ℕ) (b : List ℕ) → isGood n b ≡ true → (mine last : Bool) (slot turn : ℕ) → turn ≡ cond last (suc slot) slot
-    → AppendedBlocks n (cond last (cond mine [] b) []) (pick mine none (pick (eqb turn slot) none (some (messageIn b))))
+    → AppendedBlocks n (cond last (cond mine [] b) []) (cond mine none (cond (eqb turn slot) none (some (messageIn b))))
 left-block n b g true true slot turn e = no-block n
 left-block n b g true false slot turn e = no-block n
 left-block n b g false true slot turn e = rw (ne-eqb turn slot (λ q. let w : ⊥ = omega arith in w)) (one-block n b g)
@@ -112,13 +121,13 @@ left-block n b g false false slot turn e = rw (eq-eqb turn slot e) (no-block n)
 
 module _ (n : ℕ) (start : List ℤ) (m : Memory) (s : Sound n m) where
   abbrev Appends : Call → Outcome → Type 0
-  Appends c o = AppendedBlocks n (appendedIn (o .answer)) (appended (setup n start) (view m) (o .memory .turn .slot) (heard c (o .answer)))
+  Appends c o = AppendedBlocks n (appendedIn (o .answer)) (appended (setup n start) (view m) (o .memory .turn .slot) (heard n (call c) (o .answer)))
 
   abbrev b : List ℕ
   b = blockAtTurn m
 
   module _ (k : Working m) where
-    waits : (readRefusal b ≡ 0) × (headerOf b .slot ≡ m .turn .slot) × (headerOf b .replicas ≡ m .counts .replicas)
+    waits : (blockRefusal b ≡ 0) × (headerOf b .slot ≡ m .turn .slot) × (headerOf b .replicas ≡ m .counts .replicas)
     waits = s .shape .places .waits (m .turn .slot) (omega arith) (omega (arith, s .shape .ranges .least)) (k .waits)
 
     turn-good : isGood n b ≡ true
@@ -166,83 +175,91 @@ module _ (n : ℕ) (start : List ℤ) (m : Memory) (s : Sound n m) where
 
 -- ---- the disk after a call
 
-module _ (n : ℕ) (d : Disk) (J : Journal ℤ) (H : OnDisk n d J) where
-  grows : (bytes : List ℕ) (more : Option (Message ℤ)) → AppendedBlocks n bytes more → (k : ℕ) → OnDisk n (disk (d .journal ++ bytes) k) (journal (append (J .kept) more) k)
-  grows bytes more A k = record {
+append-one : (l : List (Message ℤ)) (more : Option (Message ℤ)) → append l more ≡ l ++ append [] more
+append-one l none = sym (append-nil l)
+append-one l (some m) = refl
+
+module _ (n : ℕ) (l : List ℕ) (J : Journal ℤ) (H : OnDisk n l (J .kept)) where
+  grows : (bytes : List ℕ) (more : Option (Message ℤ)) → AppendedBlocks n bytes more → OnDisk n (l ++ bytes) (append (J .kept) more)
+  grows bytes more A = record {
     blocks = H .blocks ++ A .blocks;
-    bytes = join-append (H .blocks) (A .blocks) ∙ ap (λ (l : List ℕ). l ++ join (A .blocks)) (H .bytes) ∙ ap (λ (l : List ℕ). d .journal ++ l) (A .bytes);
+    joined = join-append (H .blocks) (A .blocks) ∙ ap (λ (x : List ℕ). x ++ join (A .blocks)) (H .joined) ∙ ap (λ (x : List ℕ). l ++ x) (A .joined);
     good = good-append n (H .blocks) (A .blocks) (H .good) (A .good);
-    says = map-append messageIn (H .blocks) (A .blocks) ∙ ap (λ (l : List (Message ℤ)). l ++ map messageIn (A .blocks)) (H .says) ∙ sym (A .says (J .kept));
-    safe = refl;
+    says = map-append messageIn (H .blocks) (A .blocks) ∙ ap (λ (x : List (Message ℤ)). x ++ map messageIn (A .blocks)) (H .says)
+        ∙ ap (λ (x : List (Message ℤ)). J .kept ++ x) (A .says) ∙ sym (append-one (J .kept) more);
   }
 
-  worked-journal : (more : Option (Message ℤ)) (c : Call) (w : Step) → journalAfter J more (heard c (worked w)) ≡ journal (append (J .kept) more) (J .safe)
-  unfolding heard journalAfter
-  worked-journal more c w = cond-by (λ (e : Event ℤ). journalAfter J more e ≡ journal (append (J .kept) more) (J .safe)) (eqb (w .ticket) 0) (λ q. refl) (λ q. refl)
+  stays : (more : Option (Message ℤ)) → AppendedBlocks n [] more → OnDisk n l (append (J .kept) more)
+  stays more A = subst (λ (x : List ℕ). OnDisk n x (append (J .kept) more)) (append-nil l) (grows [] more A)
 
-  stays : (more : Option (Message ℤ)) → AppendedBlocks n [] more → OnDisk n d (journal (append (J .kept) more) (J .safe))
-  stays more A = subst (λ (l : List ℕ). OnDisk n (disk l (d .safe)) (journal (append (J .kept) more) (J .safe))) (append-nil (d .journal)) (rw (H .safe) (grows [] more A (J .safe)))
+  worked-journal : (more : Option (Message ℤ)) (c : Call) (w : Step) → model.journalAfter J more (heard n (call c) (worked w)) ≡ journal (append (J .kept) more) (J .safe)
+  unfolding heard model.journalAfter
+  worked-journal more c w = cond-by (λ (e : Event ℤ). model.journalAfter J more e ≡ journal (append (J .kept) more) (J .safe)) (eqb (w .ticket) 0) (λ q. refl) (λ q. refl)
 
   -- by what is answered; `more` is what the model appends
-  disk-by : (c : Call) (a : Answer) (more : Option (Message ℤ)) → AppendedBlocks n (appendedIn a) more → OnDisk n (diskAfter d (call c) a) (journalAfter J more (heard c a))
-  unfolding heard journalAfter join
-  disk-by c (refused k) more A = stays more A
-  disk-by c made more A = stays more A
-  disk-by c (began t) more A = stays more A
-  disk-by c (got v) more A = stays more A
-  disk-by c wrote more A = stays more A
-  disk-by c queued more A = stays more A
-  disk-by c readOnly more A = stays more A
-  disk-by c withdrew more A = stays more A
-  disk-by c (reported r) more A = stays more A
-  disk-by c (sent l) more A = grows l more A (suc (messageIn l .slot))
-  disk-by c kept more A = stays more A
-  disk-by c (worked w) more A = rw (worked-journal more c w, H .safe) (grows (w .append) more A (J .safe))
-  disk-by c (restarted k l) more A = record { blocks = []; bytes = sym (take-nil (512 * k)); good = good-none n; says = refl; safe = rw (H .safe) refl }
+  disk-by : (c : Call) (a : Answer) (more : Option (Message ℤ)) → AppendedBlocks n (appendedIn a) more → NoRestart a
+      → OnDisk n (journalAfter l (call c) a) (model.journalAfter J more (heard n (call c) a) .kept) × OnDisk n (journalAfter l (call c) a) (append (J .kept) more)
+  unfolding heard model.journalAfter
+  disk-by c (refused k) more A q = (stays more A, stays more A)
+  disk-by c made more A q = (stays more A, stays more A)
+  disk-by c (began t) more A q = (stays more A, stays more A)
+  disk-by c (got v) more A q = (stays more A, stays more A)
+  disk-by c wrote more A q = (stays more A, stays more A)
+  disk-by c queued more A q = (stays more A, stays more A)
+  disk-by c readOnly more A q = (stays more A, stays more A)
+  disk-by c withdrew more A q = (stays more A, stays more A)
+  disk-by c (reported r) more A q = (stays more A, stays more A)
+  disk-by c (sent b) more A q = (grows b more A, grows b more A)
+  disk-by c kept more A q = (stays more A, stays more A)
+  disk-by c (worked w) more A q = (rw (worked-journal more c w) (grows (w .append) more A), grows (w .append) more A)
+  disk-by c (restarted k b) more A q = absurd q
+
+  -- what the model appends in a call
+  abbrev moreIn : List ℤ → Memory → Call → Option (Message ℤ)
+  moreIn start m c = appended (setup n start) (view m) (step m c .memory .turn .slot) (heard n (call c) (step m c .answer))
 
   pub disk-call : (start : List ℤ) (m : Memory) → Sound n m → (c : Call)
-      → let o = step m c in OnDisk n (diskAfter d (call c) (o .answer)) (journalAfter J (appended (setup n start) (view m) (o .memory .turn .slot) (heard c (o .answer))) (heard c (o .answer)))
-  disk-call start m s c = disk-by c (step m c .answer) _ (appends n start m s c)
+      → OnDisk n (journalAfter l (call c) (step m c .answer)) (model.journalAfter J (moreIn start m c) (heard n (call c) (step m c .answer)) .kept)
+  disk-call start m s c = disk-by c (step m c .answer) (moreIn start m c) (appends n start m s c) (no-restart m c) .0
 
-  pub disk-restart : (start : List ℤ) (m : Memory) (k : ℕ) (bytes l : List ℕ)
-      → let o = restartStep m n k start bytes l in OnDisk n (diskAfter d (restart bytes l) (o .answer))
-      (journalAfter J (appended (setup n start) (view m) (o .memory .turn .slot) (heardRestart bytes (o .answer))) (heardRestart bytes (o .answer)))
-  unfolding heardRestart journalAfter appended
-  disk-restart start m k bytes l =
+  pub disk-restart : (start : List ℤ) (m : Memory) (k : ℕ) (bytes b : List ℕ)
+      → let o = restartStep m n k start bytes b in OnDisk n (journalAfter l (restart bytes b) (o .answer))
+      (model.journalAfter J (appended (setup n start) (view m) (o .memory .turn .slot) (heard n (restart bytes b) (o .answer))) (heard n (restart bytes b) (o .answer)) .kept)
+  unfolding heard model.journalAfter appended
+  disk-restart start m k bytes b =
       let first = reads-first n 0 (length bytes / 512) bytes in
-      restart-by (λ (o : Outcome). OnDisk n (diskAfter d (restart bytes l) (o .answer))
-      (journalAfter J (appended (setup n start) (view m) (o .memory .turn .slot) (heardRestart bytes (o .answer))) (heardRestart bytes (o .answer)))) m n k start bytes l
+      restart-by (λ (o : Outcome). OnDisk n (journalAfter l (restart bytes b) (o .answer))
+      (model.journalAfter J (appended (setup n start) (view m) (o .memory .turn .slot) (heard n (restart bytes b) (o .answer))) (heard n (restart bytes b) (o .answer)) .kept)) m n k start bytes b
       (λ e. record {
         blocks = blocksIn n bytes;
-        bytes = ap join (sym first) ∙ join-first (length (blocksIn n bytes)) bytes;
+        joined = ap join (sym first) ∙ join-first (length (blocksIn n bytes)) bytes;
         good = reads-good n 0 (length bytes / 512) bytes;
-        says = ap (map messageIn) (sym first);
-        safe = rw (H .safe) refl;
+        says = refl;
       })
       (λ e. H)
 
   -- ---- what a cut leaves
 
-  pub lent-cut : (start : List ℤ) (m : Memory) → Sound n m → (bytes : List ℕ) (L : Lent m d bytes)
-      → let o = step m (L .ended) in Cut J (appended (setup n start) (view m) (o .memory .turn .slot) (heard (L .ended) (o .answer))) (lentMessages n bytes)
-  lent-cut start m s bytes L =
+  pub lent-cut : (start : List ℤ) (m : Memory) → Sound n m → (floor : ℕ) → 512 * J .safe ≤ floor → (bytes : List ℕ) (L : Lent m (disk l floor) bytes)
+      → Cut J (moreIn start m (L .ended)) (lentMessages n bytes)
+  lent-cut start m s floor low bytes L =
       subst (Cut J more) (sym same)
-      (cut-of-bytes 512 (omega arith) (isGood n) messageIn J more most (G .blocks) (omega arith) (λ x q. (is-taken x (good-taken n x (G .good x q)) .long, G .good x q)) (G .says) (L .cut .count)
-      (rw (← part) (let h = L .cut .enough in let e = H .safe in omega arith)))
+      (cut-of-bytes 512 (omega arith) (isGood n) messageIn J more most (G .blocks) (omega arith) (λ x q. (is-taken x (good-taken n x (G .good x q)) .long, G .good x q)) (G .says) (L .count)
+      (rw (← part) (let h = L .enough in omega arith)))
     where
       more : Option (Message ℤ)
-      more = appended (setup n start) (view m) (step m (L .ended) .memory .turn .slot) (heard (L .ended) (step m (L .ended) .answer))
+      more = moreIn start m (L .ended)
 
-      G : OnDisk n (disk (d .journal ++ appendedIn (step m (L .ended) .answer)) 0) (journal (append (J .kept) more) 0)
-      G = grows (appendedIn (step m (L .ended) .answer)) more (appends n start m s (L .ended)) 0
+      G : OnDisk n (journalAfter l (call (L .ended)) (step m (L .ended) .answer)) (append (J .kept) more)
+      G = disk-by (L .ended) (step m (L .ended) .answer) more (appends n start m s (L .ended)) (no-restart m (L .ended)) .1
 
-      part : bytes ≡ take (L .cut .count) (join (G .blocks))
-      part = L .cut .part ∙ ap (take (L .cut .count)) (sym (G .bytes))
+      part : bytes ≡ take (L .count) (join (G .blocks))
+      part = L .part ∙ ap (take (L .count)) (sym (G .joined))
 
       most : ℕ
       most = length (G .blocks) + length bytes
 
-      same : lentMessages n bytes ≡ map messageIn (readBlocks 512 (isGood n) most (take (L .cut .count) (join (G .blocks))))
+      same : lentMessages n bytes ≡ map messageIn (readBlocks 512 (isGood n) most (take (L .count) (join (G .blocks))))
       same =
           ap (map messageIn)
           (read-enough (isGood n) (length bytes / 512) most bytes (let h = lt-mul-div-succ (length bytes) {b = 512} (omega arith) in omega arith) (omega arith)

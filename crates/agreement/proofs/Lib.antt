@@ -21,12 +21,16 @@ pub mod SendStep
 pub mod DeliverStep
 pub mod WorkStep
 pub mod RestartView
+pub mod RestartAnswers
 pub mod RestartStep
 -- the journals
 pub mod JournalView
 -- the replicas as a machine of the protocol, its runs, the theorem
 pub mod Replicas
 pub mod Runs
-pub mod FloorLaws
+pub mod Premises
 pub mod Agreement
 pub mod Theorem
+pub mod Journals
+-- what holds with no premise
+pub mod Handed

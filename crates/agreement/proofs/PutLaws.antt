@@ -16,7 +16,6 @@ use Rattle.block.proofs.ListLaws.{getD-slice, part-take, part-in, slice-at}
 use Rattle.memory.specs.Rows.{indexFrom, indexOf, has, insertAt}
 use Rattle.engine.proofs.HasLaws.{index-by}
 use Rattle.engine.proofs.PartLaws.{insert-before, insert-after, length-insert}
-use Rattle.protocol.specs.Lists.{pick}
 use Rattle.protocol.specs.Writesets.{Write, put}
 use Rattle.agreement.specs.Group.{writeOf}
 
@@ -35,12 +34,7 @@ pub has-writes : (x : ℕ) (is : List ℕ) (vs : List ℤ) → length is ≡ len
 unfolding entriesFrom has Rattle.protocol.specs.Writesets.has
 has-writes x [] vs e = refl
 has-writes x (i ∷ is) [] e = absurd (omega arith)
-has-writes x (i ∷ is) (v ∷ vs) e = go (eqb i x) (has-writes x is vs (omega arith))
-  where
-    go : (b : Bool) → Rattle.protocol.specs.Writesets.has x (writesOf is vs) ≡ has x is
-        → pick b true (Rattle.protocol.specs.Writesets.has x (writesOf is vs)) ≡ cond b true (has x is)
-    go true h = refl
-    go false h = h
+has-writes x (i ∷ is) (v ∷ vs) e = rw (has-writes x is vs (omega arith))
 
 -- a list has x where the search stops before its end
 pub index-has : (x : ℕ) (l : List ℕ) (i : ℕ) → ltb (indexFrom x l i) (i + length l) ≡ has x l

@@ -21,7 +21,7 @@ use Rattle.engine.proofs.ShapeMade.{getD-zeros}
 use Rattle.engine.proofs.Reports.{made-own, restarted-own, step-counted}
 use Rattle.protocol.specs.System.{made, PlacesApart}
 use Rattle.protocol.specs.Machine.{Alike, Performed, Refines, Machine}
-use Rattle.agreement.specs.Group.{valueOf, GroupCall, call, restart, valueIn, performed, told}
+use Rattle.agreement.specs.Group.{GroupCall, call, restart, performed, argumentsOf, heard}
 use Rattle.agreement.proofs.View.{setup, rowsFrom, placeAt, view, Sound, meant, Owed, refuses, follows}
 use Rattle.agreement.proofs.Soundness.{sound-each, sound-made}
 use Rattle.agreement.proofs.RestartStep.{lentMessages, meantBy, RestartOwed, turned-away, restores, restart-owes, sound-restarted}
@@ -29,7 +29,7 @@ use Rattle.agreement.proofs.RestartStep.{lentMessages, meantBy, Restart
 -- a call whose value, where it has one, is a signed 32-bit number
 pub record TypedCall : Type 0 where
   pub call : GroupCall
-  pub value : signed32 (valueIn call) ≡ true
+  pub value : signed32 (argumentsOf call .value) ≡ true
 
 -- a replica just made is the model's
 pub made-alike : (n k : ℕ) (start : List ℤ) → Alike (made (setup n start) k) (view (madeMemory n k start))
@@ -54,7 +54,7 @@ places-apart n start t s l h e = less-by t s (λ u. absurd (let z = next-round n
 module _ (n : ℕ) (start : List ℤ) (least : 2 ≤ n) (most : n ≤ 6) (long : length start ≡ 128)
     (owes : (m : Memory) → Sound n m → (c : Call) → Owed n start m c (step m c)) where
   abbrev pub perform : ℕ → Memory → TypedCall → Performed ℤ Memory
-  perform k m a = record { memory = performed n start k m (a .call) .memory; event = told (a .call) (performed n start k m (a .call) .answer) }
+  perform k m a = record { memory = performed n start k m (a .call) .memory; event = heard n (a .call) (performed n start k m (a .call) .answer) }
 
   abbrev pub meaning : TypedCall → Option (Rattle.protocol.specs.System.Call ℤ)
   meaning a = some (meantBy n (a .call))
@@ -68,19 +68,19 @@ module _ (n : ℕ) (start : List ℤ) (least : 2 ≤ n) (most : n ≤ 6) (long :
   pub refines : (k : ℕ) (m : Memory) (a : TypedCall) → SoundAt k m → Refines (setup n start) (perform k) meaning view m a
   refines k m a s = go (a .call) (a .value)
     where
-      by-call : (c : Call) (v : signed32 (valueOf c) ≡ true) → Owed n start m c (step m c) → Refines (setup n start) (perform k) meaning view m (record { call = call c; value = v })
+      by-call : (c : Call) (v : signed32 (argumentsOf (call c) .value) ≡ true) → Owed n start m c (step m c) → Refines (setup n start) (perform k) meaning view m (record { call = call c; value = v })
       by-call c v (refuses i h e l) = Refines.refuses i h e l
       by-call c v (follows e l) = Refines.follows (meant c) refl e l
 
-      by-restart : (j b : List ℕ) (v : signed32 (pos 0) ≡ true) → RestartOwed n start m j (restartStep m n k start j b) → Refines (setup n start) (perform k) meaning view m (record { call = restart j b; value = v })
+      by-restart : (j b : List ℕ) (v : signed32 (pos 0) ≡ true) → RestartOwed n start m j b (restartStep m n k start j b) → Refines (setup n start) (perform k) meaning view m (record { call = restart j b; value = v })
       by-restart j b v (turned-away i h e l) = Refines.refuses i h e l
       by-restart j b v (restores e l) = Refines.follows (Rattle.protocol.specs.System.Call.restart (lentMessages n j)) refl e l
 
-      go : (c : GroupCall) (v : signed32 (valueIn c) ≡ true) → Refines (setup n start) (perform k) meaning view m (record { call = c; value = v })
+      go : (c : GroupCall) (v : signed32 (argumentsOf c .value) ≡ true) → Refines (setup n start) (perform k) meaning view m (record { call = c; value = v })
       go (call c) v = by-call c v (owes m (s .sound) c)
-      go (restart j b) v = by-restart j b v (restart-owes n start m j k b (s .own))
+      go (restart j b) v = by-restart j b v (restart-owes n start m j b k (s .own))
 
-  pub stays : (k : ℕ) (m : Memory) (c : GroupCall) → signed32 (valueIn c) ≡ true → SoundAt k m → SoundAt k (performed n start k m c .memory)
+  pub stays : (k : ℕ) (m : Memory) (c : GroupCall) → signed32 (argumentsOf c .value) ≡ true → SoundAt k m → SoundAt k (performed n start k m c .memory)
   stays k m (call c) v s = record { sound = sound-each n m (s .sound) c v; own = step-counted m (s .sound .shape) c .own ∙ s .own; among = s .among }
   stays k m (restart j b) v s =
       restart-by (λ (o : Outcome). SoundAt k (o .memory)) m n k start j b

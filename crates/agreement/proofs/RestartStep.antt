@@ -15,7 +15,7 @@ use Rattle.engine.specs.Restart.{isGood, blocksIn, startReplay, repeated, lastO
 use Rattle.engine.proofs.Tests.{clash, not-first}
 use Rattle.engine.proofs.Steps.{restart-by}
 use Rattle.engine.proofs.ShapeMade.{getD-zeros}
-use Rattle.engine.proofs.RestartLaws.{AllGood, reads-good, reads-few, reads-first, count-few}
+use Rattle.engine.proofs.RestartLaws.{AllGood, reads-good, reads-few, count-few}
 use Rattle.engine.proofs.ShapeRestart.{shape-restarted}
 use Rattle.protocol.specs.Lists.{opt}
 use Rattle.protocol.specs.Writesets.{Message}
@@ -24,7 +24,7 @@ use Rattle.protocol.specs.Journal.{inSlotOrder, lastOf, startStore, restored}
 use Rattle.protocol.specs.Blocks.{readBlocks}
 use Rattle.protocol.specs.System.{step}
 use Rattle.protocol.specs.Machine.{Alike}
-use Rattle.agreement.specs.Group.{messageIn, GroupCall, call, restart, givenIn, heardRestart}
+use Rattle.agreement.specs.Group.{messageIn, GroupCall, call, restart, givenIn, heard}
 use Rattle.agreement.proofs.View.{setup, rowsFrom, placeAt, view, Sound, meant, alike-same}
 use Rattle.agreement.proofs.Soundness.{fits-zeros}
 use Rattle.agreement.proofs.RestartView.{reads-in-order, highest-own, given-last, Same, blocks-same}
@@ -72,7 +72,7 @@ given-none : (o : Option (Message ℤ)) → opt o none some ≡ o
 given-none none = refl
 given-none (some m) = refl
 
-module _ (n : ℕ) (start : List ℤ) (m : Memory) (journal : List ℕ) where
+module _ (n : ℕ) (start : List ℤ) (m : Memory) (journal block : List ℕ) where
   abbrev bs : List (List ℕ)
   bs = blocksIn n journal
 
@@ -91,11 +91,11 @@ module _ (n : ℕ) (start : List ℤ) (m : Memory) (journal : List ℕ) where
   pub given-back : (k : ℕ) → givenIn (lastOwn k (replicate 512 0) (blocksIn n journal)) ≡ lastOf k (map messageIn (blocksIn n journal))
   given-back k = given-last n k (replicate 512 0) bs good ∙ rw zeros-none (given-none (lastOf k (map messageIn bs)))
 
-  pub restart-event : heardRestart journal (restarted (length (blocksIn n journal)) (lastOwn (m .counts .own) (replicate 512 0) (blocksIn n journal)))
+  pub restart-event : heard n (restart journal block) (restarted (length (blocksIn n journal)) (lastOwn (m .counts .own) (replicate 512 0) (blocksIn n journal)))
       ≡ step (setup n start) (view m) (Rattle.protocol.specs.System.Call.restart (lentMessages n journal)) .event
-  unfolding heardRestart step
+  unfolding heard step
   restart-event =
-      rw (reads-first n 0 (length journal / 512) journal, given-back (m .counts .own), read-messages) refl
+      rw (given-back (m .counts .own), read-messages) refl
 
   pub restart-alike : Alike (step (setup n start) (view m) (Rattle.protocol.specs.System.Call.restart (lentMessages n journal)) .replica)
       (view (restartedMemory n (m .counts .own) start (blocksIn n journal)))
@@ -104,14 +104,14 @@ module _ (n : ℕ) (start : List ℤ) (m : Memory) (journal : List ℕ) where
 
   -- what the outcome o of a restart owes
   pub data RestartOwed (o : Outcome) : Type 0 where
-    turned-away : (c : ℕ) → (c ≡ 9 → ⊥) → heardRestart journal (o .answer) ≡ Event.refused c → Alike (view m) (view (o .memory)) → RestartOwed o
-    restores : heardRestart journal (o .answer) ≡ step (setup n start) (view m) (Rattle.protocol.specs.System.Call.restart (lentMessages n journal)) .event
+    turned-away : (c : ℕ) → (c ≡ 9 → ⊥) → heard n (restart journal block) (o .answer) ≡ Event.refused c → Alike (view m) (view (o .memory)) → RestartOwed o
+    restores : heard n (restart journal block) (o .answer) ≡ step (setup n start) (view m) (Rattle.protocol.specs.System.Call.restart (lentMessages n journal)) .event
         → Alike (step (setup n start) (view m) (Rattle.protocol.specs.System.Call.restart (lentMessages n journal)) .replica) (view (o .memory)) → RestartOwed o
 
   -- lent the replica's own number
-  pub restart-owes : (k : ℕ) (block : List ℕ) → m .counts .own ≡ k → RestartOwed (restartStep m n k start journal block)
-  unfolding heardRestart
-  restart-owes k block e =
+  pub restart-owes : (k : ℕ) → m .counts .own ≡ k → RestartOwed (restartStep m n k start journal block)
+  unfolding heard
+  restart-owes k e =
       subst (λ (i : ℕ). RestartOwed (restartStep m n i start journal block)) e
       (restart-by RestartOwed m n (m .counts .own) start journal block (λ z. restores restart-event restart-alike)
       (λ z. turned-away (restartRefusal m n (m .counts .own) start block) (not-nine m n (m .counts .own) start block) refl (alike-same (view m))))

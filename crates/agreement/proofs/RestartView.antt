@@ -12,7 +12,7 @@ use lib.ListN.{length, getD, take, drop, length-take, length-drop}
 use borrow.Author.Tests.{ltb-true, lt-ltb, ne-eqb}
 use Rattle.block.specs.Message.{Record, recordFits, recordsFit}
 use Rattle.block.specs.Form.{messageOf}
-use Rattle.block.specs.Answers.{readRefusal, headerOf}
+use Rattle.block.specs.Answers.{blockRefusal, headerOf}
 use Rattle.block.specs.Theorems.{noRecord}
 use Rattle.block.proofs.BoolLaws.{both, not-so}
 use Rattle.block.proofs.MessageLaws.{message-facts, record-facts}
@@ -23,14 +23,14 @@ use Rattle.engine.specs.Restart.{isGood, blocksFrom, writesetsFrom, writesetsIn
 use Rattle.engine.proofs.Tests.{clash, less-by, bump-is}
 use Rattle.engine.proofs.ShapeWriteset.{length-stamped}
 use Rattle.engine.proofs.RestartLaws.{AllGood, good-taken}
-use Rattle.protocol.specs.Lists.{pick, opt}
+use Rattle.protocol.specs.Lists.{opt}
 use Rattle.protocol.specs.Writesets.{Message}
 use Rattle.protocol.specs.Replica.{Store}
 use Rattle.protocol.specs.Journal as model
 use Rattle.protocol.specs.Blocks.{readBlocks}
 use Rattle.protocol.specs.Journal.{inSlotOrder, highestOf, lastOf}
 use Rattle.protocol.specs.Moves.{storeAfter}
-use Rattle.agreement.specs.Group.{writeOf, writesetOf, messageIn, givenIn}
+use Rattle.agreement.specs.Group.{writeOf, writesetFrom, messageIn, givenIn}
 use Rattle.agreement.proofs.DeliverStep.{kind-some, slot-said}
 use Rattle.agreement.proofs.BlockView.{counted, writeset-read, sender-seen, values-after, stamps-after}
 
@@ -38,7 +38,7 @@ use Rattle.agreement.proofs.BlockView.{counted, writeset-read, sender-s
 
 -- b is torn (t), good (g), of the next slot (e)
 read-one : (t g e : Bool) (b : List ℕ) (bs rs : List (List ℕ)) (s : ℕ) → (t ≡ true → g ≡ false) → eqb (messageIn b .slot) s ≡ e → map messageIn bs ≡ inSlotOrder (suc s) (map messageIn rs)
-    → map messageIn (cond (g && e) (b ∷ bs) []) ≡ inSlotOrder s (map messageIn (pick t [] (pick g (b ∷ rs) [])))
+    → map messageIn (cond (g && e) (b ∷ bs) []) ≡ inSlotOrder s (map messageIn (cond t [] (cond g (b ∷ rs) [])))
 unfolding inSlotOrder
 read-one true true e b bs rs s h q r = clash {b = true} refl (h refl)
 read-one true false e b bs rs s h q r = refl
@@ -73,7 +73,7 @@ read-enough good (suc f) (suc g) bytes h u =
     less-by (length bytes) 512
     (λ s. rw (lt-ltb (length bytes) 512 s) refl)
     (λ s. let d = length-drop 512 bytes in
-    ap (λ (l : List (List ℕ)). pick (ltb (length bytes) 512) [] (pick (good (take 512 bytes)) (take 512 bytes ∷ l) []))
+    ap (λ (l : List (List ℕ)). cond (ltb (length bytes) 512) [] (cond (good (take 512 bytes)) (take 512 bytes ∷ l) []))
     (read-enough good f g (drop 512 bytes) (omega arith) (omega arith)))
 
 -- ---- their writesets
@@ -84,24 +84,20 @@ writesets-are b j [] h = refl
 writesets-are b j (r ∷ rs) h =
     rw (rw (add-zero j) at (h 0 (omega arith)), writesets-are b (suc j) rs (λ i u. rw (suc-add j i, ← add-suc j i) (h (suc i) (omega arith))))
 
-pub writesets-read : (b : List ℕ) → readRefusal b ≡ 0 → writesetsIn b ≡ messageOf b .records
+pub writesets-read : (b : List ℕ) → blockRefusal b ≡ 0 → writesetsIn b ≡ messageOf b .records
 writesets-read b e =
     ap (writesetsFrom b 0) (sym (counted b))
     ∙ writesets-are b 0 (messageOf b .records) (λ i u. rw (zero-add i) (writeset-read b e i (rw (counted b) at u)))
 
-records-fit : (b : List ℕ) → readRefusal b ≡ 0 → recordsFit (messageOf b .records) ≡ true
+records-fit : (b : List ℕ) → blockRefusal b ≡ 0 → recordsFit (messageOf b .records) ≡ true
 records-fit b e = message-facts (messageOf b) (is-formed b (is-taken b e .forms) .fields) .records
 
 -- ---- own blocks
 
-highest-same : (ws : List Record) → highestTicket ws ≡ model.highestTicket (map writesetOf ws)
+highest-same : (ws : List Record) → highestTicket ws ≡ model.highestTicket (map writesetFrom ws)
 unfolding highestTicket model.highestTicket
 highest-same [] = refl
 highest-same (w ∷ ws) = rw (highest-same ws)
-
-as-picked : {A : Type 0} (b : Bool) (x y : A) → cond b x y ≡ pick b x y
-as-picked true x y = refl
-as-picked false x y = refl
 
 pub highest-own : (n k : ℕ) (bs : List (List ℕ)) → AllGood n bs → highestOwn k bs ≡ highestOf k (map messageIn bs)
 unfolding highestOwn highestOf messageIn
@@ -109,13 +105,13 @@ highest-own n k [] g = refl
 highest-own n k (b ∷ bs) g =
     let e = good-taken n b (g b (List·Memᴰ·head refl)) in
     let a = highest-own n k bs (λ c q. g c (List·Memᴰ·tail q)) in
-    rw (a, as-picked (isFrom k b) (highestTicket (writesetsIn b)) 0, writesets-read b e, highest-same (messageOf b .records), ← sender-seen b) refl
+    rw (a, writesets-read b e, highest-same (messageOf b .records), ← sender-seen b) refl
 
-given-some : (b : List ℕ) → readRefusal b ≡ 0 → givenIn b ≡ some (messageIn b)
+given-some : (b : List ℕ) → blockRefusal b ≡ 0 → givenIn b ≡ some (messageIn b)
 given-some b e = rw (ne-eqb (getD b 0 0) 0 (kind-some b e)) refl
 
 given-one : (o : Option (Message ℤ)) (mine : Bool) (b d : List ℕ) → givenIn b ≡ some (messageIn b)
-    → opt o (givenIn (cond mine b d)) some ≡ opt (opt o (pick mine (some (messageIn b)) none) some) (givenIn d) some
+    → opt o (givenIn (cond mine b d)) some ≡ opt (opt o (cond mine (some (messageIn b)) none) some) (givenIn d) some
 given-one none true b d e = e
 given-one none false b d e = refl
 given-one (some m) mine b d e = refl
@@ -126,7 +122,7 @@ given-last n k d [] g = refl
 given-last n k d (b ∷ bs) g =
     given-last n k (cond (isFrom k b) b d) bs (λ c q. g c (List·Memᴰ·tail q))
     ∙ given-one (lastOf k (map messageIn bs)) (isFrom k b) b d (given-some b (good-taken n b (g b (List·Memᴰ·head refl))))
-    ∙ ap (λ (s : ℕ). opt (opt (lastOf k (map messageIn bs)) (pick (eqb s k) (some (messageIn b)) none) some) (givenIn d) some) (sym (sender-seen b))
+    ∙ ap (λ (s : ℕ). opt (opt (lastOf k (map messageIn bs)) (cond (eqb s k) (some (messageIn b)) none) some) (givenIn d) some) (sym (sender-seen b))
 
 -- ---- commits, values and stamps
 
@@ -148,7 +144,7 @@ one-same w fit r s h u =
 
 -- the commit counts leave room for all of them
 all-same : (ws : List Record) → recordsFit ws ≡ true → (r : Replayed) (s : Store ℤ) → Same r s → r .commits + length ws ≤ 4_294_967_295
-    → Same (commitAll r ws) (model.commitAll s (map writesetOf ws)) × (commitAll r ws .commits ≡ r .commits + length ws)
+    → Same (commitAll r ws) (model.commitAll s (map writesetFrom ws)) × (commitAll r ws .commits ≡ r .commits + length ws)
 unfolding commitAll model.commitAll recordsFit
 all-same [] fit r s h u = (h, sym (add-zero (r .commits)))
 all-same (w ∷ ws) fit r s h u =
@@ -157,7 +153,7 @@ all-same (w ∷ ws) fit r s h u =
     let a = all-same ws (f .right) (commitOne r w) (storeAfter (map writeOf (w .entries)) s) (one-same w (f .left) r s h (omega arith)) (omega arith) in
     (a .0, let q = a .1 in omega arith)
 
-writesets-seen : (b : List ℕ) → messageIn b .writesets ≡ map writesetOf (messageOf b .records)
+writesets-seen : (b : List ℕ) → messageIn b .writesets ≡ map writesetFrom (messageOf b .records)
 unfolding messageIn
 writesets-seen b = refl
 

@@ -14,7 +14,6 @@ use Rattle.block.proofs.ListLaws.{getD-slice}
 use Rattle.block.specs.Writing.{entriesFrom}
 use Rattle.memory.specs.declared.Txn.{Txn}
 use Rattle.memory.specs.Rows.{writeCount, itemsOf, indexFrom, indexOf}
-use Rattle.protocol.specs.Lists.{pick}
 use Rattle.protocol.specs.Writesets.{lookup}
 use Rattle.protocol.specs.Client.{isEmpty}
 use Rattle.agreement.specs.Group.{writeOf}
@@ -41,7 +40,7 @@ entries-say i d f n (y ∷ ys) (v ∷ vs) j e l g =
     first = rw (lt-ltb j n (omega arith)) (sym (rw add-zero at (g 0 (omega arith))))
 
     go : (b : Bool) → lookup i d (map writeOf (entriesFrom ys vs)) ≡ cond (ltb (indexFrom i ys (suc j)) n) (f (indexFrom i ys (suc j))) d
-        → pick b v (lookup i d (map writeOf (entriesFrom ys vs)))
+        → cond b v (lookup i d (map writeOf (entriesFrom ys vs)))
         ≡ cond (ltb (cond b j (indexFrom i ys (suc j))) n) (f (cond b j (indexFrom i ys (suc j)))) d
     go true q = first
     go false q = q

@@ -1,12 +1,13 @@
 -- A run of the group as one of the machine: the same memory, observer and handouts, and the messages of the blocks. Assumes nothing.
-use Prim.Native.Nat.{ℕ, _<_, _≤_}
+use Prim.Native.Nat.{ℕ, _*_, _<_, _≤_}
 use mathlib.Core.Path.{_≡_, refl, sym, ap, _∙_, subst}
 use mathlib.Core.Bool.{Bool, true, false, cond}
-use mathlib.Core.Option.{none, some}
+use mathlib.Core.Option.{Option, none, some}
 use mathlib.Core.List.{List, List·Memᴰ·head, List·Memᴰ·tail, [], _∷_, _++_, map}
+use native.Mathlib.Omega.{arith}
 use lib.Dec.{eqb}
 use lib.IntN.{ℤ}
-use lib.ListN.{length, getD, replicate}
+use lib.ListN.{length, getD}
 use Rattle.block.specs.Message.{signed32}
 use Rattle.block.specs.Answers.{recordAt}
 use Rattle.memory.specs.Memory.{Memory}
@@ -16,67 +17,60 @@ use Rattle.engine.specs.Client.{beginAt, readOnlyAt, queueAt, rewriteAt, insert
 use Rattle.engine.specs.Moves.{sendNow, deliverNow, blockAtTurn, passNext, commitWriteset}
 use Rattle.engine.specs.Step.{Call, step}
 use Rattle.engine.specs.Step.Call.{begin, read, write, ask, withdraw, report, send, deliver, work}
-use Rattle.engine.specs.Restart.{blocksIn, lastOwn, restartStep}
+use Rattle.engine.specs.Restart.{restartStep}
 use Rattle.engine.proofs.Tests.{cond-by}
 use Rattle.engine.proofs.Steps.{begin-by, read-by, write-by, ask-by, withdraw-by, send-by, deliver-by, work-by, restart-by}
-use Rattle.protocol.specs.Lists.{pick, opt, update, Mem}
+use Rattle.protocol.specs.Lists.{opt, update, Mem}
 use Rattle.protocol.specs.Writesets.{Message}
 use Rattle.protocol.specs.Replica.{Event}
-use Rattle.protocol.specs.Journal.{Journal, journal, journalAfter, appended}
-use Rattle.protocol.specs.Observer.{Placed, messagesAfter}
-use Rattle.protocol.specs.System.{HandedOut}
-use Rattle.protocol.specs.Machine.{Machine, CommandClaim, MachineSystem, CommandAt, afterCommand, runCommands, CommandLent, CommandPremise, CommandClaims}
+use Rattle.protocol.specs.Journal.{Journal, journal, Cut, journalAfter, appended}
+use Rattle.protocol.specs.Observer.{Placed}
+use Rattle.protocol.specs.System.{messagesAfter, HandedOut}
+use Rattle.protocol.specs.Machine.{Machine, CommandClaim, MachineSystem, CommandAt, afterCommand, runCommands, CommandLent, CommandClaims}
 use Rattle.protocol.proofs.ListLaws.{update-by, mem-map}
 use Rattle.protocol.proofs.SequenceLaws.{map-append}
-use Rattle.agreement.specs.Group.{messageIn, GroupCall, call, restart, valueIn, performed, givenIn, heard, heardRestart, told, Disk, diskAfter, Group, CallAt, fresh, did, blocksAfter, next, run, Comes, Calls, Lent}
+use Rattle.agreement.specs.Group as group
+use Rattle.agreement.specs.Group.{messageIn, GroupCall, call, restart, performed, argumentsOf, givenIn, heard, Disk, diskAfter, Group, CallAt, fresh, did, blocksAfter, next, run, Comes, Calls, Lent}
 use Rattle.agreement.proofs.View.{setup, view, Sound, meant, Owed}
-use Rattle.agreement.proofs.RestartStep.{meantBy}
-use Rattle.agreement.proofs.JournalView.{OnDisk, empty-disk, disk-call, disk-restart, lent-cut}
+use Rattle.agreement.proofs.RestartStep.{lentMessages, meantBy}
+use Rattle.agreement.proofs.JournalView.{OnDisk, no-block, disk-call, disk-restart, lent-cut}
 use Rattle.agreement.proofs.Replicas.{SoundAt, stays, made-sound, replicas}
 
 -- ---- the messages of the blocks handed out
 
-work-message : (B : List (Message ℤ)) (s : Step) → messagesAfter B (heard work (worked s)) ≡ B
+work-message : (n : ℕ) (B : List (Message ℤ)) (c : GroupCall) (s : Step) → messagesAfter B (heard n c (worked s)) ≡ B
 unfolding heard messagesAfter
-work-message B s = cond-by (λ (e : Event ℤ). messagesAfter B e ≡ B) (eqb (s .ticket) 0) (λ q. refl) (λ q. refl)
+work-message n B c s = cond-by (λ (e : Event ℤ). messagesAfter B e ≡ B) (eqb (s .ticket) 0) (λ q. refl) (λ q. refl)
 
-given-message : (B : List (List ℕ)) (b : List ℕ) → opt (givenIn b) (map messageIn B) (λ w. map messageIn B ++ (w ∷ [])) ≡ map messageIn (cond (eqb (getD b 0 0) 0) B (B ++ (b ∷ [])))
+given-message : (B : List (List ℕ)) (b : List ℕ) → opt (givenIn b) (map messageIn B) (λ w. map messageIn B ++ (w ∷ [])) ≡ map messageIn (opt (cond (eqb (getD b 0 0) 0) none (some b)) B (λ c. B ++ (c ∷ [])))
 given-message B b = go (eqb (getD b 0 0) 0)
   where
-    go : (z : Bool) → opt (cond z none (some (messageIn b))) (map messageIn B) (λ (w : Message ℤ). map messageIn B ++ (w ∷ [])) ≡ map messageIn (cond z B (B ++ (b ∷ [])))
+    go : (z : Bool) → opt (cond z none (some (messageIn b))) (map messageIn B) (λ (w : Message ℤ). map messageIn B ++ (w ∷ [])) ≡ map messageIn (opt (cond z none (some b)) B (λ (c : List ℕ). B ++ (c ∷ [])))
     go true = refl
     go false = sym (map-append messageIn B (b ∷ []))
 
-messages-after : (B : List (List ℕ)) (c : Call) (a : Answer) → messagesAfter (map messageIn B) (heard c a) ≡ map messageIn (blocksAfter B a)
+messages-after : (n : ℕ) (B : List (List ℕ)) (c : GroupCall) (a : Answer) → messagesAfter (map messageIn B) (heard n c a) ≡ map messageIn (blocksAfter B a)
 unfolding heard messagesAfter
-messages-after B c (refused n) = refl
-messages-after B c made = refl
-messages-after B c (began t) = refl
-messages-after B c (got v) = refl
-messages-after B c wrote = refl
-messages-after B c queued = refl
-messages-after B c readOnly = refl
-messages-after B c withdrew = refl
-messages-after B c (reported r) = refl
-messages-after B c (sent b) = sym (map-append messageIn B (b ∷ []))
-messages-after B c kept = refl
-messages-after B c (worked s) = work-message (map messageIn B) s
-messages-after B c (restarted k b) = given-message B b
-
-told-messages : (B : List (List ℕ)) (n k : ℕ) (start : List ℤ) (m : Memory) (c : GroupCall)
-    → let a = performed n start k m c .answer in messagesAfter (map messageIn B) (told c a) ≡ map messageIn (blocksAfter B a)
-unfolding heardRestart messagesAfter
-told-messages B n k start m (call c) = messages-after B c (step m c .answer)
-told-messages B n k start m (restart j l) =
-    restart-by (λ (o : Outcome). messagesAfter (map messageIn B) (heardRestart j (o .answer)) ≡ map messageIn (blocksAfter B (o .answer))) m n k start j l
-    (λ e. given-message B (lastOwn k (replicate 512 0) (blocksIn n j))) (λ e. refl)
+messages-after n B c (refused k) = refl
+messages-after n B c made = refl
+messages-after n B c (began t) = refl
+messages-after n B c (got v) = refl
+messages-after n B c wrote = refl
+messages-after n B c queued = refl
+messages-after n B c readOnly = refl
+messages-after n B c withdrew = refl
+messages-after n B c (reported r) = refl
+messages-after n B c (sent b) = sym (map-append messageIn B (b ∷ []))
+messages-after n B c kept = refl
+messages-after n B c (worked s) = work-message n (map messageIn B) c s
+messages-after n B c (restarted k b) = given-message B b
 
 -- ---- the premise
 
 -- no answer but a deliver's is a block kept
-module _ (B : List (Message ℤ)) where
+module _ (n : ℕ) (B : List (Message ℤ)) where
   abbrev Handed : Call → Outcome → Type 0
-  Handed c o = HandedOut B (heard c (o .answer))
+  Handed c o = HandedOut B (heard n (call c) (o .answer))
 
   work-handed : (t : ℕ) (x y : Event ℤ) → HandedOut B x → HandedOut B y → HandedOut B (cond (eqb t 0) x y)
   work-handed t x y f g = cond-by (HandedOut B) (eqb t 0) (λ q. f) (λ q. g)
@@ -94,9 +88,9 @@ module _ (B : List (Message ℤ)) where
       deliver-by (λ (o : Outcome). (o .answer ≡ kept → Mem (messageIn b) B) → Handed (deliver b) o) m b (λ e g. g refl) (λ e g. tt) (f b refl)
   handed m work f = work-by (Handed work) m (λ e k. tt) (λ e k. work-handed (recordAt (blockAtTurn m) (m .counts .done) .ticket) _ _ tt tt) (λ e. tt)
 
-  pub restart-handed : (n k : ℕ) (start : List ℤ) (m : Memory) (j l : List ℕ) → HandedOut B (heardRestart j (restartStep m n k start j l .answer))
-  unfolding heardRestart
-  restart-handed n k start m j l = restart-by (λ (o : Outcome). HandedOut B (heardRestart j (o .answer))) m n k start j l (λ e. tt) (λ e. tt)
+  pub restart-handed : (k : ℕ) (start : List ℤ) (m : Memory) (j l : List ℕ) → HandedOut B (heard n (restart j l) (restartStep m n k start j l .answer))
+  unfolding heard
+  restart-handed k start m j l = restart-by (λ (o : Outcome). HandedOut B (heard n (restart j l) (o .answer))) m n k start j l (λ e. tt) (λ e. tt)
 
 -- ---- a run
 
@@ -111,7 +105,7 @@ module _ (n : ℕ) (start : List ℤ) (least : 2 ≤ n) (most : n ≤ 6) (long :
   abbrev pub machineOf : (ℕ → Journal ℤ) → Group → MachineSystem (setup n start) machine
   machineOf J g = record { memories = g .memories; journals = J; observed = g .observed; handouts = g .handouts; messages = map messageIn (g .blocks) }
 
-  abbrev pub command : (c : CallAt) → (c .at < n) × (signed32 (valueIn (c .does)) ≡ true) → CommandAt (setup n start) machine
+  abbrev pub command : (c : CallAt) → (c .at < n) × (signed32 (argumentsOf (c .does) .value) ≡ true) → CommandAt (setup n start) machine
   command c h = record { at = c .at; here = h .0; command = record { call = c .does; value = h .1 } }
 
   unfoldable pub commands : (cs : List CallAt) → Calls n cs → List (CommandAt (setup n start) machine)
@@ -120,7 +114,7 @@ module _ (n : ℕ) (start : List ℤ) (least : 2 ≤ n) (most : n ≤ 6) (long :
 
   -- the model's journal after a call
   abbrev pub journalNext : Journal ℤ → ℕ → Memory → GroupCall → Journal ℤ
-  journalNext J k m c = let o = performed n start k m c in journalAfter J (appended (setup n start) (view m) (o .memory .turn .slot) (told c (o .answer))) (told c (o .answer))
+  journalNext J k m c = let o = performed n start k m c in journalAfter J (appended (setup n start) (view m) (o .memory .turn .slot) (heard n c (o .answer))) (heard n c (o .answer))
 
   abbrev pub journalsNext : (ℕ → Journal ℤ) → Group → CallAt → ℕ → Journal ℤ
   journalsNext J g c = update J (c .at) (journalNext (J (c .at)) (c .at) (g .memories (c .at)) (c .does))
@@ -129,11 +123,11 @@ module _ (n : ℕ) (start : List ℤ) (least : 2 ≤ n) (most : n ≤ 6) (long :
   journalsRun J g [] = J
   journalsRun J g (c ∷ cs) = journalsRun (journalsNext J g c) (next n start g c) cs
 
-  pub one : (J : ℕ → Journal ℤ) (g : Group) (c : CallAt) (h : (c .at < n) × (signed32 (valueIn (c .does)) ≡ true))
+  pub one : (J : ℕ → Journal ℤ) (g : Group) (c : CallAt) (h : (c .at < n) × (signed32 (argumentsOf (c .does) .value) ≡ true))
       → afterCommand (setup n start) machine (machineOf J g) (command c h) ≡ machineOf (journalsNext J g c) (next n start g c)
   one J g c h =
       ap (λ (l : List (Message ℤ)). record { memories = next n start g c .memories; journals = journalsNext J g c; observed = next n start g c .observed; handouts = next n start g c .handouts; messages = l })
-      (told-messages (g .blocks) n (c .at) start (g .memories (c .at)) (c .does))
+      (messages-after n (g .blocks) (c .does) (did n start g c .answer))
 
   pub runs : (cs : List CallAt) (f : Calls n cs) (J : ℕ → Journal ℤ) (g : Group) → runCommands (setup n start) machine (machineOf J g) (commands cs f) ≡ machineOf (journalsRun J g cs) (run n start g cs)
   unfolding runCommands commands run journalsRun
@@ -146,24 +140,26 @@ module _ (n : ℕ) (start : List ℤ) (least : 2 ≤ n) (most : n ≤ 6) (long :
 
   pub record Kept (J : ℕ → Journal ℤ) (g : Group) : Type 0 where
     pub sound : (k : ℕ) → k < n → Good k (g .memories k)
-    pub disks : (k : ℕ) → OnDisk n (g .disks k) (J k)
+    pub disks : (k : ℕ) → OnDisk n (g .disks k .journal) (J k .kept)
 
   pub fresh-kept : Kept (λ k. journal [] 0) (fresh n start)
-  fresh-kept = record { sound = made-sound n start least most long owes; disks = λ k. empty-disk n }
+  fresh-kept = record { sound = made-sound n start least most long owes; disks = λ k. no-block n }
 
-  pub disk-next : (d : Disk) (J : Journal ℤ) → OnDisk n d J → (k : ℕ) (m : Memory) → Good k m → (c : GroupCall) → OnDisk n (diskAfter d c (performed n start k m c .answer)) (journalNext J k m c)
-  disk-next d J H k m s (call c) = disk-call n d J H start m (s .sound) c
-  disk-next d J H k m s (restart j l) = disk-restart n d J H start m k j l
+  pub disk-next : (l : List ℕ) (J : Journal ℤ) → OnDisk n l (J .kept) → (k : ℕ) (m : Memory) → Good k m → (c : GroupCall)
+      → OnDisk n (group.journalAfter l c (performed n start k m c .answer)) (journalNext J k m c .kept)
+  disk-next l J H k m s (call c) = disk-call n l J H start m (s .sound) c
+  disk-next l J H k m s (restart j b) = disk-restart n l J H start m k j b
 
-  pub kept-next : (J : ℕ → Journal ℤ) (g : Group) → Kept J g → (c : CallAt) → (c .at < n) × (signed32 (valueIn (c .does)) ≡ true) → Kept (journalsNext J g c) (next n start g c)
+  pub kept-next : (J : ℕ → Journal ℤ) (g : Group) → Kept J g → (c : CallAt) → (c .at < n) × (signed32 (argumentsOf (c .does) .value) ≡ true) → Kept (journalsNext J g c) (next n start g c)
   kept-next J g K c h = record {
     sound = update-by (λ (k : ℕ) (m : Memory). k < n → Good k m) (g .memories) (c .at) (did n start g c .memory)
         (λ l. stays n start least most long owes (c .at) (g .memories (c .at)) (c .does) (h .1) (K .sound (c .at) (h .0))) (λ j d. K .sound j);
     disks = λ k. by k (eqb k (c .at));
   }
     where
-      by : (k : ℕ) (b : Bool) → OnDisk n (pick b (diskAfter (g .disks (c .at)) (c .does) (did n start g c .answer)) (g .disks k)) (pick b (journalNext (J (c .at)) (c .at) (g .memories (c .at)) (c .does)) (J k))
-      by k true = disk-next (g .disks (c .at)) (J (c .at)) (K .disks (c .at)) (c .at) (g .memories (c .at)) (K .sound (c .at) (h .0)) (c .does)
+      by : (k : ℕ) (b : Bool) → OnDisk n (cond b (diskAfter (g .disks (c .at)) (c .does) (did n start g c .answer)) (g .disks k) .journal)
+          (cond b (journalNext (J (c .at)) (c .at) (g .memories (c .at)) (c .does)) (J k) .kept)
+      by k true = disk-next (g .disks (c .at) .journal) (J (c .at)) (K .disks (c .at)) (c .at) (g .memories (c .at)) (K .sound (c .at) (h .0)) (c .does)
       by k false = K .disks k
 
   pub kept-run : (cs : List CallAt) → Calls n cs → (J : ℕ → Journal ℤ) (g : Group) → Kept J g → Kept (journalsRun J g cs) (run n start g cs)
@@ -173,72 +169,45 @@ module _ (n : ℕ) (start : List ℤ) (least : 2 ≤ n) (most : n ≤ 6) (long :
 
   -- ---- the premise
 
-  -- a call of document 01 is no restart
-  no-restart : (J : Journal ℤ) (k : ℕ) (m : Memory) (c : Call) → CommandLent (setup n start) machine J k m (some (meant c))
-  no-restart J k m begin = tt
-  no-restart J k m (read t i) = tt
-  no-restart J k m (write t i v) = tt
-  no-restart J k m (ask t) = tt
-  no-restart J k m (withdraw t) = tt
-  no-restart J k m report = tt
-  no-restart J k m (send b) = tt
-  no-restart J k m (deliver b) = tt
-  no-restart J k m work = tt
-
-  -- of one call: what is asked of a deliver, and of a restart
-  record Asked (g : Group) (c : CallAt) : Type 0 where
-    delivered : (b : List ℕ) → c .does ≡ call (deliver b) → step (g .memories (c .at)) (deliver b) .answer ≡ kept → Mem b (g .blocks)
-    lent : (j l : List ℕ) → c .does ≡ restart j l → Lent (g .memories (c .at)) (g .disks (c .at)) j
-
   pub handed-at : (B : List (List ℕ)) (k : ℕ) (m : Memory) (c : GroupCall) → ((b : List ℕ) → c ≡ call (deliver b) → step m (deliver b) .answer ≡ kept → Mem b B)
-      → HandedOut (map messageIn B) (told c (performed n start k m c .answer))
-  handed-at B k m (call c) f = handed (map messageIn B) m c (λ b e q. mem-map messageIn B b (f b (ap call e) q))
-  handed-at B k m (restart j l) f = restart-handed (map messageIn B) n k start m j l
+      → HandedOut (map messageIn B) (heard n c (performed n start k m c .answer))
+  handed-at B k m (call c) f = handed n (map messageIn B) m c (λ b e q. mem-map messageIn B b (f b (ap call e) q))
+  handed-at B k m (restart j l) f = restart-handed n (map messageIn B) k start m j l
 
-  pub lent-at : (J : Journal ℤ) (d : Disk) → OnDisk n d J → (k : ℕ) (m : Memory) → Good k m → (c : GroupCall) → ((j l : List ℕ) → c ≡ restart j l → Lent m d j)
-      → CommandLent (setup n start) machine J k m (some (meantBy n c))
-  lent-at J d H k m s (call c) f = no-restart J k m c
-  lent-at J d H k m s (restart j l) f = let L = f j l refl in (record { call = call (L .ended); value = L .value }, lent-cut n d J H start m (s .sound) j L)
+  -- a call of document 01 is no restart
+  not-meant : (c : Call) (l : List (Message ℤ)) → meant c ≡ Rattle.protocol.specs.System.Call.restart l → ⊥
+  not-meant begin l e = let z : _≡_ {A = ℕ} 0 1 = cc in omega arith
+  not-meant (read t i) l e = let z : _≡_ {A = ℕ} 0 1 = cc in omega arith
+  not-meant (write t i v) l e = let z : _≡_ {A = ℕ} 0 1 = cc in omega arith
+  not-meant (ask t) l e = let z : _≡_ {A = ℕ} 0 1 = cc in omega arith
+  not-meant (withdraw t) l e = let z : _≡_ {A = ℕ} 0 1 = cc in omega arith
+  not-meant report l e = let z : _≡_ {A = ℕ} 0 1 = cc in omega arith
+  not-meant (send b) l e = let z : _≡_ {A = ℕ} 0 1 = cc in omega arith
+  not-meant (deliver b) l e = let z : _≡_ {A = ℕ} 0 1 = cc in omega arith
+  not-meant work l e = let z : _≡_ {A = ℕ} 0 1 = cc in omega arith
 
-  pub record AskedOf (g : Group) (cs : List CallAt) : Type 0 where
-    pub delivered : (before : List CallAt) (k : ℕ) (bytes : List ℕ) → Comes cs before (record { at = k; does = call (deliver bytes) })
-        → step (run n start g before .memories k) (deliver bytes) .answer ≡ kept → Mem bytes (run n start g before .blocks)
-    pub lent : (before : List CallAt) (k : ℕ) (j l : List ℕ) → Comes cs before (record { at = k; does = restart j l }) → Lent (run n start g before .memories k) (run n start g before .disks k) j
+  -- what is heard of a restart says that it was accepted
+  accepted : (k : ℕ) (m : Memory) (j l : List ℕ) (held : List (Message ℤ)) (given : Option (Message ℤ)) → heard n (restart j l) (restartStep m n k start j l .answer) ≡ Event.restarted held given
+      → (x : ℕ) × (b : List ℕ) × (restartStep m n k start j l .answer ≡ restarted x b)
+  unfolding heard
+  accepted k m j l held given = restart-by (λ (o : Outcome). heard n (restart j l) (o .answer) ≡ Event.restarted held given → (x : ℕ) × (b : List ℕ) × (o .answer ≡ restarted x b)) m n k start j l
+      (λ e h. (_, _, refl)) (λ e h. let z : _≡_ {A = ℕ} 0 1 = cc in absurd (let w : ⊥ = omega arith in w))
 
-  asked-first : (g : Group) (c : CallAt) (cs : List CallAt) → AskedOf g (c ∷ cs) → Asked g c
-  unfolding run
-  asked-first g c cs A = record {
-    delivered = λ b e q. A .delivered [] (c .at) b (cs, ap (λ (d : GroupCall). record { at = c .at; does = d } ∷ cs) e) q;
-    lent = λ j l e. A .lent [] (c .at) j l (cs, ap (λ (d : GroupCall). record { at = c .at; does = d } ∷ cs) e);
-  }
-
-  asked-rest : (g : Group) (c : CallAt) (cs : List CallAt) → AskedOf g (c ∷ cs) → AskedOf (next n start g c) cs
-  unfolding run
-  asked-rest g c cs A = record {
-    delivered = λ before k b h. A .delivered (c ∷ before) k b (h .0, ap (λ (l : List CallAt). c ∷ l) (h .1));
-    lent = λ before k j l h. A .lent (c ∷ before) k j l (h .0, ap (λ (x : List CallAt). c ∷ x) (h .1));
-  }
-
-  pub premise : (cs : List CallAt) (f : Calls n cs) (J : ℕ → Journal ℤ) (g : Group) → Kept J g → AskedOf g cs → CommandPremise (setup n start) machine (machineOf J g) (commands cs f)
-  unfolding CommandPremise commands
-  premise [] f J g K A = tt
-  premise (c ∷ cs) f J g K A =
-      let a = asked-first g c cs A in
-      let h = f c (List·Memᴰ·head refl) in (
-        (
-          handed-at (g .blocks) (c .at) (g .memories (c .at)) (c .does) (a .delivered),
-          lent-at (J (c .at)) (g .disks (c .at)) (K .disks (c .at)) (c .at) (g .memories (c .at)) (K .sound (c .at) (h .0)) (c .does) (a .lent),
-        ),
-        subst (λ (s : MachineSystem (setup n start) machine). CommandPremise (setup n start) machine s (commands cs (λ d q. f d (List·Memᴰ·tail q))))
-            (sym (one J g c h))
-            (premise cs (λ d q. f d (List·Memᴰ·tail q)) (journalsNext J g c) (next n start g c) (kept-next J g K c h) (asked-rest g c cs A)),
-      )
+  pub lent-at : (J : Journal ℤ) (d : Disk) → OnDisk n (d .journal) (J .kept) → 512 * J .safe ≤ d .floor → (k : ℕ) (m : Memory) → Good k m → (c : GroupCall) (v : signed32 (argumentsOf c .value) ≡ true)
+      → ((j l : List ℕ) (x : ℕ) (b : List ℕ) → c ≡ restart j l → restartStep m n k start j l .answer ≡ restarted x b → Lent m d j)
+      → CommandLent (setup n start) machine J k m (record { call = c; value = v })
+  lent-at J d H low k m s (call c) v f lent held given q e = absurd (not-meant c lent (let i : meant c ≡ Rattle.protocol.specs.System.Call.restart lent = cc in i))
+  lent-at J d H low k m s (restart j l) v f lent held given q e =
+      let w = accepted k m j l held given e in
+      let L = f j l (w .0) (w .1) refl (w .2) in
+      let i : lentMessages n j ≡ lent = cc in
+      (record { call = call (L .ended); value = L .value }, subst (Cut J _) i (lent-cut n (d .journal) J H start m (s .sound) (d .floor) low j L))
 
   -- ---- what is claimed of a call
 
   -- with the group g before it
   abbrev pub Said : List (Placed ℤ) → Group → CallAt → Type 0
-  Said F g c = CommandClaim (setup n start) F (g .handouts) (g .observed (c .at)) (c .at) (some (meantBy n (c .does))) (told (c .does) (did n start g c .answer))
+  Said F g c = CommandClaim (setup n start) F (g .handouts) (g .observed (c .at)) (c .at) (some (meantBy n (c .does))) (heard n (c .does) (did n start g c .answer))
 
   unfoldable AllSaid : List (Placed ℤ) → Group → List CallAt → Type 0
   AllSaid F g [] = Unit

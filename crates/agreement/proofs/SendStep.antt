@@ -5,7 +5,6 @@ use mathlib.Core.Bool.{Bool, true, false, cond}
 use mathlib.Core.Option.{some}
 use mathlib.Core.List.{List, [], _∷_, map}
 use native.Mathlib.Omega.{arith}
-use lib.Dec.{eqb}
 use lib.IntN.{ℤ}
 use lib.ListN.{length, getD, replicate}
 use borrow.Author.Tests.{eq-eqb, lt-leb}
@@ -23,7 +22,6 @@ use Rattle.engine.specs.Step.{step}
 use Rattle.engine.specs.Step.Call.{send}
 use Rattle.engine.proofs.Tests.{not-first}
 use Rattle.engine.proofs.Steps.{send-by}
-use Rattle.protocol.specs.Lists.{pick}
 use Rattle.protocol.specs.Replica.{Setup, transactions, Replica, replica, handedOut, Outcome, outcome}
 use Rattle.protocol.specs.Moves as model
 use Rattle.protocol.specs.Moves.{markSent, sendTxn, outgoing, sendStep}
@@ -57,7 +55,7 @@ map-through d g f h (a ∷ w) e = rw (e 0 (omega arith), map-through d g f h w (
 module _ {over : ℕ} (m : Memory) (S : Shape over m) where
   -- the writeset of an open row is that of its transaction
   writeset-is : (t : ℕ) → rowOf t (m .txns .table) < 6
-      → group.writesetOf (engine.writesetOf (m .txns) t) ≡ model.writesetOf (openTxns (m .txns)) t
+      → group.writesetFrom (engine.writesetOf (m .txns) t) ≡ model.writesetUnder (openTxns (m .txns)) t
   unfolding engine.writesetOf txnOf
   writeset-is t h = rw (find-row m S t h)
 
@@ -67,8 +65,8 @@ module _ {over : ℕ} (m : Memory) (S : Shape over m) where
       let w = waiting (m .txns .queue) in
       rw (
         e,
-        map-through 0 group.writesetOf (engine.writesetOf (m .txns))
-            (model.writesetOf (openTxns (m .txns))) w (λ k h. writeset-is (getD w k 0) (asked-row m S k h .0)),
+        map-through 0 group.writesetFrom (engine.writesetOf (m .txns))
+            (model.writesetUnder (openTxns (m .txns))) w (λ k h. writeset-is (getD w k 0) (asked-row m S k h .0)),
       )
 
 -- ---- the rows
@@ -77,13 +75,9 @@ module _ {over : ℕ} (m : Memory) (S : Shape over m) where
 abbrev sentTxns : Transactions → Transactions
 sentTxns x = record { table = map sendRow (x .table); queue = replicate 6 0; items = x .items; writes = x .writes; snapshots = x .snapshots }
 
-as-picked : (b : Bool) (n k : ℕ) → cond b n k ≡ pick b n k
-as-picked true n k = refl
-as-picked false n k = refl
-
 sent-row : (x : Transactions) (r : ℕ) (t : Txn) → txnOf (sentTxns x) r (sendRow t) ≡ sendTxn (txnOf x r t)
 unfolding txnOf
-sent-row x r t = rw (as-picked (eqb (t .stage) 1) 2 (t .stage))
+sent-row x r t = refl
 
 sent-rows : (x : Transactions) (r : ℕ) (ts : List Txn) → rowsFrom (sentTxns x) r (map sendRow ts) ≡ map sendTxn (rowsFrom x r ts)
 unfolding rowsFrom

@@ -18,6 +18,7 @@ use Rattle.block.proofs.ListLaws.{getD-slice}
 use Rattle.block.proofs.WriteLaws.{length-entries}
 use Rattle.memory.specs.declared.Txn.{Txn}
 use Rattle.memory.specs.Memory.{Transactions, Memory, maxSlots}
+use Rattle.memory.specs.Turns.{isOn}
 use Rattle.memory.specs.Rows.{rowOf, rowAt, writeCount}
 use Rattle.engine.specs.Moves.{waiting, writesetOf, messageFor, sendRefusal}
 use Rattle.engine.specs.Shape.{RowShape, Shape}
@@ -31,7 +32,7 @@ use Rattle.agreement.proofs.View.{Sound}
 pub record SendPassed (m : Memory) : Type 0 where
   pub slot : m .turn .slot < maxSlots
   pub owner : ownerOf (m .counts .replicas) (m .turn .slot) ≡ m .counts .own
-  pub unsent : m .turn .sent ≡ false
+  pub unsent : isOn (m .turn .sent) ≡ false
 
 pub send-passed : (m : Memory) (b : List ℕ) → sendRefusal m b ≡ 0 → SendPassed m
 unfolding sendRefusal

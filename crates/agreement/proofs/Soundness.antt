@@ -11,7 +11,7 @@ use Rattle.block.specs.Message.{Record, ownerOf, signed32}
 use Rattle.memory.specs.declared.Txn.{Txn}
 use Rattle.memory.specs.Memory.{Memory}
 use Rattle.memory.specs.Rows.{writeCount, itemsOf, countBelow, insertAt}
-use Rattle.memory.specs.Turns.{markApplying, advance}
+use Rattle.memory.specs.Turns.{isOn, markApplying, advance}
 use Rattle.engine.specs.Calls.{Outcome}
 use Rattle.engine.specs.Make.{madeMemory}
 use Rattle.engine.specs.Client.{rowNo, rowIn, beginAt, rewriteAt, insertWrite, staleAt, readOnlyAt, queueAt, withdrawAt, reportStep}
@@ -23,7 +23,7 @@ use Rattle.engine.proofs.PartLaws.{insert-before, insert-here, insert-moved, in
 use Rattle.engine.proofs.Passed.{write-passed}
 use Rattle.engine.proofs.Steps.{begin-by, read-by, write-by, ask-by, withdraw-by, send-by, deliver-by, work-by}
 use Rattle.engine.proofs.Shapes.{shapes}
-use Rattle.agreement.specs.Group.{valueOf}
+use Rattle.agreement.specs.Group.{call, argumentsOf}
 use Rattle.agreement.proofs.View.{Sound}
 
 -- each number of the list is a signed 32-bit one
@@ -34,7 +34,7 @@ Fits l = (i : ℕ) → signed32 (getD l i (pos 0)) ≡ true
 record Rest (n : ℕ) (m : Memory) : Type 0 where
   size : m .counts .replicas ≡ n
   fits : Fits (m .txns .writes)
-  ours : m .turn .sent ≡ true → ownerOf n (m .turn .slot) ≡ m .counts .own
+  ours : isOn (m .turn .sent) ≡ true → ownerOf n (m .turn .slot) ≡ m .counts .own
 
 -- ---- a value put into the list
 
@@ -122,13 +122,13 @@ module _ (n : ℕ) (m : Memory) (s : Rest n m) where
   unfolding commitWriteset
   writeset-rests mine w = record { size = s .size; fits = s .fits; ours = go (isLast m) mine }
     where
-      go : (last own : Bool) → cond last (advance (m .turn)) (cond own (m .turn) (markApplying (m .turn))) .sent ≡ true
+      go : (last own : Bool) → isOn (cond last (advance (m .turn)) (cond own (m .turn) (markApplying (m .turn))) .sent) ≡ true
           → ownerOf n (cond last (advance (m .turn)) (cond own (m .turn) (markApplying (m .turn))) .slot) ≡ m .counts .own
       go true own q = clash {b = false} q refl
       go false true q = s .ours q
       go false false q = s .ours q
 
-rest-each : (n : ℕ) (m : Memory) → Rest n m → (c : Call) → signed32 (valueOf c) ≡ true → Rest n (step m c .memory)
+rest-each : (n : ℕ) (m : Memory) → Rest n m → (c : Call) → signed32 (argumentsOf (call c) .value) ≡ true → Rest n (step m c .memory)
 rest-each n m s begin e = begin-by (Rests n m s) m (λ p. begin-rests n m s _) (λ p. s)
 rest-each n m s (read t i) e = read-by (Rests n m s) m t i (λ p. s) (λ p. s)
 rest-each n m s (write t i v) e =
@@ -143,7 +143,7 @@ rest-each n m s work e = work-by (Rests n m s) m (λ p k. next-rests n m s) (λ 
 
 -- ---- the whole
 
-pub sound-each : (n : ℕ) (m : Memory) → Sound n m → (c : Call) → signed32 (valueOf c) ≡ true → Sound n (step m c .memory)
+pub sound-each : (n : ℕ) (m : Memory) → Sound n m → (c : Call) → signed32 (argumentsOf (call c) .value) ≡ true → Sound n (step m c .memory)
 sound-each n m s c e =
     let r = rest-each n m (record { size = s .size; fits = s .fits; ours = s .ours }) c e in
     record { over = s .over; shape = shapes .each m (s .shape) c; size = r .size; fits = r .fits; ours = r .ours }

@@ -10,7 +10,6 @@ use Rattle.protocol.specs.Journal.{journal}
 use Rattle.protocol.proofs.Refinement.{fresh-inv}
 use Rattle.agreement.specs.Group.{fresh}
 use Rattle.agreement.specs.Statement.{AgreementTheorem}
-use Rattle.agreement.specs.Floor.{FloorTheorem}
 use Rattle.agreement.proofs.View.{setup, Sound, Owed}
 use Rattle.agreement.proofs.BeginStep.{begin-owes}
 use Rattle.agreement.proofs.ReadStep.{read-owes}
@@ -21,11 +20,11 @@ use Rattle.agreement.proofs.SendStep.{send-owes}
 use Rattle.agreement.proofs.DeliverStep.{deliver-owes}
 use Rattle.agreement.proofs.WorkStep.{work-owes}
 use Rattle.agreement.proofs.Replicas.{places-apart}
-use Rattle.agreement.proofs.Runs.{machine, fresh-kept, premise}
-use Rattle.agreement.proofs.FloorLaws.{floor-premise}
+use Rattle.agreement.proofs.Runs.{machine, fresh-kept}
+use Rattle.agreement.proofs.Premises.{premise}
 use Rattle.agreement.proofs.Agreement.{agreement-from}
 
-owes : (n : ℕ) (start : List ℤ) (m : Memory) → Sound n m → (c : Call) → Owed n start m c (step m c)
+pub owes : (n : ℕ) (start : List ℤ) (m : Memory) → Sound n m → (c : Call) → Owed n start m c (step m c)
 owes n start m s begin = begin-owes n start m s
 owes n start m s (read t i) = read-owes n start m s t i
 owes n start m s (write t i v) = write-owes n start m s t i v
@@ -40,11 +39,4 @@ pub agreement : AgreementTheorem
 agreement n start least most long cs f p =
     agreement-from n start least most long (owes n start) cs f
     (premise n start least most long (owes n start) cs f (λ k. journal [] 0) (fresh n start) (fresh-kept n start least most long (owes n start))
-    (record { delivered = p .delivered; lent = p .lent }))
-
--- and with document 02's own words for what a cut leaves
-pub floor-agreement : FloorTheorem
-floor-agreement n start least most long cs f p =
-    agreement-from n start least most long (owes n start) cs f
-    (floor-premise n start least most long (owes n start) cs f (λ k. 0) (λ k. journal [] 0) (fresh n start) (fresh-kept n start least most long (owes n start))
     (fresh-inv (setup n start) (machine n start least most long (owes n start)) (places-apart n start)) (λ k. omega arith) p)

@@ -12,6 +12,7 @@ use Rattle.block.specs.Message.{ownerOf, signed32}
 use Rattle.block.specs.Writing.{entriesFrom}
 use Rattle.memory.specs.declared.Txn.{Txn}
 use Rattle.memory.specs.Memory.{Transactions, Memory, maxTickets, maxSlots}
+use Rattle.memory.specs.Turns.{isOn}
 use Rattle.memory.specs.Rows.{isOpen, writeCount, itemsOf}
 use Rattle.engine.specs.Calls.{Outcome}
 use Rattle.engine.specs.Moves.{waiting}
@@ -22,7 +23,7 @@ use Rattle.protocol.specs.Writesets.{Write, Message}
 use Rattle.protocol.specs.Replica.{Setup, Transaction, transaction, Cursor, Store, transactions, Blocks, Replica, replica, refused}
 use Rattle.protocol.specs.System.{step}
 use Rattle.protocol.specs.Machine.{Alike}
-use Rattle.agreement.specs.Group.{writeOf, messageIn, heard}
+use Rattle.agreement.specs.Group.{writeOf, messageIn, call, heard}
 
 -- `sameMessage` is not asked: where a deliver of the replica's own block is accepted, its bytes are those sent
 abbrev pub setup : ℕ → List ℤ → Setup ℤ
@@ -61,7 +62,7 @@ unfoldable pub placeAt : List ℕ → ℕ → Option (Message ℤ)
 placeAt places p = cond (eqb (getD places (512 * p) 0) 0) none (some (messageIn (slice (512 * p) (512 * p + 512) places)))
 
 abbrev pub cursorOf : Memory → Cursor
-cursorOf m = record { turn = m .turn .slot; sent = m .turn .sent; applying = m .turn .applying; done = m .counts .done }
+cursorOf m = record { turn = m .turn .slot; sent = isOn (m .turn .sent); applying = isOn (m .turn .applying); done = m .counts .done }
 
 abbrev pub storeOf : Memory → Store ℤ
 storeOf m = record { commits = m .counts .commits; values = m .store .values; stamps = λ i. getD (m .store .stamps) i 0 }
@@ -78,7 +79,7 @@ pub record Sound (n : ℕ) (m : Memory) : Type 0 where
   pub shape : Shape over m
   pub size : m .counts .replicas ≡ n
   pub fits : (i : ℕ) → signed32 (getD (m .txns .writes) i (pos 0)) ≡ true
-  pub ours : m .turn .sent ≡ true → ownerOf n (m .turn .slot) ≡ m .counts .own
+  pub ours : isOn (m .turn .sent) ≡ true → ownerOf n (m .turn .slot) ≡ m .counts .own
 
 -- ---- the calls
 
@@ -95,8 +96,8 @@ meant work = Rattle.protocol.specs.System.Call.work
 
 -- what the outcome o of call c on memory m owes: a refusal other than 9 that leaves the view alone, or the model's step
 pub data Owed (n : ℕ) (start : List ℤ) (m : Memory) (c : Call) (o : Outcome) : Type 0 where
-  refuses : (k : ℕ) → (k ≡ 9 → ⊥) → heard c (o .answer) ≡ refused k → Alike (view m) (view (o .memory)) → Owed n start m c o
-  follows : heard c (o .answer) ≡ step (setup n start) (view m) (meant c) .event → Alike (step (setup n start) (view m) (meant c) .replica) (view (o .memory))
+  refuses : (k : ℕ) → (k ≡ 9 → ⊥) → heard n (call c) (o .answer) ≡ refused k → Alike (view m) (view (o .memory)) → Owed n start m c o
+  follows : heard n (call c) (o .answer) ≡ step (setup n start) (view m) (meant c) .event → Alike (step (setup n start) (view m) (meant c) .replica) (view (o .memory))
       → Owed n start m c o
 
 pub alike-same : (r : Replica ℤ) → Alike r r

@@ -10,13 +10,13 @@ use lib.IntN.{ℤ}
 use lib.ListN.{length, getD}
 use borrow.Author.Tests.{eqb-true, eqb-false, eq-eqb, ne-eqb, ltb-true, le-leb, lt-leb}
 use Rattle.block.specs.Message.{Record}
-use Rattle.block.specs.Answers.{readRefusal}
+use Rattle.block.specs.Answers.{blockRefusal}
 use Rattle.block.proofs.BoolLaws.{both}
 use Rattle.memory.specs.declared.Turn.{Turn}
 use Rattle.memory.specs.declared.Txn.{Txn}
 use Rattle.memory.specs.Memory.{Memory, bump}
 use Rattle.memory.specs.Rows.{rowOf, rowAt}
-use Rattle.memory.specs.Turns.{markApplying}
+use Rattle.memory.specs.Turns.{isOn, markApplying}
 use Rattle.engine.specs.Calls.{Step, Outcome}
 use Rattle.engine.specs.Calls.Answer.{worked}
 use Rattle.engine.specs.Moves.{waiting, blockAtTurn, writesetAt, hitTickets, workRefusal, turnBlocks, passNext, isLast, commitWriteset}
@@ -38,7 +38,7 @@ use Rattle.protocol.specs.Client.{findTxn, without}
 use Rattle.protocol.specs.Moves.{advance, cursorAfter, storeAfter, afterAborts, afterEnd, conflicts, abortedBy, isSent, clearTurn, blocksAfter, commitStep, workStep}
 use Rattle.protocol.specs.System.{step}
 use Rattle.protocol.specs.Machine.{Alike}
-use Rattle.agreement.specs.Group.{writeOf, writesetOf, messageIn, heard}
+use Rattle.agreement.specs.Group.{writeOf, writesetFrom, messageIn, call, heard}
 use Rattle.agreement.proofs.View.{setup, placeAt, openTxns, cursorOf, storeOf, blocksOf, view, Sound, Owed, follows, txnOf}
 use Rattle.agreement.proofs.ClientStep.{refused-owes}
 use Rattle.agreement.proofs.RowView.{find-row}
@@ -51,7 +51,7 @@ use Rattle.agreement.proofs.AbortLaws.{queue-kept, rows-beside, Staged,
 
 module _ (S : Setup ℤ) (r : Replica ℤ) (a : Message ℤ) (found : r .blocks .places (S .place (r .cursor .turn)) ≡ some a) where
   model-next : length (a .writesets) ≡ 0
-      → workStep S r ≡ outcome (replica (r .own) (advance (r .cursor)) (r .store) (r .transactions) (clearTurn S (r .cursor) (r .blocks))) (passed (a .sender))
+      → workStep S r ≡ outcome (replica (r .own) (advance (r .cursor)) (r .store) (r .transactions) (clearTurn S (r .cursor) (r .blocks))) (passed (a .sender) [])
   unfolding workStep
   model-next z = rw (found, eq-eqb (length (a .writesets)) 0 z)
 
@@ -73,9 +73,9 @@ module _ (S : Setup ℤ) (r : Replica ℤ) (a : Message ℤ) (found : r .blocks 
 
 -- ---- one fact each
 
-heard-committed : (s : Step) → (s .ticket ≡ 0 → ⊥) → heard work (worked s) ≡ Rattle.protocol.specs.Replica.Event.committed (s .sender) (s .ticket) (s .aborted)
+heard-committed : (n : ℕ) (s : Step) → (s .ticket ≡ 0 → ⊥) → heard n (call work) (worked s) ≡ Rattle.protocol.specs.Replica.Event.committed (s .sender) (s .ticket) (s .aborted)
 unfolding heard
-heard-committed s d = rw (ne-eqb (s .ticket) 0 d)
+heard-committed n s d = rw (ne-eqb (s .ticket) 0 d)
 
 last-same : (total done : ℕ) → done < total → eqb (suc done) total ≡ leb total (done + 1)
 last-same total done h =
@@ -86,8 +86,8 @@ abbrev turnAfter : Turn → Bool → Bool → Turn
 turnAfter t mine last = cond last (Rattle.memory.specs.Turns.advance t) (cond mine t (markApplying t))
 
 cursor-same : (t : Turn) (done total : ℕ) (mine last : Bool) → bump (t .slot) ≡ suc (t .slot) → eqb (suc done) total ≡ last
-    → cursorAfter total (not mine) (record { turn = t .slot; sent = t .sent; applying = t .applying; done = done })
-    ≡ record { turn = turnAfter t mine last .slot; sent = turnAfter t mine last .sent; applying = turnAfter t mine last .applying; done = cond last 0 (done + 1) }
+    → cursorAfter total (not mine) (record { turn = t .slot; sent = isOn (t .sent); applying = isOn (t .applying); done = done })
+    ≡ record { turn = turnAfter t mine last .slot; sent = isOn (turnAfter t mine last .sent); applying = isOn (turnAfter t mine last .applying); done = cond last 0 (done + 1) }
 unfolding cursorAfter
 cursor-same t done total true true u e = rw (e, u)
 cursor-same t done total false true u e = rw (e, u)
@@ -96,7 +96,7 @@ cursor-same t done total false false u e = let z : done + 1 ≡ suc done = omega
 
 -- what the model does at a call is what the outcome shows
 owed-by : (n : ℕ) (start : List ℤ) (m : Memory) (o : Outcome) (q : Rattle.protocol.specs.Replica.Outcome ℤ) → workStep (setup n start) (view m) ≡ q
-    → heard work (o .answer) ≡ q .event → Alike (q .replica) (view (o .memory)) → Owed n start m work o
+    → heard n (call work) (o .answer) ≡ q .event → Alike (q .replica) (view (o .memory)) → Owed n start m work o
 unfolding step
 owed-by n start m o q e a b = follows (rw e a) (rw e b)
 
@@ -112,7 +112,7 @@ module _ (start : List ℤ) {over : ℕ} (m : Memory) (S : Shape over m) (k : Wo
   pos : 0 < n
   pos = omega (arith, S .ranges .least)
 
-  taken : readRefusal b ≡ 0
+  taken : blockRefusal b ≡ 0
   taken = S .places .waits (m .turn .slot) (omega arith) (omega (arith, S .ranges .least)) (k .waits) .0
 
   found : placeAt (m .blocks .places) (m .turn .slot % n) ≡ some (messageIn b)
@@ -122,7 +122,7 @@ module _ (start : List ℤ) {over : ℕ} (m : Memory) (S : Shape over m) (k : Wo
   unfolding passNext heard
   next-owes h =
       owed-by n start m (passNext m) _ (model-next (setup n start) (view m) (messageIn b) found (count-seen b ∙ taken-block b taken .next h))
-      (ap passed (sym (sender-seen b)))
+      (ap (λ (i : ℕ). passed i []) (sym (sender-seen b)))
       (record {
         own = refl;
         cursor = rw (bumps m S .slot);
@@ -198,8 +198,8 @@ module _ (start : List ℤ) {over : ℕ} (m : Memory) (S : Shape over m) (k : Wo
         let f = row-found (w .ticket) table (S .lengths .table) r in
         let open-sent : isSent (findTxn (w .ticket) (openTxns (m .txns))) ≡ true = rw (find-row m S (w .ticket) r) (unfold txnOf in s .right) in
         owed-by n start m (commitWriteset m true w) _
-        (model-own (setup n start) (view m) (messageIn b) found any-writeset (writesetOf w) (writeset-seen b taken (m .counts .done) more) (sender-seen b ∙ e) open-sent)
-        (heard-committed _ ticket ∙ ap (λ (i : ℕ). Rattle.protocol.specs.Replica.Event.committed i (w .ticket) []) (sym (sender-seen b)))
+        (model-own (setup n start) (view m) (messageIn b) found any-writeset (writesetFrom w) (writeset-seen b taken (m .counts .done) more) (sender-seen b ∙ e) open-sent)
+        (heard-committed n _ ticket ∙ ap (λ (i : ℕ). Rattle.protocol.specs.Replica.Event.committed i (w .ticket) []) (sym (sender-seen b)))
         (commit-alike true (without (w .ticket) (openTxns (m .txns))) (waiting (m .txns .queue)) (row-closed m S row r (f .live) (w .ticket) (f .is)) refl)
 
     abbrev gone : List ℕ
@@ -232,8 +232,8 @@ module _ (start : List ℤ) {over : ℕ} (m : Memory) (S : Shape over m) (k : Wo
     unfolding commitWriteset
     other-owes d =
         owed-by n start m (commitWriteset m false w) _
-        (model-other (setup n start) (view m) (messageIn b) found any-writeset (writesetOf w) (writeset-seen b taken (m .counts .done) more) (λ e. d (sym (sender-seen b) ∙ e)))
-        (heard-committed _ ticket
+        (model-other (setup n start) (view m) (messageIn b) found any-writeset (writesetFrom w) (writeset-seen b taken (m .counts .done) more) (λ e. d (sym (sender-seen b) ∙ e)))
+        (heard-committed n _ ticket
         ∙ ap (λ (i : ℕ). Rattle.protocol.specs.Replica.Event.committed i (w .ticket) gone) (sym (sender-seen b))
         ∙ ap (Rattle.protocol.specs.Replica.Event.committed (messageIn b .sender) (w .ticket)) (sym hit))
         (commit-alike false _ _ members queue)

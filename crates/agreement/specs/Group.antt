@@ -1,5 +1,5 @@
 -- A group of replicas with its observer and their journals, and lists of calls.
-use Prim.Native.Nat.{ℕ, suc, _*_, _≤_, _<_, max}
+use Prim.Native.Nat.{ℕ, _*_, _≤_, _<_}
 use mathlib.Core.Path.{_≡_}
 use mathlib.Core.Bool.{true, cond}
 use mathlib.Core.Option.{Option, none, some}
@@ -16,68 +16,12 @@ use Rattle.engine.specs.Calls.Answer.{refused, made, began, got, wrote, queued,
 use Rattle.engine.specs.Make.{madeMemory}
 use Rattle.engine.specs.Step.{Call, step}
 use Rattle.engine.specs.Step.Call.{begin, read, write, ask, withdraw, report, send, deliver, work}
-use Rattle.engine.specs.Restart.{firstBlocks, restartStep}
+use Rattle.engine.specs.Restart.{blocksIn, restartStep}
 use Rattle.protocol.specs.Lists.{opt, update, Mem}
 use Rattle.protocol.specs.Writesets.{Write, newWrite, Writeset, Message}
 use Rattle.protocol.specs.Replica.{Event}
 use Rattle.protocol.specs.Replica.Event.{passed, committed, requested, handedOut, accepted}
 use Rattle.protocol.specs.Observer.{noting, Observed, observing, Handout, observedAfter, handoutsAfter}
-
--- ---- what the observer is fed of a call: arguments and answer alone
-
--- what a block says
-abbrev pub writeOf : Entry → Write ℤ
-writeOf e = newWrite (e .item) (e .value)
-
-abbrev pub writesetOf : Record → Writeset ℤ
-writesetOf r = record { ticket = r .ticket; writes = map writeOf (r .entries) }
-
-unfoldable pub messageIn : List ℕ → Message ℤ
-messageIn b = record { slot = messageOf b .slot; sender = messageOf b .sender; writesets = map writesetOf (messageOf b .records) }
-
-abbrev pub ticketOf : Call → ℕ
-ticketOf begin = 0
-ticketOf (read t i) = t
-ticketOf (write t i v) = t
-ticketOf (ask t) = t
-ticketOf (withdraw t) = t
-ticketOf report = 0
-ticketOf (send b) = 0
-ticketOf (deliver b) = 0
-ticketOf work = 0
-
-abbrev pub itemOf : Call → ℕ
-itemOf begin = 0
-itemOf (read t i) = i
-itemOf (write t i v) = i
-itemOf (ask t) = 0
-itemOf (withdraw t) = 0
-itemOf report = 0
-itemOf (send b) = 0
-itemOf (deliver b) = 0
-itemOf work = 0
-
-abbrev pub valueOf : Call → ℤ
-valueOf begin = pos 0
-valueOf (read t i) = pos 0
-valueOf (write t i v) = v
-valueOf (ask t) = pos 0
-valueOf (withdraw t) = pos 0
-valueOf report = pos 0
-valueOf (send b) = pos 0
-valueOf (deliver b) = pos 0
-valueOf work = pos 0
-
-abbrev pub bytesOf : Call → List ℕ
-bytesOf begin = []
-bytesOf (read t i) = []
-bytesOf (write t i v) = []
-bytesOf (ask t) = []
-bytesOf (withdraw t) = []
-bytesOf report = []
-bytesOf (send b) = []
-bytesOf (deliver b) = b
-bytesOf work = []
 
 -- ---- the calls
 
@@ -86,100 +30,115 @@ pub data GroupCall : Type 0 where
   call : Call → GroupCall
   restart : (journal block : List ℕ) → GroupCall
 
-abbrev pub valueIn : GroupCall → ℤ
-valueIn (call c) = valueOf c
-valueIn (restart journal block) = pos 0
-
-abbrev pub journalIn : GroupCall → List ℕ
-journalIn (call c) = []
-journalIn (restart journal block) = journal
-
 -- at replica k, on the memory that the last call there left
 abbrev pub performed : ℕ → List ℤ → ℕ → Memory → GroupCall → Outcome
 performed n start k m (call c) = step m c
 performed n start k m (restart journal block) = restartStep m n k start journal block
 
+-- bytes: those of a deliver
+pub record Arguments : Type 0 where
+  pub ticket : ℕ
+  pub item : ℕ
+  pub value : ℤ
+  pub bytes : List ℕ
+
+abbrev pub arguments : ℕ → ℕ → ℤ → List ℕ → Arguments
+arguments t i v b = record { ticket = t; item = i; value = v; bytes = b }
+
+-- 0 and no bytes where a call has none
+abbrev pub argumentsOf : GroupCall → Arguments
+argumentsOf (call begin) = arguments 0 0 (pos 0) []
+argumentsOf (call (read t i)) = arguments t i (pos 0) []
+argumentsOf (call (write t i v)) = arguments t i v []
+argumentsOf (call (ask t)) = arguments t 0 (pos 0) []
+argumentsOf (call (withdraw t)) = arguments t 0 (pos 0) []
+argumentsOf (call report) = arguments 0 0 (pos 0) []
+argumentsOf (call (send block)) = arguments 0 0 (pos 0) []
+argumentsOf (call (deliver bytes)) = arguments 0 0 (pos 0) bytes
+argumentsOf (call work) = arguments 0 0 (pos 0) []
+argumentsOf (restart journal block) = arguments 0 0 (pos 0) []
+
+abbrev pub journalIn : GroupCall → List ℕ
+journalIn (call c) = []
+journalIn (restart journal block) = journal
+
+-- ---- what the observer is fed of a call: arguments and answer alone
+
+-- what a block says
+abbrev pub writeOf : Entry → Write ℤ
+writeOf e = newWrite (e .item) (e .value)
+
+abbrev pub writesetFrom : Record → Writeset ℤ
+writesetFrom r = record { ticket = r .ticket; writes = map writeOf (r .entries) }
+
+unfoldable pub messageIn : List ℕ → Message ℤ
+messageIn b = record { slot = messageOf b .slot; sender = messageOf b .sender; writesets = map writesetFrom (messageOf b .records) }
+
 -- the block that a restart gives back, none where it is zeros
 abbrev pub givenIn : List ℕ → Option (Message ℤ)
 givenIn b = cond (eqb (getD b 0 0) 0) none (some (messageIn b))
 
--- a work that committed nothing names ticket 0; no call but these answers `made` or `restarted`
-unfoldable pub heard : Call → Answer → Event ℤ
-heard c (refused n) = Event.refused n
-heard c made = Event.refused 0
-heard c (began t) = Event.began t
-heard c (got v) = Event.got (ticketOf c) (itemOf c) v
-heard c wrote = Event.wrote (ticketOf c) (itemOf c) (valueOf c)
-heard c queued = requested (ticketOf c)
-heard c readOnly = requested (ticketOf c)
-heard c withdrew = Event.withdrew (ticketOf c)
-heard c (reported r) = Event.reported (r .turn) (r .commits)
-heard c (sent b) = handedOut (messageIn b)
-heard c kept = accepted (messageIn (bytesOf c))
-heard c (worked s) = cond (eqb (s .ticket) 0) (passed (s .sender)) (committed (s .sender) (s .ticket) (s .aborted))
-heard c (restarted k b) = Event.restarted [] (givenIn b)
+-- n the group's size; a work that committed nothing names ticket 0; a restart's commits are of the lent journal's blocks before the one at which it stops, whatever count
+-- it answers; no call answers `made`
+unfoldable pub heard : ℕ → GroupCall → Answer → Event ℤ
+heard n c (refused k) = Event.refused k
+heard n c made = Event.wasMade
+heard n c (began t) = Event.began t
+heard n c (got v) = Event.got (argumentsOf c .ticket) (argumentsOf c .item) v
+heard n c wrote = Event.wrote (argumentsOf c .ticket) (argumentsOf c .item) (argumentsOf c .value)
+heard n c queued = requested (argumentsOf c .ticket)
+heard n c readOnly = requested (argumentsOf c .ticket)
+heard n c withdrew = Event.withdrew (argumentsOf c .ticket)
+heard n c (reported r) = Event.reported (r .turn) (r .commits)
+heard n c (sent b) = handedOut (messageIn b)
+heard n c kept = accepted (messageIn (argumentsOf c .bytes))
+heard n c (worked s) = cond (eqb (s .ticket) 0) (passed (s .sender) (s .aborted)) (committed (s .sender) (s .ticket) (s .aborted))
+heard n c (restarted k b) = Event.restarted (map messageIn (blocksIn n (journalIn c))) (givenIn b)
 
--- of a restart: the messages of the lent journal's blocks before the one at which it stops, and the one that it gives back
-unfoldable pub heardRestart : List ℕ → Answer → Event ℤ
-heardRestart journal (refused n) = Event.refused n
-heardRestart journal made = Event.refused 0
-heardRestart journal (began t) = Event.refused 0
-heardRestart journal (got v) = Event.refused 0
-heardRestart journal wrote = Event.refused 0
-heardRestart journal queued = Event.refused 0
-heardRestart journal readOnly = Event.refused 0
-heardRestart journal withdrew = Event.refused 0
-heardRestart journal (reported r) = Event.refused 0
-heardRestart journal (sent b) = Event.refused 0
-heardRestart journal kept = Event.refused 0
-heardRestart journal (worked s) = Event.refused 0
-heardRestart journal (restarted c b) = Event.restarted (map messageIn (firstBlocks c journal)) (givenIn b)
-
-abbrev pub told : GroupCall → Answer → Event ℤ
-told (call c) a = heard c a
-told (restart journal block) a = heardRestart journal a
+-- the block that a call hands out: a send's; a restart's, unless it is zeros
+abbrev pub handedOutIn : Answer → Option (List ℕ)
+handedOutIn (refused n) = none
+handedOutIn made = none
+handedOutIn (began t) = none
+handedOutIn (got v) = none
+handedOutIn wrote = none
+handedOutIn queued = none
+handedOutIn readOnly = none
+handedOutIn withdrew = none
+handedOutIn (reported r) = none
+handedOutIn (sent b) = some b
+handedOutIn kept = none
+handedOutIn (worked s) = none
+handedOutIn (restarted c b) = cond (eqb (getD b 0 0) 0) none (some b)
 
 -- ---- the journals, from what calls answer
 
--- what a replica's disk has: all bytes appended, and how many of its blocks a cut leaves at least, up to the last own one handed out
+-- what a replica's disk has: the bytes appended, and how many there were when the last own block was handed out
 pub record Disk : Type 0 where
   pub journal : List ℕ
-  pub safe : ℕ
+  pub floor : ℕ
 
 abbrev pub disk : List ℕ → ℕ → Disk
-disk l n = record { journal = l; safe = n }
+disk l n = record { journal = l; floor = n }
 
--- the bytes that a call appends: a send's block; another's, where the turn leaves its slot
-abbrev pub appendedIn : Answer → List ℕ
-appendedIn (refused n) = []
-appendedIn made = []
-appendedIn (began t) = []
-appendedIn (got v) = []
-appendedIn wrote = []
-appendedIn queued = []
-appendedIn readOnly = []
-appendedIn withdrew = []
-appendedIn (reported r) = []
-appendedIn (sent b) = b
-appendedIn kept = []
-appendedIn (worked s) = s .append
-appendedIn (restarted c b) = []
+-- a send appends its block, a work another's where the turn leaves its slot; a restart's journal goes on behind the last block committed
+abbrev pub journalAfter : List ℕ → GroupCall → Answer → List ℕ
+journalAfter l c (refused n) = l
+journalAfter l c made = l
+journalAfter l c (began t) = l
+journalAfter l c (got v) = l
+journalAfter l c wrote = l
+journalAfter l c queued = l
+journalAfter l c readOnly = l
+journalAfter l c withdrew = l
+journalAfter l c (reported r) = l
+journalAfter l c (sent b) = l ++ b
+journalAfter l c kept = l
+journalAfter l c (worked s) = l ++ s .append
+journalAfter l c (restarted k b) = take (512 * k) (journalIn c)
 
--- a restart's journal goes on behind the last block committed
 abbrev pub diskAfter : Disk → GroupCall → Answer → Disk
-diskAfter d c (refused n) = d
-diskAfter d c made = d
-diskAfter d c (began t) = d
-diskAfter d c (got v) = d
-diskAfter d c wrote = d
-diskAfter d c queued = d
-diskAfter d c readOnly = d
-diskAfter d c withdrew = d
-diskAfter d c (reported r) = d
-diskAfter d c (sent b) = disk (d .journal ++ b) (suc (messageIn b .slot))
-diskAfter d c kept = d
-diskAfter d c (worked s) = disk (d .journal ++ s .append) (d .safe)
-diskAfter d c (restarted k b) = disk (take (512 * k) (journalIn c)) (opt (givenIn b) (d .safe) (λ m. max (d .safe) (suc (m .slot))))
+diskAfter d c a = let l = journalAfter (d .journal) c a in disk l (opt (handedOutIn a) (d .floor) (λ b. length l))
 
 -- ---- the group
 
@@ -196,19 +155,7 @@ pub record CallAt : Type 0 where
   pub does : GroupCall
 
 abbrev pub blocksAfter : List (List ℕ) → Answer → List (List ℕ)
-blocksAfter B (refused n) = B
-blocksAfter B made = B
-blocksAfter B (began t) = B
-blocksAfter B (got v) = B
-blocksAfter B wrote = B
-blocksAfter B queued = B
-blocksAfter B readOnly = B
-blocksAfter B withdrew = B
-blocksAfter B (reported r) = B
-blocksAfter B (sent b) = B ++ (b ∷ [])
-blocksAfter B kept = B
-blocksAfter B (worked s) = B
-blocksAfter B (restarted c b) = cond (eqb (getD b 0 0) 0) B (B ++ (b ∷ []))
+blocksAfter B a = opt (handedOutIn a) B (λ b. B ++ (b ∷ []))
 
 module _ (n : ℕ) (start : List ℤ) where
   -- n replicas just made, numbers 0 to n − 1, the same values
@@ -225,14 +172,18 @@ module _ (n : ℕ) (start : List ℤ) where
   abbrev pub did : Group → CallAt → Outcome
   did g c = performed n start (c .at) (g .memories (c .at)) (c .does)
 
-  abbrev pub next : Group → CallAt → Group
-  next g c = record {
-    memories = update (g .memories) (c .at) (did g c .memory);
-    disks = update (g .disks) (c .at) (diskAfter (g .disks (c .at)) (c .does) (did g c .answer));
-    observed = update (g .observed) (c .at) (observedAfter (g .observed (c .at)) (told (c .does) (did g c .answer)));
-    handouts = handoutsAfter (g .handouts) (c .at) (g .observed (c .at)) (told (c .does) (did g c .answer));
-    blocks = blocksAfter (g .blocks) (did g c .answer);
+  -- the group after a call with this outcome
+  abbrev pub nextBy : Outcome → Group → CallAt → Group
+  nextBy o g c = record {
+    memories = update (g .memories) (c .at) (o .memory);
+    disks = update (g .disks) (c .at) (diskAfter (g .disks (c .at)) (c .does) (o .answer));
+    observed = update (g .observed) (c .at) (observedAfter (g .observed (c .at)) (heard n (c .does) (o .answer)));
+    handouts = handoutsAfter (g .handouts) (c .at) (g .observed (c .at)) (heard n (c .does) (o .answer));
+    blocks = blocksAfter (g .blocks) (o .answer);
   }
+
+  abbrev pub next : Group → CallAt → Group
+  next g c = nextBy (did g c) g c
 
   unfoldable pub run : Group → List CallAt → Group
   run g [] = g
@@ -246,24 +197,25 @@ Comes cs before c = (after : List CallAt) × (cs ≡ before ++ (c ∷ after))
 
 -- each call is at a replica of the group, and a value written is a signed 32-bit number, as the calls' types have it; all else is any
 abbrev pub Calls : ℕ → List CallAt → Type 0
-Calls n cs = (c : CallAt) → Mem c cs → (c .at < n) × (signed32 (valueIn (c .does)) ≡ true)
+Calls n cs = (c : CallAt) → Mem c cs → (c .at < n) × (signed32 (argumentsOf (c .does) .value) ≡ true)
 
--- the journal is what a cut leaves of the bytes appended and of those that one more call appended: a first part with every own block handed out
-pub record Cut (d : Disk) (more journal : List ℕ) : Type 0 where
-  pub count : ℕ
-  pub part : journal ≡ take count (d .journal ++ more)
-  pub enough : 512 * d .safe ≤ length journal
-
--- the call there that the cut ended, of any kind
+-- a cut leaves a first part of what was appended, also by the call there which it ended, of any kind, and never less than the floor
 pub record Lent (m : Memory) (d : Disk) (journal : List ℕ) : Type 0 where
   pub ended : Call
-  pub value : signed32 (valueOf ended) ≡ true
-  pub cut : Cut d (appendedIn (step m ended .answer)) journal
+  pub value : signed32 (argumentsOf (call ended) .value) ≡ true
+  pub count : ℕ
+  pub part : journal ≡ take count (journalAfter (d .journal) (call ended) (step m ended .answer))
+  pub enough : d .floor ≤ length journal
 
-pub record Premise (n : ℕ) (start : List ℤ) (cs : List CallAt) : Type 0 where
+-- of a list of calls from the group g
+pub record PremiseFrom (n : ℕ) (start : List ℤ) (g : Group) (cs : List CallAt) : Type 0 where
   -- bytes that a deliver accepts equal a block handed out earlier in the list
   pub delivered : (before : List CallAt) (k : ℕ) (bytes : List ℕ) → Comes cs before (record { at = k; does = call (deliver bytes) })
-      → step (run n start (fresh n start) before .memories k) (deliver bytes) .answer ≡ kept → Mem bytes (run n start (fresh n start) before .blocks)
-  -- a restart is lent what a cut leaves
-  pub lent : (before : List CallAt) (k : ℕ) (journal block : List ℕ) → Comes cs before (record { at = k; does = restart journal block })
-      → Lent (run n start (fresh n start) before .memories k) (run n start (fresh n start) before .disks k) journal
+      → step (run n start g before .memories k) (deliver bytes) .answer ≡ kept → Mem bytes (run n start g before .blocks)
+  -- a restart that is accepted was lent what a cut leaves
+  pub lent : (before : List CallAt) (k : ℕ) (journal block : List ℕ) (count : ℕ) (given : List ℕ) → Comes cs before (record { at = k; does = restart journal block })
+      → restartStep (run n start g before .memories k) n k start journal block .answer ≡ restarted count given
+      → Lent (run n start g before .memories k) (run n start g before .disks k) journal
+
+abbrev pub Premise : ℕ → List ℤ → List CallAt → Type 0
+Premise n start cs = PremiseFrom n start (fresh n start) cs

@@ -2,4 +2,7 @@
 -- `protocol/specs/Observer.antt`.
 pub mod Group
 pub mod Statement
-pub mod Floor
+pub mod Journals
+-- what holds with no premise
+pub mod Handed
+pub mod SixRows

@@ -13,8 +13,7 @@ use Rattle.engine.specs.Step.{Call, step}
 use Rattle.engine.specs.Step.Call.{read, write, work}
 use Rattle.protocol.specs.Lists.{Mem}
 use Rattle.protocol.specs.Writesets.{Write, has, lookup, Disjoint}
-use Rattle.protocol.specs.Observer.{Observed, Placed, Handout, sequence, idOf, applyAll, noPlaced, noHandout}
-use Rattle.protocol.specs.Statement.{SameMessages}
+use Rattle.protocol.specs.Observer.{Observed, Placed, Handout, sequence, idOf, applyAll, handoutMessage, noPlaced, noHandout}
 use Rattle.agreement.specs.Group.{messageIn, Group, call, CallAt, fresh, run, Comes, Calls, Premise}
 
 -- the writeset at a place of the sequence, counted from 1
@@ -22,8 +21,8 @@ abbrev pub placed : List (Placed ℤ) → ℕ → Placed ℤ
 placed F p = getD F (p - 1) noPlaced
 
 -- a writeset of replica k with the ticket was put down
-abbrev pub PutDown : List (Handout ℤ) → ℕ → ℕ → Type 0
-PutDown D k t = (e : Placed ℤ) × Mem e (sequence D) × (e .sender ≡ k) × (e .ticket ≡ t)
+abbrev pub InSequence : List (Handout ℤ) → ℕ → ℕ → Type 0
+InSequence D k t = (e : Placed ℤ) × Mem e (sequence D) × (e .sender ≡ k) × (e .ticket ≡ t)
 
 -- an item is in both
 abbrev pub Share : List (Write ℤ) → List (Write ℤ) → Type 0
@@ -35,8 +34,9 @@ module _ (start : List ℤ) (F : List (Placed ℤ)) (D : List (Handout ℤ)) whe
     -- its commits are the first c of the sequence, by sender and ticket, c the commit count in its report
     pub commits : p .commits ≡ map idOf (take (r .commits) F)
     pub counted : length (p .commits) ≡ r .commits
-    -- and hold every writeset put down under a slot below its turn
+    -- and hold every writeset put down under a slot below its turn, by sender and ticket and by place
     pub below : (h : Handout ℤ) → Mem h D → h .slot < r .turn → (e : Placed ℤ) → Mem e (h .writesets) → Mem (idOf e) (p .commits)
+    pub reached : (i : ℕ) → i < length D → getD D i noHandout .slot < r .turn → length (sequence (take (suc i) D)) ≤ r .commits
     -- its values are the starting ones with those put in, in order
     pub values : held ≡ applyAll start (take (r .commits) F)
 
@@ -61,12 +61,13 @@ module _ (n : ℕ) (start : List ℤ) (cs : List CallAt) where
   abbrev pub answer : List CallAt → ℕ → Call → Answer
   answer before k c = step (groupAfter before .memories k) c .answer
 
-  -- one field for each sentence of document 01
+  -- document 01's sentences
   pub record Agreement : Type 0 where
     -- no slot was put down twice, and the sequence is by rising slot
     pub slots : (i j : ℕ) → i < j → j < length handouts → getD handouts i noHandout .slot < getD handouts j noHandout .slot
-    -- the records of each block handed out are the tickets and writes put down under its slot, in order
-    pub blocks : SameMessages handouts (map messageIn (groupAfter cs .blocks))
+    -- the records of each block handed out are the tickets and writes put down under its slot, in order; and nothing else was put down
+    pub blocks : (b : List ℕ) → Mem b (groupAfter cs .blocks) → Mem (messageIn b) (map handoutMessage handouts)
+    pub handed : (h : Handout ℤ) → Mem h handouts → Mem (handoutMessage h) (map messageIn (groupAfter cs .blocks))
     -- each replica has committed a beginning of the sequence and holds its values
     pub replicas : (k : ℕ) → k < n → Agrees start F handouts (groupAfter cs .observed k) (groupAfter cs .memories k .store .values) (reportOf (groupAfter cs .memories k))
     -- each accepted read gave the value then noted, else the item's value after the first *start* writesets of the sequence
@@ -77,16 +78,16 @@ module _ (n : ℕ) (start : List ℤ) (cs : List CallAt) where
     -- a work that commits names the next writeset of the sequence
     pub works : (before : List CallAt) (k : ℕ) (s : Step) → Comes cs before (record { at = k; does = call work }) → answer before k work ≡ worked s → (s .ticket ≡ 0 → ⊥)
         → idOf (placed F (suc (length (groupAfter before .observed k .commits)))) ≡ record { sender = s .sender; ticket = s .ticket }
-    -- a ticket that a work names as aborted has noted an item of the writeset which that work committed
+    -- a work that names a ticket as aborted commits a writeset, and the ticket has noted an item of it
     pub aborts : (before : List CallAt) (k : ℕ) (s : Step) → Comes cs before (record { at = k; does = call work }) → answer before k work ≡ worked s
         → (t : ℕ) → Mem t (s .aborted)
-        → Share (groupAfter before .observed k .noted t .writes) (placed F (suc (length (groupAfter before .observed k .commits))) .writes)
+        → (s .ticket ≡ 0 → ⊥) × Share (groupAfter before .observed k .noted t .writes) (placed F (suc (length (groupAfter before .observed k .commits))) .writes)
     -- once a ticket is put down, no work at its replica names it as aborted
     pub spared : (before : List CallAt) (k : ℕ) (s : Step) → Comes cs before (record { at = k; does = call work }) → answer before k work ≡ worked s
-        → (t : ℕ) → Mem t (s .aborted) → PutDown (groupAfter before .handouts) k t → ⊥
+        → (t : ℕ) → Mem t (s .aborted) → InSequence (groupAfter before .handouts) k t → ⊥
     -- and no write under it gives 9
     pub never-stale : (before : List CallAt) (k t i : ℕ) (v : ℤ) → Comes cs before (record { at = k; does = call (write t i v) }) → answer before k (write t i v) ≡ refused 9
-        → PutDown (groupAfter before .handouts) k t → ⊥
+        → InSequence (groupAfter before .handouts) k t → ⊥
 
 -- for every group, starting values and list with the premise
 abbrev pub AgreementTheorem : Type 0

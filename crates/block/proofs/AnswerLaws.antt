@@ -10,7 +10,7 @@ use borrow.Author.Tests.{eqb-true, eq-eqb}
 use Rattle.block.specs.Check.{checkMatches}
 use Rattle.block.specs.Message.{valid}
 use Rattle.block.specs.Form.{messageOf, padded, wellFormed}
-use Rattle.block.specs.Answers.{refuse, firstOf, readRefusal}
+use Rattle.block.specs.Answers.{refuse, firstOf, blockRefusal}
 use Rattle.block.proofs.BoolLaws.{both}
 
 pub record Taken (b : List ℕ) : Type 0 where
@@ -18,8 +18,8 @@ pub record Taken (b : List ℕ) : Type 0 where
   pub checks : checkMatches b ≡ true
   pub forms : wellFormed b ≡ true
 
-pub not-refused : (b : List ℕ) → Taken b → readRefusal b ≡ 0
-unfolding readRefusal firstOf
+pub not-refused : (b : List ℕ) → Taken b → blockRefusal b ≡ 0
+unfolding blockRefusal firstOf
 not-refused b t = rw (eq-eqb (length b) 512 (t .long), t .checks, t .forms)
 
 none-holds : (l c w : Bool) → firstOf (refuse 1 (not l) ∷ refuse 14 (not c) ∷ refuse 15 (not w) ∷ []) ≡ 0 → (l ≡ true) × (c ≡ true) × (w ≡ true)
@@ -29,8 +29,8 @@ none-holds true true false h = absurd (omega arith)
 none-holds true false w h = absurd (omega arith)
 none-holds false c w h = absurd (omega arith)
 
-pub is-taken : (b : List ℕ) → readRefusal b ≡ 0 → Taken b
-unfolding readRefusal
+pub is-taken : (b : List ℕ) → blockRefusal b ≡ 0 → Taken b
+unfolding blockRefusal
 is-taken b h =
     let t = none-holds (eqb (length b) 512) (checkMatches b) (wellFormed b) h in
     record { long = eqb-true (length b) 512 (t .0); checks = t .1; forms = t .2 }

@@ -4,18 +4,17 @@ use mathlib.Core.Bool.{true, false}
 use mathlib.Core.List.{List, _++_}
 use mathlib.Core.Path.{_≡_, refl, sym, ap, _∙_}
 use native.Mathlib.Nat.{mul-add, add-mul}
-use native.Mathlib.Numerals.{add-one, add-two, add-four}
+use native.Mathlib.Numerals.{add-one, add-two, add-three, add-four}
 use native.Mathlib.Omega.{arith}
 use borrow.Author.Tests.{eq-eqb, eqb-true, ne-eqb}
 use lib.Dec.{eqb}
 use lib.ListN.{length, take, drop, take-append-drop, List·getD-append, length-append}
 use lib.Seq.{slice, length-take-le, length-slice}
-use Rattle.block.specs.declared.Sums.{Sums}
-use Rattle.block.specs.Check.{word, sumTo, weightedTo, firstCheck, secondCheck, checkBytes, checkMatches, sumsOf}
-use Rattle.block.specs.Numbers.{bytesOf, numberOf}
+use Rattle.block.specs.Check.{word, sumTo, weightedTo, firstCheck, secondCheck, checkBytes, checkMatches}
+use Rattle.block.specs.Numbers.{bytesOf, numberFrom}
 use Rattle.block.proofs.BoolLaws.{both, joined}
 use Rattle.block.proofs.ListLaws.{AllBytes, bytes-append, bytes-slice, slice-at, slice-end, cut, drop-slice}
-use Rattle.block.proofs.NumberLaws.{length-bytesOf, bytes-bytesOf, numberOf-bytesOf, bytesOf-numberOf, number-more, number-none}
+use Rattle.block.proofs.NumberLaws.{length-bytesOf, bytes-bytesOf, numberFrom-bytesOf, bytesOf-numberFrom, number-more, number-none}
 
 module _ (a c : List ℕ) where
   pub word-append : (i : ℕ) → 2 * i + 1 < length a → word (a ++ c) i ≡ word a i
@@ -41,12 +40,12 @@ module _ (a c : List ℕ) where
   secondCheck-append h = rw (weightedTo-append 254 h)
 
 -- so it is that of the first 508 bytes
-pub firstCheck-take : (b : List ℕ) → 508 ≤ length b → firstCheck (take 508 b) ≡ firstCheck b
+firstCheck-take : (b : List ℕ) → 508 ≤ length b → firstCheck (take 508 b) ≡ firstCheck b
 firstCheck-take b h =
     let l = length-take-le 508 b h in
     sym (ap firstCheck (sym (take-append-drop 508 b)) ∙ firstCheck-append (take 508 b) (drop 508 b) (omega arith))
 
-pub secondCheck-take : (b : List ℕ) → 508 ≤ length b → secondCheck (take 508 b) ≡ secondCheck b
+secondCheck-take : (b : List ℕ) → 508 ≤ length b → secondCheck (take 508 b) ≡ secondCheck b
 secondCheck-take b h =
     let l = length-take-le 508 b h in
     sym (ap secondCheck (sym (take-append-drop 508 b)) ∙ secondCheck-append (take 508 b) (drop 508 b) (omega arith))
@@ -85,17 +84,17 @@ check-matches a e = joined (joined (eq-eqb _ 512 long) (eq-eqb _ _ one)) (eq-eqb
     long : length (a ++ (x ++ y)) ≡ 512
     long = simp (length-append, length-bytesOf, e)
 
-    one : firstCheck (a ++ (x ++ y)) ≡ numberOf (slice 508 510 (a ++ (x ++ y)))
+    one : firstCheck (a ++ (x ++ y)) ≡ numberFrom (slice 508 510 (a ++ (x ++ y)))
     one =
         rw (firstCheck-append a (x ++ y) (omega arith), slice-at a x y 508 510 e (omega (arith, length-bytesOf 2 (firstCheck a))))
-        (sym (numberOf-bytesOf 2 (firstCheck a) (firstCheck-small a)))
+        (sym (numberFrom-bytesOf 2 (firstCheck a) (firstCheck-small a)))
 
-    two : secondCheck (a ++ (x ++ y)) ≡ numberOf (slice 510 512 (a ++ (x ++ y)))
+    two : secondCheck (a ++ (x ++ y)) ≡ numberFrom (slice 510 512 (a ++ (x ++ y)))
     two =
         let m = length-bytesOf 2 (firstCheck a) in
         let n = length-bytesOf 2 (secondCheck a) in
         rw (secondCheck-append a (x ++ y) (omega arith), slice-end a x y 510 512 (omega arith) (omega arith))
-        (sym (numberOf-bytesOf 2 (secondCheck a) (secondCheck-small a)))
+        (sym (numberFrom-bytesOf 2 (secondCheck a) (secondCheck-small a)))
 
 -- and the other way: a block whose check matches is its first 508 bytes and their check
 pub check-whole : (b : List ℕ) → AllBytes b → checkMatches b ≡ true → take 508 b ++ checkBytes (take 508 b) ≡ b
@@ -110,10 +109,10 @@ check-whole b f h =
     rw (
       ← x,
       ← y,
-      eqb-true (firstCheck b) (numberOf (slice 508 510 b)) (d .right),
-      eqb-true (secondCheck b) (numberOf (slice 510 512 b)) (c .right),
-      bytesOf-numberOf 2 (slice 508 510 b) (bytes-slice 508 510 f) (length-slice 508 510 b (omega arith)),
-      bytesOf-numberOf 2 (slice 510 512 b) (bytes-slice 510 512 f) (length-slice 510 512 b (omega arith)),
+      eqb-true (firstCheck b) (numberFrom (slice 508 510 b)) (d .right),
+      eqb-true (secondCheck b) (numberFrom (slice 510 512 b)) (c .right),
+      bytesOf-numberFrom 2 (slice 508 510 b) (bytes-slice 508 510 f) (length-slice 508 510 b (omega arith)),
+      bytesOf-numberFrom 2 (slice 510 512 b) (bytes-slice 510 512 f) (length-slice 510 512 b (omega arith)),
       ← drop-slice 510 512 b e,
       ← cut 508 510 b (omega arith),
     )
@@ -122,12 +121,12 @@ check-whole b f h =
 -- ---- the answers of the code
 
 -- a word is the number in its two bytes
-pub word-number : (l : List ℕ) (at i : ℕ) → at ≡ 2 * i → at + 2 ≤ length l → numberOf (slice at (at + 2) l) ≡ word l i
+pub word-number : (l : List ℕ) (at i : ℕ) → at ≡ 2 * i → at + 2 ≤ length l → numberFrom (slice at (at + 2) l) ≡ word l i
 unfolding word
 word-number l at i e h =
-    let n = number-more l at (at + 2) (omega arith) h in
-    let m = number-more l (at + 1) (at + 2) (omega arith) h in
-    let z = number-none l (at + 1 + 1) (at + 2) (omega arith) in
+    let n = number-more l at (at + 1) (at + 2) refl (omega arith) h in
+    let m = number-more l (at + 1) (at + 2) (at + 2) (omega arith) (omega arith) h in
+    let z = number-none l (at + 2) in
     rw (← e) (omega arith)
 
 -- four words with their weights, from the weight of the last
@@ -141,27 +140,21 @@ turn u a e w s r t x q before next rest =
     let m : (u + 4) * a + (u + 1) * w ≡ u * (a + w) + 4 * a + w = simp (mul-add, add-mul) (omega arith) in
     omega arith
 
--- four words more; a to d are their numbers
-module _ (l : List ℕ) (k : ℕ) (low : k ≤ 250) (long : 2 * k + 8 ≤ length l) (a b c d : ℕ)
-    (is-a : a ≡ numberOf (slice (2 * k) (2 * k + 2) l))
-    (is-b : b ≡ numberOf (slice (2 * k + 2) (2 * k + 2 + 2) l))
-    (is-c : c ≡ numberOf (slice (2 * k + 4) (2 * k + 4 + 2) l))
-    (is-d : d ≡ numberOf (slice (2 * k + 6) (2 * k + 6 + 2) l)) where
-  word-a : word l k ≡ a
-  word-a = sym (is-a ∙ word-number l (2 * k) k refl (omega arith))
+-- four words more, a to d
+module _ (l : List ℕ) (k : ℕ) (low : k ≤ 250) (a b c d : ℕ)
+    (is-a : a ≡ word l k) (is-b : b ≡ word l (k + 1)) (is-c : c ≡ word l (k + 2)) (is-d : d ≡ word l (k + 3)) where
+  next-b : b ≡ word l (suc k)
+  next-b = rw (add-one k) at is-b
 
-  word-b : word l (suc k) ≡ b
-  word-b = sym (is-b ∙ word-number l (2 * k + 2) (suc k) (omega arith) (omega arith))
+  next-c : c ≡ word l (suc (suc k))
+  next-c = rw (add-two k) at is-c
 
-  word-c : word l (suc (suc k)) ≡ c
-  word-c = sym (is-c ∙ word-number l (2 * k + 4) (suc (suc k)) (omega arith) (omega arith))
-
-  word-d : word l (suc (suc (suc k))) ≡ d
-  word-d = sym (is-d ∙ word-number l (2 * k + 6) (suc (suc (suc k))) (omega arith) (omega arith))
+  next-d : d ≡ word l (suc (suc (suc k)))
+  next-d = rw (add-three k) at is-d
 
   pub sum-next : sumTo l (k + 4) ≡ sumTo l k + (a + b + c + d)
   unfolding sumTo
-  sum-next = rw (add-four k, word-a, word-b, word-c, word-d) (omega arith)
+  sum-next = rw (add-four k, ← is-a, ← next-b, ← next-c, ← next-d) (omega arith)
 
   pub weighted-next : weightedTo l (k + 4) ≡ weightedTo l k + ((251 - k) * (a + b + c + d) + (3 * a + 2 * b + c))
   unfolding weightedTo
@@ -171,7 +164,7 @@ module _ (l : List ℕ) (k : ℕ) (low : k ≤ 250) (long : 2 * k + 8 ≤ length
       let q : 254 - suc k ≡ v + 2 = omega arith in
       let r : 254 - suc (suc k) ≡ v + 1 = omega arith in
       let s : 254 - suc (suc (suc k)) ≡ v = omega arith in
-      rw (add-four k, word-a, word-b, word-c, word-d, p, q, r, s, weigh (251 - k) a b c d) (omega arith)
+      rw (add-four k, ← is-a, ← next-b, ← next-c, ← next-d, p, q, r, s, weigh (251 - k) a b c d) (omega arith)
 
   -- p to s are the sums of every fourth word, e to h the sums of those
   pub weighted-turn : (p q r s e f g h : ℕ) → 4 * (e + f + g + h) + (254 - k) * (p + q + r + s) ≡ weightedTo l k + (q + 2 * r + 3 * s)
@@ -201,30 +194,32 @@ unfolding weightedTo
 two-weighed l k = rw (add-two k, add-one k)
 
 -- the last two words, of weights 2 and 1
-pub sums-end : (l : List ℕ) → 508 ≤ length l → (f s : ℕ) → f ≡ sumTo l 252 → s ≡ weightedTo l 252 → (y z : ℕ)
-    → y ≡ numberOf (slice 504 506 l) → z ≡ numberOf (slice 506 508 l)
-    → record { first = (f + y + z) % 65535; second = (s + 2 * y + z) % 65535 } ≡ sumsOf l
-unfolding sumsOf firstCheck secondCheck
-sums-end l long f s sum weighted y z is-y is-z =
-    let p = word-number l 504 252 refl (omega arith) in
-    let q = word-number l 506 253 refl (omega arith) in
+pub sums-end : (l : List ℕ) (f s : ℕ) → f ≡ sumTo l 252 → s ≡ weightedTo l 252 → (y z : ℕ) → y ≡ word l 252 → z ≡ word l 253
+    → ((f + y + z) % 65535 ≡ firstCheck l) × ((s + 2 * y + z) % 65535 ≡ secondCheck l)
+unfolding firstCheck secondCheck
+sums-end l f s sum weighted y z is-y is-z =
     let t = two-more l 252 in
     let w = two-weighed l 252 in
     let a : f + y + z ≡ sumTo l 254 = omega arith in
     let b : s + 2 * y + z ≡ weightedTo l 254 = omega arith in
-    rw (a, b)
+    (rw a, rw b)
 
--- the answers of a block's comparison with its own check: s is its check, f and g what it holds in its last four bytes
+-- the answers of a block's comparison with its own check: s and t are its check's numbers, f and g what it holds in its last four bytes
 module _ (b : List ℕ) where
   pub matches-short : (length b ≡ 512 → ⊥) → false ≡ checkMatches b
   unfolding checkMatches
   matches-short h = rw (ne-eqb (length b) 512 h)
 
-  module _ (long : length b ≡ 512) (s : Sums) (sums : s ≡ sumsOf b) (f : ℕ) (held : f ≡ numberOf (slice 508 510 b)) where
-    pub matches-first : (s .first ≡ f → ⊥) → false ≡ checkMatches b
-    unfolding checkMatches sumsOf
-    matches-first h = rw (eq-eqb (length b) 512 long, ← held, ← ap (λ (x : Sums). x .first) sums, ne-eqb (s .first) f h)
+  module _ (long : length b ≡ 512) (s : ℕ) (first : s ≡ firstCheck b) (f : ℕ) (held : f ≡ word b 254) where
+    first-held : f ≡ numberFrom (slice 508 510 b)
+    first-held = held ∙ sym (word-number b 508 254 refl (omega arith))
 
-    pub matches-second : s .first ≡ f → (g : ℕ) → g ≡ numberOf (slice 510 512 b) → eqb (s .second) g ≡ checkMatches b
-    unfolding checkMatches sumsOf
-    matches-second h g e = rw (eq-eqb (length b) 512 long, ← held, ← e, ← ap (λ (x : Sums). x .first) sums, ← ap (λ (x : Sums). x .second) sums, eq-eqb (s .first) f h)
+    pub matches-first : (s ≡ f → ⊥) → false ≡ checkMatches b
+    unfolding checkMatches
+    matches-first h = rw (eq-eqb (length b) 512 long, ← first-held, ← first, ne-eqb s f h)
+
+    pub matches-second : s ≡ f → (t : ℕ) → t ≡ secondCheck b → (g : ℕ) → g ≡ word b 255 → eqb t g ≡ checkMatches b
+    unfolding checkMatches
+    matches-second h t second g e =
+        let second-held : g ≡ numberFrom (slice 510 512 b) = e ∙ sym (word-number b 510 255 refl (omega arith)) in
+        rw (eq-eqb (length b) 512 long, ← first-held, ← second-held, ← first, ← second, eq-eqb s f h)

@@ -3,7 +3,7 @@
 use Prim.Native.Nat.{ℕ, zero, suc, _+_, _*_, _-_, _%_, _<_, _≤_}
 use mathlib.Core.Bool.{Bool, true, false, not, cond, _&&_, and-false, and-true, and-self, and-assoc, and-comm}
 use mathlib.Core.List.{List, [], _∷_, _++_}
-use mathlib.Core.Path.{_≡_, refl, sym, ap, _∙_}
+use mathlib.Core.Path.{_≡_, refl, sym, _∙_}
 use native.Mathlib.Nat.{add-zero, sub-self}
 use native.Mathlib.Numerals.{add-one}
 use native.Mathlib.Omega.{arith}
@@ -13,9 +13,10 @@ use lib.ListN.{length, getD, take, drop}
 use lib.Seq.{slice, drop-cons, drop-length, drop-drop, take-take, getD-take, getD-drop}
 use Rattle.block.specs.Form.{entryOf, entriesOf, recordOf, recordsOf, messageOf, allZero, entriesPadded, recordPadded, recordsPadded, padded, wellFormed, headerFits}
 use Rattle.block.specs.Message.{Record, within, maxTicket, maxSlot, ownerOf, kindFits, entriesFit, recordFits, recordsFit, ticketAbsent, ticketsDiffer, valid}
-use Rattle.block.specs.Numbers.{numberOf}
+use Rattle.block.specs.Numbers.{numberFrom}
 use Rattle.block.proofs.ListLaws.{part-take, part-drop, lent, lent-slice, lent-rest, cut}
 use Rattle.block.proofs.NumberLaws.{number-more}
+use Rattle.block.proofs.ReadLaws.{length-entriesOf, length-recordsOf}
 
 -- ---- tests and conjunctions
 
@@ -62,10 +63,10 @@ zero-both zero zero = refl
 zero-both zero (suc y) = rw (ne-eqb (zero + 256 * suc y) 0 (omega arith), ne-eqb (suc y) 0 (omega arith))
 zero-both (suc b) y = rw (ne-eqb (suc b + 256 * y) 0 (omega arith), ne-eqb (suc b) 0 (omega arith))
 
-zero-number : (l : List ℕ) → allZero l ≡ eqb (numberOf l) 0
-unfolding allZero numberOf
+zero-number : (l : List ℕ) → allZero l ≡ eqb (numberFrom l) 0
+unfolding allZero numberFrom
 zero-number [] = refl
-zero-number (b ∷ bs) = rw (zero-both b (numberOf bs), zero-number bs)
+zero-number (b ∷ bs) = rw (zero-both b (numberFrom bs), zero-number bs)
 
 zero-append : (l k : List ℕ) → allZero (l ++ k) ≡ (allZero l && allZero k)
 unfolding allZero
@@ -90,7 +91,7 @@ module _ (l : List ℕ) (i : ℕ) where
   zero-end e = rw (← e, drop-length l)
 
 -- from place i on: eight bytes, whose number is x, and what follows them
-zero-part : (l : List ℕ) (i x : ℕ) → x ≡ numberOf (slice i (i + 8) l) → allZero (drop i l) ≡ (eqb x 0 && allZero (drop (i + 8) l))
+zero-part : (l : List ℕ) (i x : ℕ) → x ≡ numberFrom (slice i (i + 8) l) → allZero (drop i l) ≡ (eqb x 0 && allZero (drop (i + 8) l))
 zero-part l i x e = rw (cut i (i + 8) l (omega arith), zero-append, zero-number (slice i (i + 8) l), e)
 
 zero-later : (l : List ℕ) (i k : ℕ) → i ≤ k → (allZero (drop i l) && allZero (drop k l)) ≡ allZero (drop i l)
@@ -101,7 +102,7 @@ zero-differ w zero b h = rw (ne-eqb w 0 h)
 zero-differ w (suc x) b h = rw (ne-eqb (suc x) 0 (omega arith))
 
 -- by eight: x is the number of the last eight bytes, which stand from place k on, and w that of the eight from place i on
-module _ (l : List ℕ) (k x : ℕ) (full : k + 8 ≡ length l) (last : x ≡ numberOf (slice k (k + 8) l)) where
+module _ (l : List ℕ) (k x : ℕ) (full : k + 8 ≡ length l) (last : x ≡ numberFrom (slice k (k + 8) l)) where
   zero-last : eqb x 0 ≡ allZero (drop k l)
   zero-last = rw (zero-part l k x last, zero-end l (k + 8) (sym full), and-true)
 
@@ -112,7 +113,7 @@ module _ (l : List ℕ) (k x : ℕ) (full : k + 8 ≡ length l) (last : x ≡ nu
     pub eight-end : k ≤ i → (eqb x 0 && allZero (drop i l)) ≡ eqb x 0
     eight-end h = rw zero-last (zero-later l k i h)
 
-    module _ (w : ℕ) (here : w ≡ numberOf (slice i (i + 8) l)) where
+    module _ (w : ℕ) (here : w ≡ numberFrom (slice i (i + 8) l)) where
       pub eight-differ : (w ≡ x → ⊥) → (eqb x 0 && allZero (drop i l)) ≡ false
       eight-differ h = rw (zero-part l i w here) (zero-differ w x _ h)
 
@@ -129,10 +130,10 @@ packed low high b zero P h =
 packed low high b (suc y) P h =
     rw (within-above low high (b + 256 * suc y) (omega arith), ne-eqb (suc y) 0 (omega arith), and-false (within low high b))
 
-packed-at : (l : List ℕ) (f t x low high : ℕ) (P : ℕ → Bool) → high < 256 → f < t → t ≤ length l → x ≡ numberOf (slice f t l)
+packed-at : (l : List ℕ) (f t x low high : ℕ) (P : ℕ → Bool) → high < 256 → f < t → t ≤ length l → x ≡ numberFrom (slice f t l)
     → (within low high (getD l f 0) && allZero (slice (f + 1) t l) && P (getD l f 0)) ≡ (within low high x && P x)
 packed-at l f t x low high P small h k e =
-    rw (e, number-more l f t h k, zero-number (slice (f + 1) t l)) (packed low high (getD l f 0) (numberOf (slice (f + 1) t l)) P small)
+    rw (e, number-more l f (f + 1) t refl h k, zero-number (slice (f + 1) t l)) (packed low high (getD l f 0) (numberFrom (slice (f + 1) t l)) P small)
 
 -- ---- entries
 
@@ -150,7 +151,7 @@ abbrev pub entriesRest : ℕ → ℕ → ℕ → List ℕ → Bool
 entriesRest low n e l = entriesGood low (n - e) (drop (8 * e) l)
 
 -- entry e, whose item and unused bytes are the number x
-module _ (low n e : ℕ) (l : List ℕ) (x : ℕ) (h : e < n) (room : 8 * e + 4 ≤ length l) (item : x ≡ numberOf (slice (8 * e) (8 * e + 4) l)) where
+module _ (low n e : ℕ) (l : List ℕ) (x : ℕ) (h : e < n) (room : 8 * e + 4 ≤ length l) (item : x ≡ numberFrom (slice (8 * e) (8 * e + 4) l)) where
   entries-step : entriesRest low n e l ≡ (within low 127 x && entriesRest (x + 1) n (e + 1) l)
   entries-step =
       let left : n - e ≡ suc (n - (e + 1)) = omega arith in
@@ -181,21 +182,16 @@ entries-end low n l = rw (sub-self n, lent-rest (8 * n) l)
 abbrev pub recordGood : List ℕ → Bool
 recordGood l = recordFits (recordOf l) && recordPadded l
 
-length-entries : (n : ℕ) (l : List ℕ) → length (entriesOf n l) ≡ n
-unfolding entriesOf
-length-entries zero l = refl
-length-entries (suc n) l = ap suc (length-entries n (drop 8 l))
-
-module _ (l : List ℕ) (t : ℕ) (ticket : t ≡ numberOf (take 4 l)) where
+module _ (l : List ℕ) (t : ℕ) (ticket : t ≡ numberFrom (take 4 l)) where
   record-is : recordGood l
       ≡ (within 1 maxTicket t && (within 1 8 (getD l 4 0) && allZero (slice 5 8 l) && entriesGood 0 (getD l 4 0) (lent 8 (length l) l)))
   unfolding recordFits recordOf recordPadded
-  record-is = rw (ticket, length-entries, and-record, lent-rest 8 l)
+  record-is = rw (ticket, length-entriesOf, and-record, lent-rest 8 l)
 
   pub record-ticket : within 1 maxTicket t ≡ false → recordGood l ≡ false
   record-ticket e = rw (record-is, e)
 
-  module _ (w : ℕ) (room : 8 ≤ length l) (writes : w ≡ numberOf (slice 4 8 l)) where
+  module _ (w : ℕ) (room : 8 ≤ length l) (writes : w ≡ numberFrom (slice 4 8 l)) where
     record-packed : recordGood l ≡ (within 1 maxTicket t && (within 1 8 w && entriesGood 0 w (lent 8 (length l) l)))
     record-packed =
         rw (record-is, packed-at l 4 8 w 1 8 (λ n. entriesGood 0 n (lent 8 (length l) l)) (omega arith) (omega arith) room writes)
@@ -221,7 +217,7 @@ recordsRest n j l = recordsGood (n - j) (drop (72 * j) l)
 
 -- record j's ticket
 abbrev pub ticketAt : ℕ → List ℕ → ℕ
-ticketAt j l = numberOf (slice (72 * j) (72 * j + 4) l)
+ticketAt j l = numberFrom (slice (72 * j) (72 * j + 4) l)
 
 module _ (n j : ℕ) (l : List ℕ) (h : j < n) where
   left : n - j ≡ suc (n - (j + 1))
@@ -290,7 +286,7 @@ pub header-replicas : (b : List ℕ) → within 2 6 (getD b 2 0) ≡ false → h
 unfolding headerFits
 header-replicas b e = rw e
 
-module _ (b : List ℕ) (t : ℕ) (slot : t ≡ numberOf (slice 4 8 b)) where
+module _ (b : List ℕ) (t : ℕ) (slot : t ≡ numberFrom (slice 4 8 b)) where
   pub header-slot : maxSlot < t → headerFits b ≡ false
   unfolding headerFits
   header-slot h = rw (← slot, lt-leb t maxSlot h, and-false)
@@ -299,7 +295,7 @@ module _ (b : List ℕ) (t : ℕ) (slot : t ≡ numberOf (slice 4 8 b)) where
   unfolding headerFits ownerOf
   header-sender h = rw (← slot, ne-eqb (getD b 1 0) (t % getD b 2 0) h, and-false (leb t maxSlot), and-false)
 
-  pub header-rest : within 2 6 (getD b 2 0) ≡ true → t ≤ maxSlot → getD b 1 0 ≡ t % getD b 2 0 → headerFits b ≡ eqb (numberOf (slice 8 16 b)) 0
+  pub header-rest : within 2 6 (getD b 2 0) ≡ true → t ≤ maxSlot → getD b 1 0 ≡ t % getD b 2 0 → headerFits b ≡ eqb (numberFrom (slice 8 16 b)) 0
   unfolding headerFits ownerOf
   header-rest e h k =
       rw (e, ← slot, le-leb t maxSlot h, eq-eqb (getD b 1 0) (t % getD b 2 0) k, zero-number (slice 8 16 b))
@@ -343,11 +339,6 @@ module _ (k n : ℕ) (l : List ℕ) where
 
 -- ---- the block
 
-length-records : (n : ℕ) (l : List ℕ) → length (recordsOf n l) ≡ n
-unfolding recordsOf
-length-records zero l = refl
-length-records (suc n) l = ap suc (length-records n (drop 72 l))
-
 pub form-length : (b : List ℕ) → (length b ≡ 512 → ⊥) → wellFormed b ≡ false
 unfolding wellFormed
 form-length b h = rw (ne-eqb (length b) 512 h)
@@ -355,7 +346,7 @@ form-length b h = rw (ne-eqb (length b) 512 h)
 module _ (b : List ℕ) (full : length b ≡ 512) where
   form-is : wellFormed b ≡ (headerFits b && restFits (getD b 0 0) (getD b 3 0) (lent 16 508 b))
   unfolding wellFormed valid messageOf padded headerFits
-  form-is = rw (eq-eqb (length b) 512 full, length-records, lent-slice 16 508 b (omega arith), and-block)
+  form-is = rw (eq-eqb (length b) 512 full, length-recordsOf, lent-slice 16 508 b (omega arith), and-block)
 
   pub form-header : headerFits b ≡ false → wellFormed b ≡ false
   form-header e = rw (form-is, e)

@@ -13,9 +13,9 @@ use lib.Dec.{eqb}
 use lib.ListN.{length, getD, set, length-set}
 use lib.Pow.{pow-pos, pow-mono}
 use lib.Seq.{slice, getD-set-same, getD-set-other}
-use Rattle.block.specs.Answers.{firstOf, readRefusal}
+use Rattle.block.specs.Answers.{firstOf, blockRefusal}
 use Rattle.block.specs.Check.{word, sumTo, weightedTo, firstCheck, secondCheck, checkMatches}
-use Rattle.block.specs.Numbers.{numberOf}
+use Rattle.block.specs.Numbers.{numberFrom}
 use Rattle.block.specs.Theorems.{Accepted, flipped, flipBit}
 use Rattle.block.proofs.AnswerLaws.{is-taken}
 use Rattle.block.proofs.BoolLaws.{both, not-so}
@@ -112,8 +112,8 @@ matched b e =
     let inner = both _ _ (outer .left) in
     let n : length b ≡ 512 = eqb-true (length b) 512 (inner .left) in (
       n,
-      eqb-true (sumTo b 254 % 65535) (numberOf (slice 508 510 b)) (inner .right) ∙ word-number b 508 254 refl (omega arith),
-      eqb-true (weightedTo b 254 % 65535) (numberOf (slice 510 512 b)) (outer .right) ∙ word-number b 510 255 refl (omega arith),
+      eqb-true (sumTo b 254 % 65535) (numberFrom (slice 508 510 b)) (inner .right) ∙ word-number b 508 254 refl (omega arith),
+      eqb-true (weightedTo b 254 % 65535) (numberFrom (slice 510 512 b)) (outer .right) ∙ word-number b 510 255 refl (omega arith),
     )
 
 -- no block that passes its check comes from another by one changed bit
@@ -153,8 +153,8 @@ module _ (b : List ℕ) (p t : ℕ) (t-low : t < 8) (before : Matched b) (after 
           moved-off (word b 255) (word (set b p y) 255) (rw q at moved)
           (sym (after .2) ∙ ap (λ (s : ℕ). s % 65535) (weighted-before b p y (p / 2) low high 254 (omega arith)) ∙ before .2)
 
-pub one-bit : (b : List ℕ) → Accepted b → (p t : ℕ) → p < 512 → t < 8 → readRefusal (flipBit b p t) ≡ 14
-unfolding readRefusal firstOf flipBit
+pub one-bit : (b : List ℕ) → Accepted b → (p t : ℕ) → p < 512 → t < 8 → blockRefusal (flipBit b p t) ≡ 14
+unfolding blockRefusal firstOf flipBit
 one-bit b a p t h k =
     let k′ = is-taken b (a .taken) in
     let m : length (flipBit b p t) ≡ 512 = length-set b p (flipped t (getD b p 0)) ∙ k′ .long in

@@ -14,7 +14,7 @@ use Rattle.block.specs.Bytes.{entryBytes, entriesBytes, recordBytes, rec
 use Rattle.block.specs.Form.{entryOf, entriesOf, recordOf, recordsOf, allZero, entriesPadded, recordPadded, recordsPadded}
 use Rattle.block.proofs.BoolLaws.{both, joined}
 use Rattle.block.proofs.ListLaws.{AllBytes, bytes-take, bytes-drop, bytes-slice, slice-take, cut, drop-slice, drop-step}
-use Rattle.block.proofs.NumberLaws.{bytesOf-numberOf, valueBytes-valueOf, signed-valueOf}
+use Rattle.block.proofs.NumberLaws.{bytesOf-numberFrom, valueBytes-valueOf, signed-valueOf}
 use Rattle.block.proofs.MessageLaws.{RecordFacts, record-facts}
 
 pub allZero-zeros : (n : ℕ) (l : List ℕ) → length l ≡ n → allZero l ≡ true → replicate n 0 ≡ l
@@ -67,7 +67,7 @@ record-whole l f e r z =
     let b = both _ _ z in
     let zeros = allZero-zeros 3 (slice 5 8 l) (length-slice 5 8 l (omega arith)) (b .left) in
     let entries = entries-whole n (drop 8 l) (bytes-drop 8 f) (omega arith) (b .right) in
-    rw (bytesOf-numberOf 4 (take 4 l) (bytes-take 4 f) (length-take-le 4 l (omega arith)), count, rw long at entries)
+    rw (bytesOf-numberFrom 4 (take 4 l) (bytes-take 4 f) (length-take-le 4 l (omega arith)), count, rw long at entries)
     (sym (sym (take-append-drop 4 l)
     ∙ ap (λ (k : List ℕ). take 4 l ++ k) (drop-cons l 4 0 (omega arith)
     ∙ ap (λ (k : List ℕ). getD l 4 0 ∷ k) (cut 5 8 l (omega arith) ∙ ap (λ (k : List ℕ). k ++ drop 8 l) (sym zeros)))))

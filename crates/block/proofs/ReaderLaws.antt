@@ -11,12 +11,11 @@ use lib.ListN.{length, getD}
 use lib.Seq.{slice}
 use mir.Syntax.{w32}
 use mir.Val.{toZ}
-use Rattle.block.specs.declared.Answer.{Answer}
 use Rattle.block.specs.declared.Header.{Header}
-use Rattle.block.specs.Answers.{firstOf, readRefusal, headerOf, noHeader, readStep, recordAt, entryAt}
+use Rattle.block.specs.Answers.{firstOf, blockRefusal, headerOf, noHeader, blockRead, recordAt, entryAt}
 use Rattle.block.specs.Check.{checkMatches}
 use Rattle.block.specs.Form.{entryOf, wellFormed}
-use Rattle.block.specs.Numbers.{numberOf, valueOf}
+use Rattle.block.specs.Numbers.{numberFrom, valueOf}
 use Rattle.block.specs.Theorems.{noEntry}
 use Rattle.block.proofs.ListLaws.{getD-slice, slice-slice}
 
@@ -30,7 +29,7 @@ module _ (b : List ℕ) (j : ℕ) where
   unfolding recordAt
   record-past h = rw (le-ltb j 6 h, and-false (eqb (length b) 512))
 
-  pub record-some : length b ≡ 512 → j < 6 → (t : ℕ) → t ≡ numberOf (slice (16 + 72 * j) (16 + 72 * j + 4) b) → record { ticket = t; writes = getD b (16 + 72 * j + 4) 0 } ≡ recordAt b j
+  pub record-some : length b ≡ 512 → j < 6 → (t : ℕ) → t ≡ numberFrom (slice (16 + 72 * j) (16 + 72 * j + 4) b) → record { ticket = t; writes = getD b (16 + 72 * j + 4) 0 } ≡ recordAt b j
   unfolding recordAt
   record-some l h t e = rw (eq-eqb (length b) 512 l, lt-ltb j 6 h, e, (let q : 16 + 72 * j + 4 ≡ 20 + 72 * j = omega arith in q))
 
@@ -47,7 +46,7 @@ module _ (b : List ℕ) (j : ℕ) where
     unfolding entryAt
     entry-over h = rw (le-ltb e 8 h, and-false (ltb j 6), and-false (eqb (length b) 512))
 
-    pub entry-some : length b ≡ 512 → j < 6 → e < 8 → (n : ℕ) → n ≡ numberOf (slice (24 + 72 * j + 8 * e + 4) (24 + 72 * j + 8 * e + 4 + 4) b) → (v : ℤ) → v ≡ toZ w32 n
+    pub entry-some : length b ≡ 512 → j < 6 → e < 8 → (n : ℕ) → n ≡ numberFrom (slice (24 + 72 * j + 8 * e + 4) (24 + 72 * j + 8 * e + 4 + 4) b) → (v : ℤ) → v ≡ toZ w32 n
         → record { item = getD b (24 + 72 * j + 8 * e) 0; value = v } ≡ entryAt b j e
     unfolding entryAt entryOf valueOf
     entry-some l h k n q v r =
@@ -63,23 +62,20 @@ module _ (b : List ℕ) (j : ℕ) where
         )
 
 -- the answers of `read_block`
-abbrev refused : ℕ → Answer
-refused n = record { number = n; header = noHeader }
-
 module _ (b : List ℕ) where
-  pub read-short : (length b ≡ 512 → ⊥) → refused 1 ≡ readStep b
-  unfolding readStep readRefusal firstOf
+  pub read-short : (length b ≡ 512 → ⊥) → (1, noHeader) ≡ blockRead b
+  unfolding blockRead blockRefusal firstOf
   read-short h = rw (ne-eqb (length b) 512 h)
 
   module _ (long : length b ≡ 512) where
-    pub read-damaged : checkMatches b ≡ false → refused 14 ≡ readStep b
-    unfolding readStep readRefusal firstOf
+    pub read-damaged : checkMatches b ≡ false → (14, noHeader) ≡ blockRead b
+    unfolding blockRead blockRefusal firstOf
     read-damaged h = rw (eq-eqb (length b) 512 long, h)
 
-    pub read-malformed : checkMatches b ≡ true → wellFormed b ≡ false → refused 15 ≡ readStep b
-    unfolding readStep readRefusal firstOf
+    pub read-malformed : checkMatches b ≡ true → wellFormed b ≡ false → (15, noHeader) ≡ blockRead b
+    unfolding blockRead blockRefusal firstOf
     read-malformed h k = rw (eq-eqb (length b) 512 long, h, k)
 
-    pub read-taken : checkMatches b ≡ true → wellFormed b ≡ true → (r : Header) → r ≡ headerOf b → record { number = 0; header = r } ≡ readStep b
-    unfolding readStep readRefusal firstOf
+    pub read-taken : checkMatches b ≡ true → wellFormed b ≡ true → (r : Header) → r ≡ headerOf b → (0, r) ≡ blockRead b
+    unfolding blockRead blockRefusal firstOf
     read-taken h k r e = rw (eq-eqb (length b) 512 long, h, k, e)

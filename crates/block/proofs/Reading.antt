@@ -14,7 +14,7 @@ use Rattle.block.specs.Answers.{headerOf, recordAt, entryAt}
 use Rattle.block.specs.Theorems.{Accepted, Reading, headOf, noRecord, noEntry}
 use Rattle.block.proofs.BoolLaws.{both}
 use Rattle.block.proofs.ListLaws.{AllBytes, bytes-slice, slice-split, part-in, getD-slice}
-use Rattle.block.proofs.NumberLaws.{bytesOf-numberOf}
+use Rattle.block.proofs.NumberLaws.{bytesOf-numberFrom}
 use Rattle.block.proofs.CheckLaws.{check-whole}
 use Rattle.block.proofs.MessageLaws.{MessageFacts, message-facts, record-facts-at}
 use Rattle.block.proofs.AnswerLaws.{Taken, is-taken, is-formed}
@@ -37,7 +37,7 @@ body-whole b long f m z =
     let c = both _ _ z in
     let zeros = allZero-zeros 8 (slice 8 16 b) (length-slice 8 16 b (omega arith)) (c .left) in
     let records = records-whole n middle (bytes-slice 16 508 f) (omega arith) (m .records) (c .right) in
-    let slot = bytesOf-numberOf 4 (slice 4 8 b) (bytes-slice 4 8 f) (length-slice 4 8 b (omega arith)) in
+    let slot = bytesOf-numberFrom 4 (slice 4 8 b) (bytes-slice 4 8 f) (length-slice 4 8 b (omega arith)) in
     rw (count, slot, rw size at records)
     (sym (slice-split 0 4 508 b (omega arith) (omega arith)
     ∙ ap₂ _++_ (take-four b (omega arith))

@@ -15,7 +15,7 @@ use Rattle.block.specs.Bytes.{entryBytes, entriesBytes, recordBytes, rec
 use Rattle.block.specs.Form.{entryOf, entriesOf, recordOf, recordsOf, messageOf, allZero, entriesPadded, recordPadded, recordsPadded, padded, wellFormed}
 use Rattle.block.specs.Theorems.{Sendable, RoundTrip}
 use Rattle.block.proofs.BoolLaws.{both, joined}
-use Rattle.block.proofs.NumberLaws.{numberOf-bytesOf, length-valueBytes, valueOf-valueBytes}
+use Rattle.block.proofs.NumberLaws.{numberFrom-bytesOf, length-valueBytes, valueOf-valueBytes}
 use Rattle.block.proofs.CheckLaws.{check-matches}
 use Rattle.block.proofs.AnswerLaws.{not-refused}
 use Rattle.block.proofs.MessageLaws.{RecordFacts, record-facts, MessageFacts, message-facts}
@@ -65,7 +65,7 @@ module _ (r : Record) (f : RecordFacts r) where
   record-back : valuesFit (r .entries) ≡ true → recordOf (recordBytes r) ≡ r
   unfolding recordOf recordBytes bytesOf
   record-back v = λ i. record {
-    ticket = numberOf-bytesOf 4 (r .ticket) (omega arith) i;
+    ticket = numberFrom-bytesOf 4 (r .ticket) (omega arith) i;
     entries = entries-back (r .entries) (replicate (64 - 8 * length (r .entries)) 0) v i;
   }
 
@@ -114,7 +114,7 @@ module _ (m : Message) (f : MessageFacts m) where
     kind = m .kind;
     sender = m .sender;
     replicas = m .replicas;
-    slot = numberOf-bytesOf 4 (m .slot) (omega arith) i;
+    slot = numberFrom-bytesOf 4 (m .slot) (omega arith) i;
     records = records i;
   }
     where

@@ -1,13 +1,11 @@
 -- Document 01's check: two sums over the 16-bit words of a block's first 508 bytes.
 use Prim.Native.Nat.{ℕ, zero, suc, _+_, _*_, _-_, _%_}
-use mathlib.Core.Bool.{Bool, cond, _&&_}
+use mathlib.Core.Bool.{Bool, _&&_}
 use mathlib.Core.List.{List, _++_}
 use lib.Dec.{eqb}
 use lib.ListN.{length, getD}
 use lib.Seq.{slice}
-use Rattle.block.specs.declared.Checked.{Checked}
-use Rattle.block.specs.declared.Sums.{Sums}
-use Rattle.block.specs.Numbers.{bytesOf, numberOf}
+use Rattle.block.specs.Numbers.{bytesOf, numberFrom}
 
 -- document 01's w(i): the 16-bit word at byte 2·i
 unfoldable pub word : List ℕ → ℕ → ℕ
@@ -29,16 +27,6 @@ firstCheck b = sumTo b 254 % 65535
 unfoldable pub secondCheck : List ℕ → ℕ
 secondCheck b = weightedTo b 254 % 65535
 
-unfoldable pub sumsOf : List ℕ → Sums
-sumsOf b = record { first = firstCheck b; second = secondCheck b }
-
--- the check of 508 bytes, 1 for another length
-unfoldable pub checkStep : List ℕ → Checked
-checkStep b =
-    cond (eqb (length b) 508)
-    (record { number = 0; sums = sumsOf b })
-    (record { number = 1; sums = record { first = 0; second = 0 } })
-
 -- the four bytes at 508 to 511
 unfoldable pub checkBytes : List ℕ → List ℕ
 checkBytes b = bytesOf 2 (firstCheck b) ++ bytesOf 2 (secondCheck b)
@@ -47,5 +35,5 @@ checkBytes b = bytesOf 2 (firstCheck b) ++ bytesOf 2 (secondCheck b)
 unfoldable pub checkMatches : List ℕ → Bool
 checkMatches b =
     eqb (length b) 512
-    && eqb (firstCheck b) (numberOf (slice 508 510 b))
-    && eqb (secondCheck b) (numberOf (slice 510 512 b))
+    && eqb (firstCheck b) (numberFrom (slice 508 510 b))
+    && eqb (secondCheck b) (numberFrom (slice 510 512 b))

@@ -6,7 +6,7 @@ use lib.Dec.{eqb, leb}
 use lib.ListN.{length, getD, take, drop}
 use lib.Seq.{slice}
 use Rattle.block.specs.declared.Entry.{Entry}
-use Rattle.block.specs.Numbers.{numberOf, valueOf}
+use Rattle.block.specs.Numbers.{numberFrom, valueOf}
 use Rattle.block.specs.Message.{Record, Message, maxSlot, ownerOf, within, valid}
 
 -- of 8 bytes
@@ -19,7 +19,7 @@ entriesOf (suc n) l = entryOf (take 8 l) ∷ entriesOf n (drop 8 l)
 
 -- of 72 bytes
 unfoldable pub recordOf : List ℕ → Record
-recordOf l = record { ticket = numberOf (take 4 l); entries = entriesOf (getD l 4 0) (drop 8 l) }
+recordOf l = record { ticket = numberFrom (take 4 l); entries = entriesOf (getD l 4 0) (drop 8 l) }
 
 unfoldable pub recordsOf : ℕ → List ℕ → List Record
 recordsOf zero l = []
@@ -30,7 +30,7 @@ messageOf b = record {
   kind = getD b 0 0;
   sender = getD b 1 0;
   replicas = getD b 2 0;
-  slot = numberOf (slice 4 8 b);
+  slot = numberFrom (slice 4 8 b);
   records = recordsOf (getD b 3 0) (slice 16 508 b);
 }
 
@@ -66,5 +66,5 @@ wellFormed b = eqb (length b) 512 && (valid (messageOf b) && padded b)
 unfoldable pub headerFits : List ℕ → Bool
 headerFits b =
     within 2 6 (getD b 2 0)
-    && (leb (numberOf (slice 4 8 b)) maxSlot
-    && (eqb (getD b 1 0) (ownerOf (getD b 2 0) (numberOf (slice 4 8 b))) && allZero (slice 8 16 b)))
+    && (leb (numberFrom (slice 4 8 b)) maxSlot
+    && (eqb (getD b 1 0) (ownerOf (getD b 2 0) (numberFrom (slice 4 8 b))) && allZero (slice 8 16 b)))

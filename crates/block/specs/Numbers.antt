@@ -11,13 +11,13 @@ bytesOf zero x = []
 bytesOf (suc n) x = x % 256 ∷ bytesOf n (x / 256)
 
 -- the number that bytes hold, the lowest first
-unfoldable pub numberOf : List ℕ → ℕ
-numberOf [] = 0
-numberOf (b ∷ bs) = b + 256 * numberOf bs
+unfoldable pub numberFrom : List ℕ → ℕ
+numberFrom [] = 0
+numberFrom (b ∷ bs) = b + 256 * numberFrom bs
 
 -- a signed 32-bit value's four bytes, and the value of four bytes: two's complement
 unfoldable pub valueBytes : ℤ → List ℕ
 valueBytes v = bytesOf 4 (ofZ w32 v)
 
 unfoldable pub valueOf : List ℕ → ℤ
-valueOf bs = toZ w32 (numberOf bs)
+valueOf bs = toZ w32 (numberFrom bs)

@@ -12,7 +12,7 @@ use Rattle.block.specs.Check.{checkMatches}
 use Rattle.block.specs.Message.{Record, Message, valid, allValuesFit}
 use Rattle.block.specs.Bytes.{blockOf, headerFor}
 use Rattle.block.specs.Form.{messageOf, wellFormed}
-use Rattle.block.specs.Answers.{readRefusal, headerOf, recordAt, entryAt}
+use Rattle.block.specs.Answers.{blockRefusal, headerOf, recordAt, entryAt}
 
 -- every number of the list is a byte, as every slice of bytes is
 abbrev pub AreBytes : List ℕ → Type 0
@@ -26,12 +26,13 @@ pub record Sendable (m : Message) : Type 0 where
 -- a block that the reader accepts
 pub record Accepted (b : List ℕ) : Type 0 where
   pub bytes : AreBytes b
-  pub taken : readRefusal b ≡ 0
+  pub taken : blockRefusal b ≡ 0
 
--- the block with bit t of byte p changed
+-- a byte with bit t changed
 unfoldable pub flipped : ℕ → ℕ → ℕ
 flipped t x = cond (eqb (x / 2 ^ t % 2) 0) (x + 2 ^ t) (x - 2 ^ t)
 
+-- the block with bit t of byte p changed
 unfoldable pub flipBit : List ℕ → ℕ → ℕ → List ℕ
 flipBit b p t = set b p (flipped t (getD b p 0))
 
@@ -50,7 +51,7 @@ pub record RoundTrip (m : Message) : Type 0 where
   pub bytes : AreBytes (blockOf m)
   pub checks : checkMatches (blockOf m) ≡ true
   pub forms : wellFormed (blockOf m) ≡ true
-  pub taken : readRefusal (blockOf m) ≡ 0
+  pub taken : blockRefusal (blockOf m) ≡ 0
   pub message : messageOf (blockOf m) ≡ m
 
 -- an accepted block is the block of its message, and the functions that read it give that message
@@ -68,4 +69,4 @@ pub record Theorems : Type 0 where
   -- two accepted blocks of one message are one block
   pub only : (b c : List ℕ) → Accepted b → Accepted c → messageOf b ≡ messageOf c → b ≡ c
   -- any one of the 4,096 bits changed: 14
-  pub one-bit : (b : List ℕ) → Accepted b → (p t : ℕ) → p < 512 → t < 8 → readRefusal (flipBit b p t) ≡ 14
+  pub one-bit : (b : List ℕ) → Accepted b → (p t : ℕ) → p < 512 → t < 8 → blockRefusal (flipBit b p t) ≡ 14

@@ -1,7 +1,6 @@
 -- Document 01's marked cases that are about blocks alone.
-use Prim.Native.Nat.{ℕ}
 use mathlib.Core.Path.{_≡_}
-use mathlib.Core.List.{List, [], _∷_}
+use mathlib.Core.List.{[], _∷_}
 use lib.IntN.{pos}
 use lib.ListN.{drop}
 use Rattle.block.specs.Message.{Message}

@@ -1,16 +1,15 @@
 -- What the writers answer and leave in the bytes lent to them.
-use Prim.Native.Nat.{ℕ, zero, suc, _+_, _*_, min}
+use Prim.Native.Nat.{ℕ}
 use mathlib.Core.Bool.{Bool, cond, _&&_}
 use mathlib.Core.List.{List, [], _∷_, _++_}
 use lib.Dec.{eqb, leb}
 use lib.IntN.{ℤ}
-use lib.ListN.{length, getD, take}
-use lib.Seq.{slice}
+use lib.ListN.{length, take}
 use Rattle.block.specs.declared.Entry.{Entry}
 use Rattle.block.specs.declared.Header.{Header}
 use Rattle.block.specs.Check.{checkBytes}
-use Rattle.block.specs.Message.{Record, Message}
-use Rattle.block.specs.Bytes.{recordBytes, headerBytes, blockOf}
+use Rattle.block.specs.Message.{Record}
+use Rattle.block.specs.Bytes.{recordBytes, headerBytes}
 
 -- the number answered, and the lent bytes after the call
 pub record Written : Type 0 where
@@ -47,32 +46,3 @@ recordStep part t is vs =
 -- a block with its check
 unfoldable pub checkedStep : List ℕ → Written
 checkedStep block = writeWhere (eqb (length block) 512) (take 508 block ++ checkBytes block) block
-
--- record j is that of ticket j, of the first writes j of the eight items and values from 8·j on (of at most 8)
-unfoldable pub recordNo : List ℕ → List ℕ → List ℕ → List ℤ → ℕ → Record
-recordNo ts ws is vs j =
-    recordFrom (getD ts j 0) (slice (8 * j) (8 * j + min (getD ws j 0) 8) is) (slice (8 * j) (8 * j + min (getD ws j 0) 8) vs)
-
--- the first n of them
-unfoldable pub recordsTo : List ℕ → List ℕ → List ℕ → List ℤ → ℕ → List Record
-recordsTo ts ws is vs zero = []
-recordsTo ts ws is vs (suc n) = recordsTo ts ws is vs n ++ (recordNo ts ws is vs n ∷ [])
-
--- the header's count says how many records there are, at most 6
-unfoldable pub messageFrom : Header → List ℕ → List ℕ → List ℕ → List ℤ → Message
-messageFrom h ts ws is vs = record {
-  kind = h .kind;
-  sender = h .sender;
-  replicas = h .replicas;
-  slot = h .slot;
-  records = recordsTo ts ws is vs (min (h .count) 6);
-}
-
-unfoldable pub lengthsFit : List ℕ → List ℕ → List ℕ → List ℕ → List ℤ → Bool
-lengthsFit block ts ws is vs =
-    eqb (length block) 512
-    && (eqb (length ts) 6 && (eqb (length ws) 6 && (eqb (length is) 48 && eqb (length vs) 48)))
-
--- a whole block
-unfoldable pub blockStep : List ℕ → Header → List ℕ → List ℕ → List ℕ → List ℤ → Written
-blockStep block h ts ws is vs = writeWhere (lengthsFit block ts ws is vs) (blockOf (messageFrom h ts ws is vs)) block

@@ -1,22 +1,18 @@
 // The 512-byte block in which replicas send each other their messages.
 ghost use mathlib.Core.Path.{_≡_};
-ghost use Prim.Native.Nat.{_+_, _≤_};
-ghost use lib.ListN.{length};
-ghost use lib.Seq.{slice};
+ghost use mathlib.Core.List.{[], _∷_};
 ghost use mir.Syntax.{w32};
 ghost use mir.Val.{ofZ, toZ};
-ghost use Rattle.block.specs.Numbers.{numberOf};
-ghost use Rattle.block.specs.Answers.{answerOf};
+ghost use Rattle.block.specs.Numbers.{numberFrom};
+ghost use Rattle.block.specs.Answers.{numberAndHeader};
 
 // An entry of a record: an item and its new value.
-#[repr(C)]
 pub struct Entry {
     pub item: u8,
     pub value: i32,
 }
 
 // A block's first eight bytes.
-#[repr(C)]
 pub struct Header {
     pub kind: u8,
     pub sender: u8,
@@ -26,31 +22,9 @@ pub struct Header {
 }
 
 // A record's ticket and its number of writes.
-#[repr(C)]
 pub struct RecordHead {
     pub ticket: u32,
     pub writes: u8,
-}
-
-// The two sums of the check.
-#[repr(C)]
-pub struct Sums {
-    pub first: u16,
-    pub second: u16,
-}
-
-// A check, or the number of the refusal.
-#[repr(C)]
-pub struct Checked {
-    pub number: u8,
-    pub sums: Sums,
-}
-
-// What the reader answers, as numbers: the refusal's number, or 0 and the header.
-#[repr(C)]
-pub struct Answer {
-    pub number: u8,
-    pub header: Header,
 }
 
 // What the reader answers.
@@ -60,57 +34,29 @@ pub enum Read {
 }
 
 impl Read {
-    // The number and the header, zeros where it is refused.
-    pub fn answer(self) -> Answer
-        ensures { λ r. ⌜ r ≡ answerOf self ⌝ }
+    // The refusal's number, 0 for a message.
+    pub fn number(self) -> u8
+        ensures { λ r. ⌜ r ≡ numberAndHeader self .0 ⌝ }
     {
         match self {
-            Read::Message(header) => Answer {
-                number: 0,
-                header: header,
-            },
-            Read::Refused(number) => Answer {
-                number: number,
-                header: Header {
-                    kind: 0,
-                    sender: 0,
-                    replicas: 0,
-                    count: 0,
-                    slot: 0,
-                },
-            },
+            Read::Message(_) => 0,
+            Read::Refused(number) => number,
         }
     }
 }
 
-// The number in the two bytes from `at` on, the lowest first.
-pub fn number16(s: &[u8], at: usize) -> u16
-    requires { ⌜ at + 2 ≤ length (now s) ⌝ }
-    ensures { λ r. ⌜ r ≡ numberOf (slice at (at + 2) (now (s .entry))) ⌝ }
+// The number in two bytes, the lower first.
+pub fn number16(a: u8, b: u8) -> u16
+    ensures { λ r. ⌜ r ≡ numberFrom (a ∷ b ∷ []) ⌝ }
 {
-    let a = s[at] as u16;
-    let b = s[at + 1] as u16;
-    a + 256 * b
+    a as u16 + 256 * b as u16
 }
 
-// The number in the four bytes from `at` on, the lowest first.
-pub fn number(s: &[u8], at: usize) -> u32
-    requires { ⌜ at + 4 ≤ length (now s) ⌝ }
-    ensures { λ r. ⌜ r ≡ numberOf (slice at (at + 4) (now (s .entry))) ⌝ }
+// The number in four bytes, the lowest first.
+pub fn number(a: u8, b: u8, c: u8, d: u8) -> u32
+    ensures { λ r. ⌜ r ≡ numberFrom (a ∷ b ∷ c ∷ d ∷ []) ⌝ }
 {
-    let low = number16(s, at) as u32;
-    let high = number16(s, at + 2) as u32;
-    low + 65536 * high
-}
-
-// The number in the eight bytes from `at` on, the lowest first.
-pub fn number64(s: &[u8], at: usize) -> u64
-    requires { ⌜ at + 8 ≤ length (now s) ⌝ }
-    ensures { λ r. ⌜ r ≡ numberOf (slice at (at + 8) (now (s .entry))) ⌝ }
-{
-    let low = number(s, at) as u64;
-    let high = number(s, at + 4) as u64;
-    low + 4294967296 * high
+    number16(a, b) as u32 + 65536 * number16(c, d) as u32
 }
 
 // The signed value of 32 bits, and back.

@@ -1,11 +1,25 @@
 // The check: two sums over the 16-bit words of a block's first 508 bytes.
 ghost use mathlib.Core.Path.{_≡_};
-ghost use Prim.Native.Nat.{_%_, _≤_};
+ghost use Prim.Native.Nat.{_+_, _*_, _%_, _≤_, _<_};
 ghost use lib.ListN.{length};
-ghost use Rattle.block.specs.Check.{sumsOf, checkStep, checkMatches};
-use block::Checked;
-use block::Sums;
+ghost use Rattle.block.specs.Check.{word as wordOf, firstCheck, secondCheck, checkMatches};
+ghost use Rattle.block.specs.Writing.{written, checkedStep};
 use block::number16;
+
+// The check: two 16-bit numbers.
+struct Check {
+    first: u16,
+    second: u16,
+}
+
+// Document 01's w(i): the 16-bit word at byte 2·i.
+fn word(bytes: &[u8], i: usize) -> u16
+    requires { ⌜ 2 * i + 1 < length (now bytes) ⌝ }
+    ensures { λ r. ⌜ r ≡ wordOf (now (bytes .entry)) i ⌝ }
+{
+    let at = 2 * i;
+    number16(bytes[at], bytes[at + 1])
+}
 
 // The remainder. The branch is for the compiler alone: without it the writers add up one word at a time.
 fn reduced(x: u32) -> u16
@@ -21,9 +35,9 @@ fn reduced(x: u32) -> u16
 // The sums run over all words and are reduced once: both stay below 2^32. Four words a turn, and no product: a to d sum every
 // fourth word, e to h sum those sums. Four times the latter give each word its weight, but for 2 and 1 too little in a and b
 // and 1 too much in d. The compiler makes one addition of each four.
-fn sums(bytes: &[u8]) -> Sums
+fn sums(bytes: &[u8]) -> Check
     requires { ⌜ 508 ≤ length (now bytes) ⌝ }
-    ensures { λ r. ⌜ r ≡ sumsOf (now (bytes .entry)) ⌝ }
+    ensures { λ r. ⌜ (r .first ≡ firstCheck (now (bytes .entry))) × (r .second ≡ secondCheck (now (bytes .entry))) ⌝ }
 {
     let mut a: u32 = 0;
     let mut b: u32 = 0;
@@ -35,43 +49,23 @@ fn sums(bytes: &[u8]) -> Sums
     let mut h: u32 = 0;
     let mut i: usize = 0;
     while i < 252 {
-        let at = 2 * i;
-        a += number16(bytes, at) as u32;
-        b += number16(bytes, at + 2) as u32;
-        c += number16(bytes, at + 4) as u32;
-        d += number16(bytes, at + 6) as u32;
+        a += word(bytes, i) as u32;
+        b += word(bytes, i + 1) as u32;
+        c += word(bytes, i + 2) as u32;
+        d += word(bytes, i + 3) as u32;
         e += a;
         f += b;
         g += c;
         h += d;
         i += 4;
     }
-    let y = number16(bytes, 504) as u32;
-    let z = number16(bytes, 506) as u32;
+    let y = word(bytes, 252) as u32;
+    let z = word(bytes, 253) as u32;
     let first = a + b + c + d + y + z;
     let second = 4 * (e + f + g + h) + 2 * a + b - d + 2 * y + z;
-    Sums {
+    Check {
         first: reduced(first),
         second: reduced(second),
-    }
-}
-
-// The check of 508 bytes; 1 for another length.
-pub fn check_of(bytes: &[u8]) -> Checked
-    ensures { λ r. ⌜ r ≡ checkStep (now (bytes .entry)) ⌝ }
-{
-    if bytes.len() != 508 {
-        return Checked {
-            number: 1,
-            sums: Sums {
-                first: 0,
-                second: 0,
-            },
-        };
-    }
-    Checked {
-        number: 0,
-        sums: sums(bytes),
     }
 }
 
@@ -83,8 +77,23 @@ pub fn check_matches(block: &[u8]) -> bool
         return false;
     }
     let s = sums(block);
-    if s.first != number16(block, 508) {
+    if s.first != word(block, 254) {
         return false;
     }
-    s.second == number16(block, 510)
+    s.second == word(block, 255)
+}
+
+// The check, into a block's last four bytes; 1 for another length.
+pub fn write_check(block: &mut [u8]) -> u8
+    ensures { λ r. ⌜ written r (now (block .exit)) ≡ checkedStep (now (block .entry)) ⌝ }
+{
+    if block.len() != 512 {
+        return 1;
+    }
+    let s = sums(&*block);
+    block[508] = (s.first % 256) as u8;
+    block[509] = (s.first / 256) as u8;
+    block[510] = (s.second % 256) as u8;
+    block[511] = (s.second / 256) as u8;
+    0
 }

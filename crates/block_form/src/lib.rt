@@ -3,10 +3,29 @@ ghost use mathlib.Core.Path.{_≡_};
 ghost use mathlib.Core.Bool.{_&&_};
 ghost use Prim.Native.Nat.{_+_, _-_, _*_, _≤_};
 ghost use lib.ListN.{length, drop};
+ghost use lib.Seq.{slice};
+ghost use Rattle.block.specs.Numbers.{numberFrom};
 ghost use Rattle.block.specs.Message.{entriesFit, recordFits, recordsFit, ticketAbsent, ticketsDiffer};
 ghost use Rattle.block.specs.Form.{entriesOf, recordOf, recordsOf, allZero, entriesPadded, recordPadded, recordsPadded, headerFits, wellFormed};
 use block::number;
-use block::number64;
+
+// The number in four bytes of a part, from `at` on, the lowest first.
+fn number_at(part: &[u8], at: usize) -> u32
+    requires { ⌜ at + 4 ≤ length (now part) ⌝ }
+    ensures { λ r. ⌜ r ≡ numberFrom (slice at (at + 4) (now (part .entry))) ⌝ }
+{
+    number(part[at], part[at + 1], part[at + 2], part[at + 3])
+}
+
+// The number in eight.
+fn number64_at(part: &[u8], at: usize) -> u64
+    requires { ⌜ at + 8 ≤ length (now part) ⌝ }
+    ensures { λ r. ⌜ r ≡ numberFrom (slice at (at + 8) (now (part .entry))) ⌝ }
+{
+    let low = number_at(part, at) as u64;
+    let high = number_at(part, at + 4) as u64;
+    low + 4294967296 * high
+}
 
 // Whether every byte of the part is zero, byte by byte: for fewer than eight.
 fn zero_short(part: &[u8]) -> bool
@@ -31,10 +50,10 @@ fn zero(part: &[u8]) -> bool
         return zero_short(part);
     }
     let end = part.len() - 8;
-    let last = number64(part, end);
+    let last = number64_at(part, end);
     let mut i: usize = 0;
     while i < end {
-        if number64(part, i) != last {
+        if number64_at(part, i) != last {
             return false;
         }
         i += 8;
@@ -51,7 +70,7 @@ fn entries_fit(part: &[u8], n: usize) -> bool
     let mut low: u32 = 0;
     let mut e: usize = 0;
     while e < n {
-        let item = number(part, 8 * e);
+        let item = number_at(part, 8 * e);
         if item < low {
             return false;
         }
@@ -69,14 +88,14 @@ fn record_fits(part: &[u8]) -> bool
     requires { ⌜ length (now part) ≡ 72 ⌝ }
     ensures { λ r. ⌜ r ≡ (recordFits (recordOf (now (part .entry))) && recordPadded (now (part .entry))) ⌝ }
 {
-    let ticket = number(part, 0);
+    let ticket = number_at(part, 0);
     if ticket < 1 {
         return false;
     }
     if 100000000 < ticket {
         return false;
     }
-    let writes = number(part, 4);
+    let writes = number_at(part, 4);
     if writes < 1 {
         return false;
     }
@@ -109,7 +128,7 @@ fn ticket_absent(body: &[u8], ticket: u32, from: usize, count: usize) -> bool
 {
     let mut i = from;
     while i < count {
-        if number(body, 72 * i) == ticket {
+        if number_at(body, 72 * i) == ticket {
             return false;
         }
         i += 1;
@@ -123,7 +142,7 @@ fn tickets_differ(body: &[u8], count: usize) -> bool
 {
     let mut j: usize = 0;
     while j < count {
-        let ticket = number(body, 72 * j);
+        let ticket = number_at(body, 72 * j);
         if !ticket_absent(body, ticket, j + 1, count) {
             return false;
         }
@@ -144,7 +163,7 @@ fn header_fits(block: &[u8]) -> bool
     if 6 < replicas {
         return false;
     }
-    let slot = number(block, 4);
+    let slot = number_at(block, 4);
     if 99999999 < slot {
         return false;
     }
@@ -152,7 +171,7 @@ fn header_fits(block: &[u8]) -> bool
     if sender != slot % (replicas as u32) {
         return false;
     }
-    number64(block, 8) == 0
+    number64_at(block, 8) == 0
 }
 
 // Whether a block is well formed; false for another length.

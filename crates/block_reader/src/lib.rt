@@ -1,7 +1,7 @@
 // Reading a block: its header or a refusal, its records and their entries.
 ghost use mathlib.Core.Path.{_≡_};
 ghost use lib.ListN.{length};
-ghost use Rattle.block.specs.Answers.{answerOf, readStep, headerOf, recordAt, entryAt};
+ghost use Rattle.block.specs.Answers.{numberAndHeader, blockRead, headerOf, recordAt, entryAt};
 use block::Entry;
 use block::Header;
 use block::Read;
@@ -20,13 +20,13 @@ fn header(block: &[u8]) -> Header
         sender: block[1],
         replicas: block[2],
         count: block[3],
-        slot: number(block, 4),
+        slot: number(block[4], block[5], block[6], block[7]),
     }
 }
 
 // The header, or why the block is refused: 1 for another length, 14 for its check, 15 for its form.
 pub fn read_block(block: &[u8]) -> Read
-    ensures { λ r. ⌜ answerOf r ≡ readStep (now (block .entry)) ⌝ }
+    ensures { λ r. ⌜ numberAndHeader r ≡ blockRead (now (block .entry)) ⌝ }
 {
     if block.len() != 512 {
         return Read::Refused(1);
@@ -40,7 +40,7 @@ pub fn read_block(block: &[u8]) -> Read
     Read::Message(header(block))
 }
 
-// Record j of a block, zeros where there is none.
+// Record j of a block as its bytes stand, zeros past the sixth.
 pub fn record_at(block: &[u8], j: usize) -> RecordHead
     ensures { λ r. ⌜ r ≡ recordAt (now (block .entry)) j ⌝ }
 {
@@ -58,12 +58,12 @@ pub fn record_at(block: &[u8], j: usize) -> RecordHead
     }
     let at = 16 + 72 * j;
     RecordHead {
-        ticket: number(block, at),
+        ticket: number(block[at], block[at + 1], block[at + 2], block[at + 3]),
         writes: block[at + 4],
     }
 }
 
-// Entry e of record j of a block, zeros where there is none.
+// Entry e of record j of a block as its bytes stand, zeros past the eighth or past the sixth record.
 pub fn entry_at(block: &[u8], j: usize, e: usize) -> Entry
     ensures { λ r. ⌜ r ≡ entryAt (now (block .entry)) j e ⌝ }
 {
@@ -77,8 +77,15 @@ pub fn entry_at(block: &[u8], j: usize, e: usize) -> Entry
         return Entry { item: 0, value: 0 };
     }
     let at = 24 + 72 * j + 8 * e;
+    let from = at + 4;
+    let bits = number(
+        block[from],
+        block[from + 1],
+        block[from + 2],
+        block[from + 3],
+    );
     Entry {
         item: block[at],
-        value: to_value(number(block, at + 4)),
+        value: to_value(bits),
     }
 }

@@ -1,15 +1,14 @@
-// Writing the parts of a block: header, record and check, each into its own bytes.
+// Writing a block's header and its records, each into its own bytes.
 ghost use mathlib.Core.Path.{_≡_};
 ghost use Prim.Native.Nat.{_*_, _-_, _≤_};
 ghost use mathlib.Core.List.{_++_};
 ghost use lib.ListN.{length, replicate};
 ghost use Rattle.block.specs.Numbers.{bytesOf};
 ghost use Rattle.block.specs.Bytes.{entryBytes, entriesBytes};
-ghost use Rattle.block.specs.Writing.{written, entriesFrom, headerStep, recordStep, checkedStep};
+ghost use Rattle.block.specs.Writing.{written, entriesFrom, headerStep, recordStep};
 use block::Entry;
 use block::Header;
 use block::to_bits;
-use block_check::check_of;
 
 // A number in four bytes, the lowest first.
 fn put_number(part: &mut [u8], x: u32)
@@ -95,20 +94,5 @@ pub fn write_record(part: &mut [u8], ticket: u32, items: &[u8], values: &[i32]) 
     put_number(&mut part[0..4], ticket);
     put_number(&mut part[4..8], items.len() as u32);
     put_entries(&mut part[8..72], items, values);
-    0
-}
-
-// The check, into a block's last four bytes; 1 for another length.
-pub fn write_check(block: &mut [u8]) -> u8
-    ensures { λ r. ⌜ written r (now (block .exit)) ≡ checkedStep (now (block .entry)) ⌝ }
-{
-    if block.len() != 512 {
-        return 1;
-    }
-    let sums = check_of(&block[0..508]).sums;
-    block[508] = (sums.first % 256) as u8;
-    block[509] = (sums.first / 256) as u8;
-    block[510] = (sums.second % 256) as u8;
-    block[511] = (sums.second / 256) as u8;
     0
 }

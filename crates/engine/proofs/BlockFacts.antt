@@ -8,9 +8,9 @@ use lib.Dec.{eqb}
 use lib.ListN.{length, getD, take, drop}
 use lib.Seq.{slice, take-take}
 use borrow.Author.Tests.{eqb-true, eqb-false, eq-eqb, lt-ltb}
-use Rattle.block.specs.Message.{Record, Message, within, kindFits, valid}
+use Rattle.block.specs.Message.{Record, Message, ownerOf, within, kindFits, valid}
 use Rattle.block.specs.Form.{recordOf, recordsOf, messageOf}
-use Rattle.block.specs.Answers.{readRefusal, headerOf, recordAt}
+use Rattle.block.specs.Answers.{blockRefusal, headerOf, recordAt}
 use Rattle.block.specs.Theorems.{noRecord}
 use Rattle.block.proofs.BoolLaws.{both, is-within}
 use Rattle.block.proofs.ListLaws.{part-in}
@@ -47,12 +47,13 @@ ticket-read b j long h =
 pub record TakenBlock (b : List ℕ) : Type 0 where
   pub replicas : 2 ≤ headerOf b .replicas
   pub slot : headerOf b .slot ≤ 99_999_999
+  pub sender : getD b 1 0 ≡ ownerOf (headerOf b .replicas) (headerOf b .slot)
   pub count : getD b 3 0 ≤ 6
   pub next : getD b 0 0 ≡ 1 → getD b 3 0 ≡ 0
   pub some : (getD b 0 0 ≡ 1 → ⊥) → 0 < getD b 3 0
   pub ticket : (j : ℕ) → j < getD b 3 0 → (1 ≤ recordAt b j .ticket) × (recordAt b j .ticket ≤ 100_000_000)
 
-pub taken-block : (b : List ℕ) → readRefusal b ≡ 0 → TakenBlock b
+pub taken-block : (b : List ℕ) → blockRefusal b ≡ 0 → TakenBlock b
 unfolding messageOf headerOf
 taken-block b e =
     let t = is-taken b e in
@@ -64,6 +65,7 @@ taken-block b e =
     record {
       replicas = f .replicas .above;
       slot = f .slot;
+      sender = f .sender;
       count = k .2;
       next = k .0;
       some = k .1;

@@ -1,30 +1,29 @@
 -- What each call may change. Assumes nothing.
 use Prim.Native.Nat.{ℕ, _+_, _*_, _-_, _≤_, _<_}
 use mathlib.Core.Path.{_≡_, refl, ap}
-use mathlib.Core.Bool.{Bool}
 use mathlib.Core.List.{List}
 use native.Mathlib.Nat.{mod-lt}
 use native.Mathlib.Omega.{arith}
 use lib.IntN.{ℤ, pos}
 use lib.ListN.{length}
-use borrow.Author.Tests.{ltb-true}
-use Rattle.block.specs.Message.{Record}
+use borrow.Author.Tests.{ltb-true, eq-eqb}
 use Rattle.block.specs.Answers.{headerOf}
 use Rattle.memory.specs.declared.Txn.{Txn}
-use Rattle.memory.specs.Memory.{Blocks, Memory, withReadOnly, withAborted, withTxns}
+use Rattle.memory.specs.Memory.{Memory, withReadOnly, withAborted, withTxns}
 use Rattle.memory.specs.Rows.{closed, freeRow, rowAt, writeCount, itemsOf, indexOf, countBelow}
 use Rattle.memory.specs.Turns.{placeStart}
+use Rattle.engine.specs.Make.{madeMemory, makeRefusal, makeStep}
 use Rattle.engine.specs.Client.{freeNo, rowNo, rowIn, ownIndex, beginAt, rewriteAt, insertWrite, staleAt, readOnlyAt, queueAt, withdrawAt, reportStep}
-use Rattle.engine.specs.Moves.{sendNow, deliverNow, isLast, passNext, commitWriteset}
+use Rattle.engine.specs.Moves.{sendNow, deliverNow}
 use Rattle.engine.specs.Step.{step}
 use Rattle.engine.specs.Step.Call.{write}
 use Rattle.engine.specs.Frames.{Frames, SameBut, BeginFrame, WriteFrame, AskFrame, WithdrawFrame, SendFrame, DeliverFrame, WorkFrame}
-use Rattle.engine.proofs.Tests.{cond-by}
 use Rattle.engine.proofs.Steps.{begin-by, read-by, write-by, ask-by, withdraw-by, send-by, deliver-by, work-by}
 use Rattle.engine.proofs.Passed.{BeginPassed, begin-passed, write-passed, DeliverPassed, deliver-passed}
 use Rattle.engine.proofs.PartLaws.{set-but, paste-but, insert-but, below-part}
 use Rattle.engine.proofs.RowLaws.{others, sent-row}
 use Rattle.engine.proofs.BlockFacts.{taken-block}
+use Rattle.engine.proofs.WorkFrame.{pass-frame, commit-frame, work-same}
 
 -- ---- begin
 
@@ -211,51 +210,15 @@ deliver-frame m b p =
 deliver-same : (m : Memory) (s : ℕ) → DeliverFrame m m s
 deliver-same m s = record { rest = refl; outbox = refl; places = λ i h. refl }
 
--- ---- work
+-- ---- make
 
-pass-frame : (m : Memory) → WorkFrame m (passNext m .memory)
-unfolding passNext
-pass-frame m = record {
-  items = refl;
-  writes = refl;
-  snapshots = refl;
-  outbox = refl;
-  replicas = refl;
-  own = refl;
-  tickets = refl;
-  read-only = refl;
-  withdrawn = refl;
-}
-
-commit-frame : (m : Memory) (mine : Bool) (w : Record) → WorkFrame m (commitWriteset m mine w .memory)
-unfolding commitWriteset
-commit-frame m mine w = record {
-  items = refl;
-  writes = refl;
-  snapshots = refl;
-  outbox = cond-by (λ (b : Blocks). b .outbox ≡ m .blocks .outbox) (isLast m) (λ e. refl) (λ e. refl);
-  replicas = refl;
-  own = refl;
-  tickets = refl;
-  read-only = refl;
-  withdrawn = refl;
-}
-
-work-same : (m : Memory) → WorkFrame m m
-work-same m = record {
-  items = refl;
-  writes = refl;
-  snapshots = refl;
-  outbox = refl;
-  replicas = refl;
-  own = refl;
-  tickets = refl;
-  read-only = refl;
-  withdrawn = refl;
-}
+make-frame : (m : Memory) (n own : ℕ) (values : List ℤ) → makeRefusal m n own values ≡ 0 → makeStep m n own values .memory ≡ madeMemory n own values
+unfolding makeStep
+make-frame m n own values e = rw (eq-eqb (makeRefusal m n own values) 0 e)
 
 pub frames : Frames
 frames = record {
+  makes = make-frame;
   begins = λ m. begin-by (λ o. BeginFrame m (o .memory)) m (λ e. begin-frame m (begin-passed m e)) (λ e. begin-same m);
   reads = λ m t i. read-by (λ o. o .memory ≡ m) m t i (λ e. refl) (λ e. refl);
   writes = write-frame;
@@ -269,5 +232,5 @@ frames = record {
   delivers = λ m b. deliver-by (λ o. DeliverFrame m (o .memory) (headerOf b .slot)) m b
       (λ e. deliver-frame m b (deliver-passed m b e))
       (λ e. deliver-same m (headerOf b .slot));
-  works = λ m. work-by (λ o. WorkFrame m (o .memory)) m (λ e k. pass-frame m) (λ e k. commit-frame m _ _) (λ e. work-same m);
+  works = λ m. work-by (λ o. WorkFrame m (o .memory)) m (λ e k. pass-frame m) (λ e k. commit-frame m _) (λ e. work-same m);
 }

@@ -3,7 +3,7 @@ use Prim.Native.Nat.{ℕ, zero, suc, _+_, _≤_, _<_}
 use mathlib.Core.Path.{_≡_, refl, sym, _∙_}
 use mathlib.Core.Bool.{Bool, true, false}
 use mathlib.Core.List.{List, [], _∷_, _++_}
-use native.Mathlib.Nat.{suc-add, add-suc, add-zero, not-suc-le-zero, le-of-suc-le-suc}
+use native.Mathlib.Nat.{zero-add, suc-add, add-suc, add-zero, not-suc-le-zero, le-of-suc-le-suc}
 use native.Mathlib.Omega.{arith}
 use lib.Dec.{eqb}
 use lib.ListN.{length, getD, length-append, List·getD-append}
@@ -39,6 +39,12 @@ has-where x (y ∷ ys) e =
     cond-by (λ (b : Bool). b ≡ true → Where x (y ∷ ys)) (eqb y x)
     (λ q h. record { place = 0; within = omega arith; is = eqb-true y x q })
     (λ q h. let w = has-where x ys h in record { place = suc (w .place); within = omega (arith, w .within); is = w .is }) e
+
+pub has-not : (x y : ℕ) (ys : List ℕ) → has x (y ∷ ys) ≡ false → (x ≡ y → ⊥) × (has x ys ≡ false)
+unfolding has
+has-not x y ys =
+    cond-by (λ (b : Bool). b ≡ false → (x ≡ y → ⊥) × (has x ys ≡ false)) (eqb y x) (λ e h. clash {b = true} refl h)
+    (λ e h. ((λ q. eqb-false y x e (sym q)), h))
 
 pub has-append : (x : ℕ) (l k : List ℕ) → has x l ≡ true → has x (l ++ k) ≡ true
 has-append x l k h =
@@ -77,6 +83,11 @@ index-by P x (y ∷ ys) i f g =
     none : eqb y x ≡ false → ((k : ℕ) → k < length ys → getD ys k 0 ≡ x → ⊥) → (k : ℕ) → k < suc (length ys) → getD (y ∷ ys) k 0 ≡ x → ⊥
     none e h zero u = eqb-false y x e
     none e h (suc k) u = h k (omega arith)
+
+-- where it stays below, the place has x
+pub index-at : (x : ℕ) (l : List ℕ) → indexFrom x l 0 < length l → getD l (indexFrom x l 0) 0 ≡ x
+index-at x l =
+    index-by (λ (p : ℕ). p < length l → getD l p 0 ≡ x) x l 0 (λ k h e u. rw zero-add e) (λ f u. absurd (let z : ⊥ = omega arith in z))
 
 -- where the search goes past the last, no place has x
 pub index-none : (x : ℕ) (l : List ℕ) → length l ≤ indexFrom x l 0 → (k : ℕ) → k < length l → getD l k 0 ≡ x → ⊥

@@ -1,7 +1,7 @@
 -- The rows that another's writeset hits, and their tickets. Assumes nothing.
 use Prim.Native.Nat.{ℕ, zero, suc, _+_, _<_}
 use mathlib.Core.Path.{_≡_, refl, sym, ap, _∙_}
-use mathlib.Core.Bool.{Bool, true, false, cond, _&&_}
+use mathlib.Core.Bool.{Bool, true, false, cond}
 use mathlib.Core.List.{List, [], _∷_}
 use native.Mathlib.Nat.{add-zero, add-suc, suc-add, le-of-suc-le-suc, not-suc-le-zero}
 use native.Mathlib.Omega.{arith}
@@ -11,13 +11,13 @@ use borrow.Author.Tests.{eqb-true, eq-eqb, not-true}
 use Rattle.block.specs.declared.Entry.{Entry}
 use Rattle.block.proofs.BoolLaws.{both, not-so}
 use Rattle.memory.specs.declared.Txn.{Txn}
-use Rattle.memory.specs.Rows.{closed, isOpen, openCount, rowAt, itemsOf, has}
-use Rattle.engine.specs.Moves.{shares, isHit, spared, insertRising, hitTickets}
+use Rattle.memory.specs.Rows.{closed, isOpen, openCount, rowAt, has}
+use Rattle.engine.specs.Moves.{isHit, afterAborts, insertRising, hitTickets}
 use Rattle.engine.proofs.Tests.{cond-by, clash}
 
 -- ---- tickets among others, rising
 
-has-rising : (t x : ℕ) (l : List ℕ) → has t (insertRising x l) ≡ cond (eqb x t) true (has t l)
+pub has-rising : (t x : ℕ) (l : List ℕ) → has t (insertRising x l) ≡ cond (eqb x t) true (has t l)
 unfolding has insertRising
 has-rising t x [] = refl
 has-rising t x (y ∷ ys) = go (ltb x y) (has-rising t x ys)
@@ -42,30 +42,30 @@ length-rising x (y ∷ ys) =
 -- ---- the rows hit
 
 module _ (es : List Entry) (items : List ℕ) where
-  pub length-spared : (r : ℕ) (ts : List Txn) → length (spared es items r ts) ≡ length ts
-  unfolding spared
-  length-spared r [] = refl
-  length-spared r (t ∷ ts) = ap suc (length-spared (suc r) ts)
+  pub length-aborts : (r : ℕ) (ts : List Txn) → length (afterAborts es items r ts) ≡ length ts
+  unfolding afterAborts
+  length-aborts r [] = refl
+  length-aborts r (t ∷ ts) = ap suc (length-aborts (suc r) ts)
 
-  pub spared-at : (r : ℕ) (ts : List Txn) (k : ℕ) → k < length ts
-      → rowAt (spared es items r ts) k ≡ cond (isHit es items (r + k) (rowAt ts k)) closed (rowAt ts k)
-  unfolding spared
-  spared-at r [] k h = absurd (not-suc-le-zero h)
-  spared-at r (t ∷ ts) zero h = rw (add-zero r)
-  spared-at r (t ∷ ts) (suc k) h = rw (add-suc r k, ← suc-add r k) (spared-at (suc r) ts k (le-of-suc-le-suc h))
+  pub aborts-at : (r : ℕ) (ts : List Txn) (k : ℕ) → k < length ts
+      → rowAt (afterAborts es items r ts) k ≡ cond (isHit es items (r + k) (rowAt ts k)) closed (rowAt ts k)
+  unfolding afterAborts
+  aborts-at r [] k h = absurd (not-suc-le-zero h)
+  aborts-at r (t ∷ ts) zero h = rw (add-zero r)
+  aborts-at r (t ∷ ts) (suc k) h = rw (add-suc r k, ← suc-add r k) (aborts-at (suc r) ts k (le-of-suc-le-suc h))
 
   pub hit-open : (r : ℕ) (t : Txn) → isHit es items r t ≡ true → isOpen t ≡ true
-  hit-open r t e = both (isOpen t) (ltb (t .stage) 2 && shares (itemsOf r t items) es) e .left
+  hit-open r t e = both (isOpen t) _ e .left
 
-  -- an open row is spared or its ticket is among those hit
-  pub spared-open : (r : ℕ) (ts : List Txn) → openCount (spared es items r ts) + length (hitTickets es items r ts) ≡ openCount ts
-  unfolding spared hitTickets openCount
-  spared-open r [] = refl
-  spared-open r (t ∷ ts) = go (isHit es items r t) refl (isOpen t) refl (spared-open (suc r) ts)
+  -- an open row is afterAborts or its ticket is among those hit
+  pub aborts-open : (r : ℕ) (ts : List Txn) → openCount (afterAborts es items r ts) + length (hitTickets es items r ts) ≡ openCount ts
+  unfolding afterAborts hitTickets openCount
+  aborts-open r [] = refl
+  aborts-open r (t ∷ ts) = go (isHit es items r t) refl (isOpen t) refl (aborts-open (suc r) ts)
     where
       go : (b : Bool) → isHit es items r t ≡ b → (c : Bool) → isOpen t ≡ c
-          → openCount (spared es items (suc r) ts) + length (hitTickets es items (suc r) ts) ≡ openCount ts
-          → openCount (cond b closed t ∷ spared es items (suc r) ts)
+          → openCount (afterAborts es items (suc r) ts) + length (hitTickets es items (suc r) ts) ≡ openCount ts
+          → openCount (cond b closed t ∷ afterAborts es items (suc r) ts)
           + length (cond b (insertRising (t .ticket) (hitTickets es items (suc r) ts)) (hitTickets es items (suc r) ts))
           ≡ cond c (suc (openCount ts)) (openCount ts)
       go true h true o ih = let l = length-rising (t .ticket) (hitTickets es items (suc r) ts) in omega arith

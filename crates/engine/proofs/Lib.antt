@@ -30,8 +30,17 @@ pub mod RestartLaws
 pub mod ShapeRestart
 -- the theorems
 pub mod Refusals
+pub mod WorkFrame
 pub mod Frames
 pub mod Shapes
+pub mod Rising
+pub mod ReadBack
+pub mod Claims
+pub mod SentLaws
+pub mod SentClient
+pub mod SentSend
+pub mod SentWork
+pub mod Sent
 pub mod Reports
 pub mod Queues
 pub mod Worked

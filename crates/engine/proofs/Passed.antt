@@ -9,12 +9,13 @@ use lib.ListN.{length, getD}
 use borrow.Author.Tests.{eqb-true, eqb-false, eq-eqb, ne-eqb, ltb-false, leb-false, not-false}
 use Rattle.block.proofs.AnswerLaws.{not-refused}
 use Rattle.block.proofs.BoolLaws.{Both, both}
-use Rattle.block.specs.Answers.{readRefusal, headerOf, recordAt}
-use Rattle.memory.specs.Memory.{Memory, maxTickets}
+use Rattle.block.specs.Answers.{blockRefusal, headerOf, recordAt}
+use Rattle.block.specs.Message.{ownerOf}
+use Rattle.memory.specs.Memory.{Memory, maxTickets, maxSlots}
 use Rattle.memory.specs.Rows.{freeRow, writeCount}
 use Rattle.memory.specs.Turns.{isEmpty}
 use Rattle.engine.specs.Client.{freeNo, rowNo, rowIn, isOwn, notOpen, notActive, heldByOther, beginRefusal, writeRefusal, askRefusal, withdrawRefusal}
-use Rattle.engine.specs.Moves.{deliverRefusal, blockAtTurn, isSent, workRefusal}
+use Rattle.engine.specs.Moves.{sentAlready, sendRefusal, isOwnBlock, deliverRefusal, blockAtTurn, isSent, workRefusal}
 use Rattle.engine.proofs.Tests.{clash, passes}
 
 -- two tests joined, where their joint denial does not hold
@@ -104,16 +105,38 @@ withdraw-passed m t e =
     let a = passes _ _ refl e in
     row-passed m t (a .0) (passes _ _ refl (a .1) .0)
 
+-- ---- send
+
+pub record SendPassed (m : Memory) : Type 0 where
+  pub slot : m .turn .slot < maxSlots
+  pub owner : ownerOf (m .counts .replicas) (m .turn .slot) ≡ m .counts .own
+  pub unsent : sentAlready m ≡ false
+
+pub send-passed : (m : Memory) (b : List ℕ) → sendRefusal m b ≡ 0 → SendPassed m
+unfolding sendRefusal
+send-passed m b e =
+    let a = passes _ _ refl e in
+    let s = passes _ _ refl (a .1) in
+    let o = passes _ _ refl (s .1) in
+    let u = passes _ _ refl (o .1) in
+    record { slot = leb-false maxSlots (m .turn .slot) (s .0); owner = eqb-true _ _ (not-false _ (o .0)); unsent = u .0 }
+
 -- ---- deliver
 
 pub record DeliverPassed (m : Memory) (b : List ℕ) : Type 0 where
   pub places : length (m .blocks .places) ≡ 512 * m .counts .replicas
   pub long : length b ≡ 512
-  pub taken : readRefusal b ≡ 0
+  pub taken : blockRefusal b ≡ 0
   pub replicas : headerOf b .replicas ≡ m .counts .replicas
   pub low : m .turn .slot ≤ headerOf b .slot
   pub high : headerOf b .slot < m .turn .slot + m .counts .replicas
+  -- an own block is the one sent
+  pub own : headerOf b .sender ≡ m .counts .own → isOwnBlock m b ≡ true
   pub empty : isEmpty (m .counts .replicas) (headerOf b .slot) (m .blocks .places) ≡ true
+
+only-right : (a b : Bool) → a && not b ≡ false → a ≡ true → b ≡ true
+only-right true b h e = not-false b h
+only-right false b h e = clash {b = false} e refl
 
 pub deliver-passed : (m : Memory) (b : List ℕ) → deliverRefusal m b ≡ 0 → DeliverPassed m b
 unfolding deliverRefusal
@@ -135,6 +158,7 @@ deliver-passed m b e =
       replicas = eqb-true _ _ (not-false _ (s .0));
       low = ltb-false _ _ (t .0);
       high = leb-false _ _ (u .0);
+      own = λ q. only-right _ (isOwnBlock m b) (v .0) (eq-eqb (headerOf b .sender) (m .counts .own) q);
       empty = not-false _ (w .0);
     }
 

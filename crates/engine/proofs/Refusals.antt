@@ -2,6 +2,7 @@
 use Prim.Native.Nat.{ℕ, suc}
 use mathlib.Core.Path.{_≡_, refl, sym}
 use mathlib.Core.Bool.{true}
+use mathlib.Core.List.{List}
 use native.Mathlib.Omega.{arith}
 use lib.IntN.{ℤ}
 use lib.ListN.{length, set}
@@ -9,12 +10,13 @@ use borrow.Author.Tests.{eq-eqb}
 use Rattle.memory.specs.Memory.{Memory, bump, withAborted, withTable, withTxns}
 use Rattle.memory.specs.Rows.{closed, openCount}
 use Rattle.engine.specs.Calls.{Outcome, numberOf}
+use Rattle.engine.specs.Make.{makeRefusal, makeStep}
 use Rattle.engine.specs.Client.{freeNo, rowNo, beginRefusal, beginAt, readRefusal, writeRefusal, rewriteAt, insertWrite, staleAt, writeRow, askRefusal, readOnlyAt, queueAt, withdrawRefusal, withdrawAt, reportStep}
 use Rattle.engine.specs.Moves.{sendRefusal, sendNow, deliverRefusal, deliverNow, workRefusal, passNext, commitWriteset}
 use Rattle.engine.specs.Step.{Call, step, refusalOf}
 use Rattle.engine.specs.Step.Call.{begin, read, write, ask, withdraw, report, send, deliver, work}
 use Rattle.engine.specs.Frames.{Refusals, isWrite}
-use Rattle.engine.proofs.Tests.{not-first}
+use Rattle.engine.proofs.Tests.{not-first, unless-by}
 use Rattle.engine.proofs.Steps.{begin-by, read-by, write-by, ask-by, withdraw-by, send-by, deliver-by, work-by}
 use Rattle.engine.proofs.Passed.{stale-passed}
 use Rattle.engine.proofs.RowLaws.{row-found, open-close}
@@ -75,5 +77,21 @@ stale-open m ticket item value l e =
     let h = stale-passed m ticket item e .row in
     rw (stale m ticket item value e) (open-close (m .txns .table) (rowNo m ticket) (omega arith) (row-found ticket (m .txns .table) l h .live))
 
+make-number : (m : Memory) (n own : ℕ) (values : List ℤ) → numberOf (makeStep m n own values .answer) ≡ makeRefusal m n own values
+unfolding makeStep
+make-number m n own values = unless-by (Numbered (makeRefusal m n own values)) (makeRefusal m n own values) m (λ e. sym e) (λ e. refl)
+
+make-unchanged : (m : Memory) (n own : ℕ) (values : List ℤ) → (makeRefusal m n own values ≡ 0 → ⊥) → makeStep m n own values .memory ≡ m
+unfolding makeStep
+make-unchanged m n own values h = unless-by (Left m) (makeRefusal m n own values) m (λ e. absurd (h e)) (λ e. refl)
+
 pub refusals : Refusals
-refusals = record { number = number; unchanged = unchanged; nine = nine; stale = stale; stale-open = stale-open }
+refusals = record {
+  number = number;
+  unchanged = unchanged;
+  nine = nine;
+  stale = stale;
+  stale-open = stale-open;
+  make-number = make-number;
+  make-unchanged = make-unchanged;
+}

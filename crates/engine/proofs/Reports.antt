@@ -30,7 +30,7 @@ use Rattle.engine.specs.History.{Tally, noCalls, counted, tally, writese
 use Rattle.engine.proofs.Tests.{clash}
 use Rattle.engine.proofs.Steps.{begin-by, read-by, write-by, ask-by, withdraw-by, send-by, deliver-by, work-by}
 use Rattle.engine.proofs.Refusals.{refusals}
-use Rattle.engine.proofs.HitLaws.{spared-open}
+use Rattle.engine.proofs.HitLaws.{aborts-open}
 use Rattle.engine.proofs.Shaping.{Bumps, bumps}
 use Rattle.engine.proofs.ShapeTurn.{Working, working}
 use Rattle.engine.proofs.RestartLaws.{reads-good, reads-few, count-few, blocks-counted}
@@ -92,7 +92,7 @@ slot-after t false false h = refl
 few-gone : {over : ℕ} (m : Memory) → Shape over m → (mine : Bool) (es : List Entry)
     → let n = m .counts .aborted + length (cond mine [] (hitTickets es (m .txns .items) 0 (m .txns .table))) in min n 4_294_967_295 ≡ n
 few-gone m s true es = omega (arith, s .ranges .endings, s .ranges .repeats, s .ranges .tickets)
-few-gone m s false es = omega (arith, s .ranges .endings, s .ranges .repeats, s .ranges .tickets, spared-open es (m .txns .items) 0 (m .txns .table))
+few-gone m s false es = omega (arith, s .ranges .endings, s .ranges .repeats, s .ranges .tickets, aborts-open es (m .txns .items) 0 (m .txns .table))
 
 commit-counted : {over : ℕ} (m : Memory) → Shape over m → Working m → (w : Record) → 1 ≤ w .ticket
     → Counted m (commitWriteset m (eqb (getD (blockAtTurn m) 1 0) (m .counts .own)) w)

@@ -10,7 +10,7 @@ use lib.Dec.{eqb}
 use lib.ListN.{length, getD, take, drop}
 use borrow.Author.Tests.{eqb-true}
 use Rattle.block.specs.Message.{Record}
-use Rattle.block.specs.Answers.{readRefusal, headerOf}
+use Rattle.block.specs.Answers.{blockRefusal, headerOf}
 use Rattle.block.proofs.BoolLaws.{both}
 use Rattle.engine.specs.Restart.{isGood, blocksFrom, firstBlocks, writesetsFrom, writesetsIn, Replayed, commitOne, commitAll, commitBlocks, isFrom, highestTicket, highestOwn, ownWritesets}
 use Rattle.engine.specs.History.{writesetCount}
@@ -20,13 +20,13 @@ use Rattle.engine.proofs.ShapeWriteset.{length-applied, length-stamped}
 
 -- ---- the blocks
 
-pub good-taken : (n : ℕ) (b : List ℕ) → isGood n b ≡ true → readRefusal b ≡ 0
+pub good-taken : (n : ℕ) (b : List ℕ) → isGood n b ≡ true → blockRefusal b ≡ 0
 unfolding isGood
-good-taken n b h = eqb-true (readRefusal b) 0 (both _ _ h .left)
+good-taken n b h = eqb-true (blockRefusal b) 0 (both _ _ h .left)
 
 pub good-replicas : (n : ℕ) (b : List ℕ) → isGood n b ≡ true → headerOf b .replicas ≡ n
 unfolding isGood
-good-replicas n b h = eqb-true (headerOf b .replicas) n (both (eqb (readRefusal b) 0) _ h .right)
+good-replicas n b h = eqb-true (headerOf b .replicas) n (both (eqb (blockRefusal b) 0) _ h .right)
 
 abbrev pub AllGood : ℕ → List (List ℕ) → Type 0
 AllGood n bs = (b : List ℕ) → List·Memᴰ b bs → isGood n b ≡ true

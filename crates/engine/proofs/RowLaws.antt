@@ -1,7 +1,7 @@
 -- The rows of the table: the row of a ticket, how many are open, one row put in place of another, and who holds an item. Assumes nothing.
-use Prim.Native.Nat.{ℕ, zero, suc, _+_, _*_, _<_}
-use mathlib.Core.Path.{_≡_, refl, sym, _∙_, subst}
-use mathlib.Core.Bool.{Bool, true, false, cond}
+use Prim.Native.Nat.{ℕ, zero, suc, _+_, _*_, _≤_, _<_}
+use mathlib.Core.Path.{_≡_, refl, sym, ap, _∙_, subst}
+use mathlib.Core.Bool.{Bool, true, false, cond, not}
 use mathlib.Core.List.{List, [], _∷_, map}
 use native.Mathlib.Nat.{zero-add, suc-add, add-suc, add-zero, not-suc-le-zero, le-of-suc-le-suc}
 use native.Mathlib.Omega.{arith}
@@ -121,6 +121,35 @@ free-is t h = rw (eq-eqb (t .ticket) 0 h)
 
 pub open-close : (l : List Txn) (r : ℕ) → r < length l → (rowAt l r .ticket ≡ 0 → ⊥) → openCount l ≡ suc (openCount (set l r closed))
 open-close l r h z = omega (arith, open-set l r closed h, open-is (rowAt l r) z)
+
+-- all of them, where no row is free
+open-few : (l : List Txn) → openCount l ≤ length l
+open-few [] = unfold openCount in omega arith
+open-few (t ∷ ts) = let h = open-few ts in let e = open-cons t ts in let o = one-few (isOpen t) in omega arith
+  where
+    one-few : (b : Bool) → one b ≤ 1
+    one-few true = omega arith
+    one-few false = omega arith
+
+pub all-open : (l : List Txn) (i : ℕ) → openCount l ≡ length l → rowFrom 0 i l ≡ i + length l
+unfolding rowFrom openCount
+all-open [] i e = sym (add-zero i)
+all-open (t ∷ ts) i e = go (eqb (t .ticket) 0) e (all-open ts (suc i))
+  where
+    go : (b : Bool) → cond (not b) (suc (openCount ts)) (openCount ts) ≡ suc (length ts) → (openCount ts ≡ length ts → rowFrom 0 (suc i) ts ≡ suc i + length ts)
+        → cond b i (rowFrom 0 (suc i) ts) ≡ i + suc (length ts)
+    go true h ih = absurd (omega (arith, open-few ts))
+    go false h ih = omega (arith, ih (omega arith))
+
+pub none-free : (l : List Txn) (i : ℕ) → rowFrom 0 i l ≡ i + length l → openCount l ≡ length l
+unfolding rowFrom openCount
+none-free [] i e = refl
+none-free (t ∷ ts) i e = go (eqb (t .ticket) 0) e (none-free ts (suc i))
+  where
+    go : (b : Bool) → cond b i (rowFrom 0 (suc i) ts) ≡ i + suc (length ts) → (rowFrom 0 (suc i) ts ≡ suc i + length ts → openCount ts ≡ length ts)
+        → cond (not b) (suc (openCount ts)) (openCount ts) ≡ suc (length ts)
+    go true h ih = absurd (omega arith)
+    go false h ih = ap suc (ih (omega arith))
 
 -- ---- who holds an item
 

@@ -6,7 +6,7 @@ use mathlib.Core.List.{List}
 use native.Mathlib.Omega.{arith}
 use lib.ListN.{getD}
 use lib.Seq.{paste, length-paste}
-use Rattle.block.specs.Answers.{readRefusal, headerOf}
+use Rattle.block.specs.Answers.{blockRefusal, headerOf}
 use Rattle.memory.specs.Memory.{Memory}
 use Rattle.memory.specs.Turns.{placeStart, blockIn, isEmpty}
 use Rattle.engine.specs.Moves.{deliverNow}
@@ -26,15 +26,15 @@ module _ {over : ℕ} (m : Memory) (bytes : List ℕ) (S : Shape over m) (k : De
   abbrev new : List ℕ
   new = paste old (placeStart n (headerOf bytes .slot)) bytes 512
 
-  same : blockIn n (headerOf bytes .slot) new ≡ bytes
+  pub same : blockIn n (headerOf bytes .slot) new ≡ bytes
   same = block-kept n old (omega (arith, S .ranges .least)) (S .lengths .places) (headerOf bytes .slot) bytes (k .long)
 
-  beside : (s : ℕ) → m .turn .slot ≤ s → s < m .turn .slot + n → (s ≡ headerOf bytes .slot → ⊥) → blockIn n s new ≡ blockIn n s old
+  pub beside : (s : ℕ) → m .turn .slot ≤ s → s < m .turn .slot + n → (s ≡ headerOf bytes .slot → ⊥) → blockIn n s new ≡ blockIn n s old
   beside s p q d =
       block-beside n old (omega (arith, S .ranges .least)) (S .lengths .places) (m .turn .slot) s (headerOf bytes .slot) bytes (k .long) p q (k .low) (k .high) d
 
   waits : (s : ℕ) → m .turn .slot ≤ s → s < m .turn .slot + n → isEmpty n s new ≡ false
-      → (readRefusal (blockIn n s new) ≡ 0) × (headerOf (blockIn n s new) .slot ≡ s) × (headerOf (blockIn n s new) .replicas ≡ n)
+      → (blockRefusal (blockIn n s new) ≡ 0) × (headerOf (blockIn n s new) .slot ≡ s) × (headerOf (blockIn n s new) .replicas ≡ n)
   waits s p q e =
       same-by s (headerOf bytes .slot)
       (λ z. rw (z, same) (k .taken, refl, k .replicas))

@@ -33,7 +33,7 @@ length-entriesFrom [] vs = omega arith
 length-entriesFrom (i ∷ is) [] = omega arith
 length-entriesFrom (i ∷ is) (v ∷ vs) = let h = length-entriesFrom is vs in omega arith
 
-writeset-few : (x : Transactions) (ticket : ℕ) → length (writesetOf x ticket .entries) ≤ 8
+pub writeset-few : (x : Transactions) (ticket : ℕ) → length (writesetOf x ticket .entries) ≤ 8
 unfolding writesetOf
 writeset-few x ticket =
     let r = rowOf ticket (x .table) in
@@ -42,7 +42,7 @@ writeset-few x ticket =
     let b = length-entriesFrom (slice (8 * r) (8 * r + n) (x .items)) (slice (8 * r) (8 * r + n) (x .writes)) in
     omega arith
 
-length-writesets : (x : Transactions) (ts : List ℕ) → length (recordsBytes (map (writesetOf x) ts)) ≡ 72 * length ts
+pub length-writesets : (x : Transactions) (ts : List ℕ) → length (recordsBytes (map (writesetOf x) ts)) ≡ 72 * length ts
 unfolding recordsBytes
 length-writesets x [] = refl
 length-writesets x (t ∷ ts) = simp (length-append, length-recordBytes (writesetOf x t) (writeset-few x t), length-writesets x ts) (omega arith)
@@ -51,7 +51,7 @@ length-block : (w : Message) (n : ℕ) → length (w .records) ≡ n → n ≤ 6
 unfolding blockOf bodyBytes
 length-block w n e h l = simp (length-append, length-checkBytes, length-headerBytes, e, l, length-replicate) (omega arith)
 
-length-outbox : (m : Memory) → length (m .txns .queue) ≡ 6 → length (blockOf (messageFor m)) ≡ 512
+pub length-outbox : (m : Memory) → length (m .txns .queue) ≡ 6 → length (blockOf (messageFor m)) ≡ 512
 unfolding messageFor
 length-outbox m e =
     let l = length-waiting (m .txns .queue) in

@@ -6,7 +6,7 @@ use mathlib.Core.List.{List}
 use native.Mathlib.Omega.{arith}
 use lib.Dec.{eqb}
 use lib.ListN.{length, getD, length-set}
-use Rattle.block.specs.Answers.{readRefusal, headerOf, recordAt}
+use Rattle.block.specs.Answers.{blockRefusal, headerOf, recordAt}
 use Rattle.memory.specs.Memory.{Memory, bump}
 use Rattle.memory.specs.Turns.{advance, placeStart, blockIn, isEmpty, emptied}
 use Rattle.engine.specs.Moves.{blockAtTurn, isSent, workRefusal, passNext}
@@ -66,15 +66,15 @@ module _ {over : ℕ} (m : Memory) (S : Shape over m) (w : Working m) where
   abbrev new : List ℕ
   new = emptied n turn old
 
-  beside : (s : ℕ) → suc turn ≤ s → s < turn + n → blockIn n s new ≡ blockIn n s old
+  pub beside : (s : ℕ) → suc turn ≤ s → s < turn + n → blockIn n s new ≡ blockIn n s old
   beside s p q =
       emptied-beside n old (omega (arith, S .ranges .least)) (S .lengths .places) turn s turn (omega arith) q (omega arith) (omega arith) (λ e. omega arith)
 
-  again : isEmpty n (turn + n) new ≡ true
+  pub again : isEmpty n (turn + n) new ≡ true
   again = ap (λ (k : ℕ). eqb (getD new k 0) 0) (place-again n turn) ∙ emptied-empty n old (omega (arith, S .ranges .least)) (S .lengths .places) turn
 
   waits-after : (s : ℕ) → suc turn ≤ s → s < suc turn + n → isEmpty n s new ≡ false
-      → (readRefusal (blockIn n s new) ≡ 0) × (headerOf (blockIn n s new) .slot ≡ s) × (headerOf (blockIn n s new) .replicas ≡ n)
+      → (blockRefusal (blockIn n s new) ≡ 0) × (headerOf (blockIn n s new) .slot ≡ s) × (headerOf (blockIn n s new) .replicas ≡ n)
   waits-after s p q e =
       same-by s (turn + n)
       (λ z. clash again (rw z at e))

@@ -16,7 +16,7 @@ use Rattle.engine.specs.Moves.{waiting, blockAtTurn, writesetAt, isHit, 
 use Rattle.engine.specs.Shape.{Shape}
 use Rattle.engine.proofs.Tests.{same-by, clash}
 use Rattle.engine.proofs.RowLaws.{row-found, open-close, set-row}
-use Rattle.engine.proofs.HitLaws.{length-spared, spared-at, spared-open, hit-open, hit-has, has-hit, no-zero}
+use Rattle.engine.proofs.HitLaws.{length-aborts, aborts-at, aborts-open, hit-open, hit-has, has-hit, no-zero}
 use Rattle.engine.proofs.QueueLaws.{length-queueWithout, length-waiting, Left, queue-left}
 use Rattle.engine.proofs.Shaping.{bumps}
 use Rattle.engine.proofs.ShapeClose.{Closing, closing-rows, closing-distinct, closing-single, closing-queue}
@@ -84,8 +84,8 @@ module _ {over : ℕ} (m : Memory) (S : Shape over m) (k : Working m) (last : Bo
 
   other-closing : Closing m other rowHit
   other-closing = record {
-    six = length-spared (w .entries) (m .txns .items) 0 (m .txns .table) ∙ S .lengths .table;
-    row = λ r h. rw zero-add at (spared-at (w .entries) (m .txns .items) 0 (m .txns .table) r (omega (arith, S .lengths .table)));
+    six = length-aborts (w .entries) (m .txns .items) 0 (m .txns .table) ∙ S .lengths .table;
+    row = λ r h. rw zero-add at (aborts-at (w .entries) (m .txns .items) 0 (m .txns .table) r (omega (arith, S .lengths .table)));
     items = refl;
     tickets = refl;
     later = let a = k .commits in omega arith;
@@ -120,7 +120,7 @@ module _ {over : ℕ} (m : Memory) (S : Shape over m) (k : Working m) (last : Bo
     table = other-closing .six;
     waiting = length-queueWithout gone (m .txns .queue) ∙ S .lengths .queue;
     endings =
-        let o = spared-open (w .entries) (m .txns .items) 0 (m .txns .table) in
+        let o = aborts-open (w .entries) (m .txns .items) 0 (m .txns .table) in
         let e = S .ranges .endings in
         let t = S .ranges .tickets in
         let p = S .ranges .repeats in

@@ -12,7 +12,7 @@ use Rattle.block.specs.Message.{Record}
 use Rattle.memory.specs.Memory.{Memory, bump, withDone, withCommit}
 use Rattle.memory.specs.Rows.{closed, openCount, rowOf, rowAt, itemsOf, has}
 use Rattle.memory.specs.Turns.{markApplying, advance}
-use Rattle.engine.specs.Moves.{blockAtTurn, applied, stamped, spared, hitTickets, queueWithout, turnBlocks, isLast, commitWriteset}
+use Rattle.engine.specs.Moves.{blockAtTurn, applied, stamped, afterAborts, hitTickets, queueWithout, turnBlocks, isLast, commitWriteset}
 use Rattle.engine.specs.Shape.{Lengths, RowShape, QueueShape, PlaceShape, Shape}
 use Rattle.engine.proofs.Shaping.{bumps}
 use Rattle.engine.proofs.ShapeTurn.{Working, places-turned, places-done, length-emptied}
@@ -28,7 +28,7 @@ committed m mine last w =
           (min (m .counts .aborted + length gone) 4_294_967_295))
           (cond last 0 (m .counts .done + 1));
       txns = record {
-        table = cond mine (set (m .txns .table) (rowOf (w .ticket) (m .txns .table)) closed) (spared (w .entries) (m .txns .items) 0 (m .txns .table));
+        table = cond mine (set (m .txns .table) (rowOf (w .ticket) (m .txns .table)) closed) (afterAborts (w .entries) (m .txns .items) 0 (m .txns .table));
         queue = cond mine (m .txns .queue) (queueWithout gone (m .txns .queue));
         items = m .txns .items;
         writes = m .txns .writes;

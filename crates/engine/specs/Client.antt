@@ -11,6 +11,7 @@ use Rattle.block.specs.Answers.{refuse, firstOf}
 use Rattle.engine.specs.declared.Report.{Report}
 use Rattle.memory.specs.declared.Txn.{Txn}
 use Rattle.memory.specs.Memory.{Memory, maxTickets, bump, writesLent, withTickets, withReadOnly, withAborted, withWithdrawn, withTable, withTxns}
+use Rattle.memory.specs.Turns.{isOn}
 use Rattle.memory.specs.Rows.{closed, openCount, rowOf, freeRow, rowAt, writeCount, itemsOf, indexOf, holderOf, isHeld, countBelow, insertAt}
 use Rattle.engine.specs.Calls.{Outcome, outcome, unless}
 use Rattle.engine.specs.Calls.Answer.{refused, began, got, wrote, queued, readOnly, withdrew, reported}
@@ -60,7 +61,7 @@ ticketsSpent m = leb maxTickets (m .counts .tickets)
 
 -- 7: the applying mark is on
 abbrev pub isApplying : Memory → Bool
-isApplying m = m .turn .applying
+isApplying m = isOn (m .turn .applying)
 
 -- 8: another open transaction holds the item
 abbrev pub heldByOther : Memory → ℕ → ℕ → Bool
@@ -245,7 +246,7 @@ reportOf m = record {
   turn = m .turn .slot;
   commits = m .counts .commits;
   tickets = m .counts .tickets;
-  active = openCount (m .txns .table);
+  «open_count» = openCount (m .txns .table);
   committed = m .counts .committed;
   «read_only» = m .counts .«read_only»;
   aborted = m .counts .aborted;

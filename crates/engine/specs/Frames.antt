@@ -2,16 +2,19 @@
 use Prim.Native.Nat.{ℕ, suc, _+_, _*_, _≤_, _<_}
 use mathlib.Core.Path.{_≡_}
 use mathlib.Core.Bool.{Bool, true, false}
-use mathlib.Core.List.{List}
+use mathlib.Core.List.{List, map}
 use mathlib.Core.Logic.{_⊎_}
 use lib.IntN.{ℤ, pos}
 use lib.ListN.{length, getD, set}
+use Rattle.block.specs.declared.Entry.{Entry}
 use Rattle.block.specs.Answers.{headerOf}
 use Rattle.memory.specs.Memory.{Memory, bump, withTickets, withReadOnly, withAborted, withWithdrawn, withTable, withTxns, withBlocks}
-use Rattle.memory.specs.Rows.{closed, openCount, freeRow, rowAt, indexOf}
-use Rattle.memory.specs.Turns.{placeStart}
+use Rattle.memory.specs.Rows.{closed, openCount, freeRow, rowAt, indexOf, has}
+use Rattle.memory.specs.Turns.{markApplying, advance, placeStart}
 use Rattle.engine.specs.Calls.{numberOf}
+use Rattle.engine.specs.Make.{madeMemory, makeRefusal, makeStep}
 use Rattle.engine.specs.Client.{rowNo, writeRefusal}
+use Rattle.engine.specs.Moves.{blockAtTurn, writesetAt}
 use Rattle.engine.specs.Step.{Call, step, refusalOf}
 use Rattle.engine.specs.Step.Call.{begin, read, write, ask, withdraw, report, send, deliver, work}
 
@@ -38,10 +41,17 @@ pub record Refusals : Type 0 where
       ≡ withTxns m (withAborted (m .counts) (bump (m .counts .aborted))) (withTable (m .txns) (set (m .txns .table) (rowNo m ticket) closed))
   pub stale-open : (m : Memory) (ticket item : ℕ) (value : ℤ) → length (m .txns .table) ≡ 6 → writeRefusal m (rowNo m ticket) item ≡ 9
       → openCount (m .txns .table) ≡ suc (openCount (step m (write ticket item value) .memory .txns .table))
+  -- a make's
+  pub make-number : (m : Memory) (n own : ℕ) (values : List ℤ) → numberOf (makeStep m n own values .answer) ≡ makeRefusal m n own values
+  pub make-unchanged : (m : Memory) (n own : ℕ) (values : List ℤ) → (makeRefusal m n own values ≡ 0 → ⊥) → makeStep m n own values .memory ≡ m
 
 -- the two lists are equal but from `at` to `at + n`
 abbrev pub SameBut : {A : Type 0} → A → ℕ → ℕ → List A → List A → Type 0
 SameBut d at n l k = (i : ℕ) → (i < at) ⊎ (at + n ≤ i) → getD k i d ≡ getD l i d
+
+-- the two lists are equal but at the items of the entries
+abbrev pub SameButItems : {A : Type 0} → A → List Entry → List A → List A → Type 0
+SameButItems d es l k = (i : ℕ) → has i (map (λ (e : Entry). e .item) es) ≡ false → getD k i d ≡ getD l i d
 
 -- the tables are equal but for row r
 abbrev pub RowsBut : Memory → Memory → ℕ → Type 0
@@ -113,8 +123,15 @@ pub record DeliverFrame (m n : Memory) (slot : ℕ) : Type 0 where
   pub outbox : n .blocks .outbox ≡ m .blocks .outbox
   pub places : SameBut 0 (placeStart (m .counts .replicas) slot) 512 (m .blocks .places) (n .blocks .places)
 
--- a work leaves the writes and snapshots of all rows, the block sent last, and of the counts all but commits, done, committed and aborted
+-- a work may set the applying mark or move the turn by one, and change one byte of the places, values and stamps of the items of the writeset to commit, rows by closing them, the
+-- queue, and of the counts commits, done, committed and aborted
 pub record WorkFrame (m n : Memory) : Type 0 where
+  -- the slot is the same, or one more with both marks off
+  pub turn : (n .turn ≡ m .turn) ⊎ ((n .turn ≡ markApplying (m .turn)) ⊎ (n .turn ≡ advance (m .turn)))
+  pub places : SameBut 0 (placeStart (m .counts .replicas) (m .turn .slot)) 1 (m .blocks .places) (n .blocks .places)
+  pub values : SameButItems (pos 0) (writesetAt (blockAtTurn m) (m .counts .done) .entries) (m .store .values) (n .store .values)
+  pub stamps : SameButItems 0 (writesetAt (blockAtTurn m) (m .counts .done) .entries) (m .store .stamps) (n .store .stamps)
+  pub rows : (i : ℕ) → (rowAt (n .txns .table) i ≡ rowAt (m .txns .table) i) ⊎ (rowAt (n .txns .table) i ≡ closed)
   pub items : n .txns .items ≡ m .txns .items
   pub writes : n .txns .writes ≡ m .txns .writes
   pub snapshots : n .txns .snapshots ≡ m .txns .snapshots
@@ -126,6 +143,7 @@ pub record WorkFrame (m n : Memory) : Type 0 where
   pub withdrawn : n .counts .withdrawn ≡ m .counts .withdrawn
 
 pub record Frames : Type 0 where
+  pub makes : (m : Memory) (n own : ℕ) (values : List ℤ) → makeRefusal m n own values ≡ 0 → makeStep m n own values .memory ≡ madeMemory n own values
   pub begins : (m : Memory) → BeginFrame m (step m begin .memory)
   pub reads : (m : Memory) (ticket item : ℕ) → step m (read ticket item) .memory ≡ m
   pub writes : (m : Memory) (ticket item : ℕ) (value : ℤ) → WriteFrame m (step m (write ticket item value) .memory) (rowNo m ticket)

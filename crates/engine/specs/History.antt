@@ -1,4 +1,4 @@
--- Report's numbers, counted from what calls answered.
+-- Report's numbers and the queue, from what calls answered.
 use Prim.Native.Nat.{ℕ, suc, _+_, _-_, _≤_, _<_}
 use mathlib.Core.Path.{_≡_}
 use mathlib.Core.Bool.{cond, not, _&&_}
@@ -116,7 +116,7 @@ reportFrom over t = record {
   turn = t .turn;
   commits = t .commits;
   tickets = t .tickets;
-  active = t .tickets + over - endings t;
+  «open_count» = t .tickets + over - endings t;
   committed = t .committed;
   «read_only» = t .readOnlies;
   aborted = t .aborted;
@@ -128,7 +128,7 @@ pub record Reports : Type 0 where
       → reportOf (after (madeMemory n own values) cs) ≡ reportFrom 0 (tally own noCalls (madeMemory n own values) cs)
   -- tickets given equal open plus all endings
   pub sum : (n own : ℕ) (values : List ℤ) → 2 ≤ n → n ≤ 6 → own < n → length values ≡ 128 → (cs : List Call)
-      → let r = reportOf (after (madeMemory n own values) cs) in r .tickets ≡ r .active + r .committed + r .«read_only» + r .aborted + r .withdrawn
+      → let r = reportOf (after (madeMemory n own values) cs) in r .tickets ≡ r .«open_count» + r .committed + r .«read_only» + r .aborted + r .withdrawn
   -- after a restart from any journal, and calls since then
   pub restarted : (n own : ℕ) (values : List ℤ) → 2 ≤ n → n ≤ 6 → own < n → length values ≡ 128 → (journal : List ℕ) (cs : List Call)
       → let bs = blocksIn n journal in reportOf (after (restartedMemory n own values bs) cs)

@@ -9,5 +9,7 @@ pub mod Restart
 pub mod Worked
 pub mod Frames
 pub mod Shape
+pub mod Claims
+pub mod Sent
 pub mod History
 pub mod Restarts

@@ -15,7 +15,7 @@ use Rattle.engine.specs.Calls.{Outcome, outcome, unless}
 use Rattle.engine.specs.Calls.Answer.{made}
 
 abbrev pub turnZero : Turn
-turnZero = record { slot = 0; sent = false; applying = false }
+turnZero = record { slot = 0; sent = 0; applying = 0 }
 
 abbrev pub countsFor : ℕ → ℕ → Counts
 countsFor n own = record {

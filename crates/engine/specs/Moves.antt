@@ -18,7 +18,7 @@ use Rattle.memory.specs.declared.Turn.{Turn}
 use Rattle.memory.specs.declared.Txn.{Txn}
 use Rattle.memory.specs.Memory.{Transactions, Store, Blocks, Memory, maxSlots, bump, writesLent, placesLent, withDone, withCommit, withTable, withTxns, withBlocks, withTurn}
 use Rattle.memory.specs.Rows.{closed, isOpen, rowOf, rowAt, writeCount, itemsOf, has}
-use Rattle.memory.specs.Turns.{markSent, markApplying, advance, placeStart, blockIn, isEmpty, emptied}
+use Rattle.memory.specs.Turns.{isOn, markSent, markApplying, advance, placeStart, blockIn, isEmpty, emptied}
 use Rattle.engine.specs.Calls.{Step, Outcome, outcome, unless}
 use Rattle.engine.specs.Calls.Answer.{sent, kept, worked}
 
@@ -63,7 +63,7 @@ othersTurn m = not (eqb (ownerOf (m .counts .replicas) (m .turn .slot)) (m .coun
 
 -- 12: sent already for this slot
 abbrev pub sentAlready : Memory → Bool
-sentAlready m = m .turn .sent
+sentAlready m = isOn (m .turn .sent)
 
 unfoldable pub sendRefusal : Memory → List ℕ → ℕ
 sendRefusal m block =
@@ -95,7 +95,7 @@ sameBytes (x ∷ xs) (y ∷ ys) = eqb x y && sameBytes xs ys
 
 -- the block that the replica sent for its present turn
 abbrev pub isOwnBlock : Memory → List ℕ → Bool
-isOwnBlock m bytes = m .turn .sent && sameBytes bytes (m .blocks .outbox)
+isOwnBlock m bytes = isOn (m .turn .sent) && sameBytes bytes (m .blocks .outbox)
 
 abbrev pub deliverLent : Memory → List ℕ → Bool
 deliverLent m bytes = placesLent m && (eqb (length (m .blocks .outbox)) 512 && eqb (length bytes) 512)
@@ -179,9 +179,9 @@ abbrev pub isHit : List Entry → List ℕ → ℕ → Txn → Bool
 isHit es items r t = isOpen t && (ltb (t .stage) 2 && shares (itemsOf r t items) es)
 
 -- the table with those rows closed, and their tickets, rising
-unfoldable pub spared : List Entry → List ℕ → ℕ → List Txn → List Txn
-spared es items r [] = []
-spared es items r (t ∷ ts) = cond (isHit es items r t) closed t ∷ spared es items (suc r) ts
+unfoldable pub afterAborts : List Entry → List ℕ → ℕ → List Txn → List Txn
+afterAborts es items r [] = []
+afterAborts es items r (t ∷ ts) = cond (isHit es items r t) closed t ∷ afterAborts es items (suc r) ts
 
 unfoldable pub insertRising : ℕ → List ℕ → List ℕ
 insertRising x [] = x ∷ []
@@ -223,7 +223,7 @@ ownNotSent m =
 unfoldable pub workRefusal : Memory → ℕ
 workRefusal m = firstOf (refuse 1 (not (workLent m)) ∷ refuse 21 (nothingWaits m) ∷ refuse 22 (ownNotSent m) ∷ [])
 
--- after the last writeset, or a *next*: the place empties, the turn goes up by one, the marks go off
+-- after the last writeset, or a *next*, the place empties
 abbrev pub turnBlocks : Memory → Blocks
 turnBlocks m = record { places = emptied (m .counts .replicas) (m .turn .slot) (m .blocks .places); outbox = m .blocks .outbox }
 
@@ -255,7 +255,7 @@ commitWriteset m mine w =
       turn = cond (isLast m) (advance (m .turn)) (cond mine (m .turn) (markApplying (m .turn)));
       counts = withDone c (cond (isLast m) 0 (m .counts .done + 1));
       txns = record {
-        table = cond mine (set (x .table) (rowOf (w .ticket) (x .table)) closed) (spared es (x .items) 0 (x .table));
+        table = cond mine (set (x .table) (rowOf (w .ticket) (x .table)) closed) (afterAborts es (x .items) 0 (x .table));
         queue = cond mine (x .queue) (queueWithout gone (x .queue));
         items = x .items;
         writes = x .writes;

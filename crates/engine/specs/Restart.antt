@@ -6,7 +6,7 @@ use lib.Dec.{eqb}
 use lib.IntN.{ℤ, pos}
 use lib.ListN.{length, getD, take, drop, replicate}
 use Rattle.block.specs.Message.{Record}
-use Rattle.block.specs.Answers.{refuse, firstOf, readRefusal, headerOf}
+use Rattle.block.specs.Answers.{refuse, firstOf, blockRefusal, headerOf}
 use Rattle.memory.specs.Memory.{Store, Memory, bump}
 use Rattle.memory.specs.Rows.{closed}
 use Rattle.engine.specs.Calls.{Outcome, outcome, unless}
@@ -18,7 +18,7 @@ use Rattle.engine.specs.Moves.{writesetAt, applied, stamped}
 
 -- 512 bytes with a good check and form, of a group of n
 unfoldable pub isGood : ℕ → List ℕ → Bool
-isGood n b = eqb (readRefusal b) 0 && eqb (headerOf b .replicas) n
+isGood n b = eqb (blockRefusal b) 0 && eqb (headerOf b .replicas) n
 
 -- block by block, from slot s on and at most `most`, up to one that is torn, fails its check or form, has another N or is not the next slot
 unfoldable pub blocksFrom : ℕ → ℕ → ℕ → List ℕ → List (List ℕ)
@@ -91,7 +91,7 @@ unfoldable pub lastOwn : ℕ → List ℕ → List (List ℕ) → List ℕ
 lastOwn own d [] = d
 lastOwn own d (b ∷ bs) = lastOwn own (cond (isFrom own b) b d) bs
 
--- own writesets above the highest ticket: 0 but where a ticket stands in two own blocks, which no calls lead to
+-- own writesets above the highest ticket: 0 but where a ticket stands in two own blocks
 abbrev pub repeated : ℕ → List (List ℕ) → ℕ
 repeated own bs = ownWritesets own bs - highestOwn own bs
 
@@ -100,7 +100,7 @@ repeated own bs = ownWritesets own bs - highestOwn own bs
 -- the blocks committed and nothing else there: tickets up to the highest in own blocks are given, those in no own block count as aborted
 unfoldable pub restartedMemory : ℕ → ℕ → List ℤ → List (List ℕ) → Memory
 restartedMemory n own values bs = record {
-  turn = record { slot = length bs; sent = false; applying = false };
+  turn = record { slot = length bs; sent = 0; applying = 0 };
   counts = record {
     replicas = n;
     own = own;

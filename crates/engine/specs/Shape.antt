@@ -5,7 +5,7 @@ use mathlib.Core.Bool.{true, false}
 use mathlib.Core.List.{List, _++_}
 use lib.IntN.{ℤ}
 use lib.ListN.{length, getD, replicate}
-use Rattle.block.specs.Answers.{readRefusal, headerOf}
+use Rattle.block.specs.Answers.{blockRefusal, headerOf}
 use Rattle.memory.specs.Memory.{Memory, maxTickets, maxSlots}
 use Rattle.memory.specs.Rows.{closed, openCount, rowOf, rowAt, writeCount, itemsOf, has}
 use Rattle.memory.specs.Turns.{blockIn, isEmpty}
@@ -65,7 +65,7 @@ pub record QueueShape (m : Memory) : Type 0 where
 pub record PlaceShape (m : Memory) : Type 0 where
   pub waits : (s : ℕ) → m .turn .slot ≤ s → s < m .turn .slot + m .counts .replicas
       → isEmpty (m .counts .replicas) s (m .blocks .places) ≡ false
-      → (readRefusal (blockIn (m .counts .replicas) s (m .blocks .places)) ≡ 0)
+      → (blockRefusal (blockIn (m .counts .replicas) s (m .blocks .places)) ≡ 0)
       × (headerOf (blockIn (m .counts .replicas) s (m .blocks .places)) .slot ≡ s)
       × (headerOf (blockIn (m .counts .replicas) s (m .blocks .places)) .replicas ≡ m .counts .replicas)
   pub done : 0 < m .counts .done

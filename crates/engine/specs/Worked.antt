@@ -10,10 +10,10 @@ use Rattle.block.specs.Bytes.{blockOf}
 use Rattle.block.specs.Worked.{WorkedBlocks, exampleCommit}
 use Rattle.memory.specs.Memory.{Memory}
 use Rattle.engine.specs.Calls.{Answer, numberOf}
-use Rattle.engine.specs.Calls.Answer.{sent, kept, worked}
+use Rattle.engine.specs.Calls.Answer.{began, got, sent, kept, worked}
 use Rattle.engine.specs.Make.{madeMemory, makeStep}
 use Rattle.engine.specs.Step.{Call, step}
-use Rattle.engine.specs.Step.Call.{begin, write, ask, withdraw, send, deliver, work}
+use Rattle.engine.specs.Step.Call.{begin, read, write, ask, withdraw, send, deliver, work}
 
 -- what each call of a list answers, one after the other
 unfoldable pub answers : Memory → List Call → List Answer
@@ -54,6 +54,20 @@ writeEight =
     ∷ write 1 7 (pos 1)
     ∷ []
 
+-- a *tocommit* of replica 0 of 2, for slot 0: ticket 2 writes 8 to item 6, then ticket 1 writes 7 to item 5
+abbrev pub ownBlock : List ℕ
+ownBlock = blockOf (record {
+  kind = 2;
+  sender = 0;
+  replicas = 2;
+  slot = 0;
+  records = record { ticket = 2; entries = record { item = 6; value = pos 8 } ∷ [] } ∷ record { ticket = 1; entries = record { item = 5; value = pos 7 } ∷ [] } ∷ [];
+})
+
+-- two transactions asked in the order 2, 1 and sent
+abbrev pub sendTwo : List Call
+sendTwo = begin ∷ begin ∷ write 1 5 (pos 7) ∷ write 2 6 (pos 8) ∷ ask 2 ∷ ask 1 ∷ send (replicate 512 0) ∷ []
+
 pub record WorkedCases : Type 0 where
   pub blocks : WorkedBlocks
   pub size-1 : makeNumber 1 ≡ 2
@@ -70,3 +84,18 @@ pub record WorkedCases : Type 0 where
       ≡ kept ∷ worked (record { sender = 1; ticket = 1; moved = true; aborted = 1 ∷ []; append = blockOf exampleCommit }) ∷ sent (nextBlock 2 0 2) ∷ []
   pub stale : numbers (fresh 2 0) (firstTurn ++ (begin ∷ deliver (blockOf exampleCommit) ∷ work ∷ write 1 5 (pos 9) ∷ write 1 5 (pos 9) ∷ []))
       ≡ replicate 6 0 ++ (9 ∷ 3 ∷ [])
+  -- sent in the order asked, committed one by one, and read by a third
+  pub committed : drop 6 (answers (fresh 2 0) (sendTwo ++ (deliver ownBlock ∷ work ∷ work ∷ begin ∷ read 3 5 ∷ read 3 6 ∷ [])))
+      ≡ sent ownBlock
+      ∷ kept
+      ∷ worked (record { sender = 0; ticket = 2; moved = false; aborted = []; append = [] })
+      ∷ worked (record { sender = 0; ticket = 1; moved = true; aborted = []; append = [] })
+      ∷ began 3
+      ∷ got (pos 7)
+      ∷ got (pos 8)
+      ∷ []
+  -- what document 01's wrong replicas get wrong: a block that comes early waits for its turn; a sent transaction keeps its locks; one asked after a send
+  -- brings no second block for the slot
+  pub early : numbers (fresh 3 0) (deliver (nextBlock 3 2 2) ∷ work ∷ []) ≡ 0 ∷ 21 ∷ []
+  pub sent-holds : numbers (fresh 2 0) (begin ∷ begin ∷ write 1 5 (pos 7) ∷ ask 1 ∷ send (replicate 512 0) ∷ write 2 5 (pos 8) ∷ []) ≡ replicate 5 0 ++ (8 ∷ [])
+  pub sent-once : numbers (fresh 2 0) (send (replicate 512 0) ∷ begin ∷ write 1 5 (pos 7) ∷ ask 1 ∷ send (replicate 512 0) ∷ []) ≡ replicate 4 0 ++ (12 ∷ [])

@@ -1,7 +1,7 @@
-// The turn as a cursor: methods by value, each of which hands the cursor back.
+// The turn as a cursor: methods by value, each of which hands the cursor back; and the place of a slot.
 ghost use mathlib.Core.Path.{_≡_};
 ghost use Rattle.block.specs.Message.{ownerOf};
-ghost use Rattle.memory.specs.Turns.{markSent, advance};
+ghost use Rattle.memory.specs.Turns.{markSent, advance, placeStart};
 use super::Owned;
 use super::Turn;
 use super::rows::bump;
@@ -28,7 +28,7 @@ impl Turn {
     {
         Turn {
             slot: self.slot,
-            sent: true,
+            sent: 1,
             applying: self.applying,
         }
     }
@@ -38,8 +38,18 @@ impl Turn {
     {
         Turn {
             slot: bump(self.slot),
-            sent: false,
-            applying: false,
+            sent: 0,
+            applying: 0,
         }
     }
+}
+
+// Where the place of a slot begins; of a group with no replica it is defined too.
+pub fn place_start(replicas: u8, slot: u32) -> usize
+    ensures { λ r. ⌜ r ≡ placeStart replicas slot ⌝ }
+{
+    if replicas == 0 {
+        return 512 * slot as usize;
+    }
+    512 * (slot % (replicas as u32)) as usize
 }

@@ -12,12 +12,13 @@ pub struct Txn {
     pub writes: u32,
 }
 
-// The turn: the slot that the replica processes next, whether it sent its block for it, and whether it is applying another's.
+// The turn: the slot that the replica processes next, whether it sent its block for it, and whether it is applying another's. A mark is 0 where it is off, and on where it is
+// any other number: a host may lend any bytes.
 #[repr(C)]
 pub struct Turn {
     pub slot: u32,
-    pub sent: bool,
-    pub applying: bool,
+    pub sent: u8,
+    pub applying: u8,
 }
 
 // Numbers of a replica: the group's size and its own number, the commit count, the writesets done of the block at the turn,

@@ -111,7 +111,7 @@ pub fn queue_end(queue: &[u32]) -> usize
 }
 
 // The lesser of both: no index goes past the end of what is lent.
-fn lesser(a: usize, b: usize) -> usize
+pub fn lesser(a: usize, b: usize) -> usize
     ensures { λ r. ⌜ r ≡ min a b ⌝ }
 {
     if a < b { a } else { b }

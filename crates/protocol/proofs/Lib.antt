@@ -16,4 +16,3 @@ pub mod ClaimLaws
 pub mod Agreement
 pub mod Refinement
 pub mod BlockLaws
-pub mod Example

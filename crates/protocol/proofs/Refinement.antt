@@ -1,12 +1,12 @@
 -- From a machine to the model: a machine that refines the model agrees. Assumes nothing.
 use Prim.Native.Nat.{ℕ}
 use mathlib.Core.Path.{_∙_, _≡_, ap, refl, subst, sym}
-use mathlib.Core.Bool.{Bool, false, true}
+use mathlib.Core.Bool.{Bool, false, true, cond}
 use mathlib.Core.Option.{Option, none, some}
 use mathlib.Core.List.{List, [], _++_, _∷_, append-assoc, append-nil}
+use native.Mathlib.Omega.{arith}
 use lib.Dec.{eqb}
 use borrow.Author.Tests.{eqb-false, eqb-true}
-use Rattle.protocol.specs.Lists.{pick}
 use Rattle.protocol.specs.Writesets.{Message}
 use Rattle.protocol.specs.Replica.{Setup, Cursor, Replica, Event, refused, Outcome}
 use Rattle.protocol.specs.Journal.{Journal, Cut, journalAfter, appended}
@@ -18,7 +18,7 @@ use Rattle.protocol.proofs.OpenLaws.{open-sub, queue-same}
 use Rattle.protocol.proofs.JournalLaws.{Journaled, journal-others}
 use Rattle.protocol.proofs.Invariant.{ReplicaInv, SystemInv, Kept, refuse}
 use Rattle.protocol.proofs.Keep.{step-keeps, step-journal, inv-fresh}
-use Rattle.protocol.proofs.ClaimLaws.{grows-call, step-claim}
+use Rattle.protocol.proofs.ClaimLaws.{grows-call, not-stale, step-claim}
 use Rattle.protocol.proofs.Agreement.{agreed}
 
 module _ {X : Type 0} (S : Setup X) where
@@ -58,14 +58,14 @@ module _ {X : Type 0} (S : Setup X) where
     refusal-claim : (F : List (Placed X)) (D : List (Handout X)) (p : Observed X) (k : ℕ) (o : Option (Call X)) (c : ℕ) → (c ≡ 9 → ⊥) → CommandClaim S F D p k o (refused c)
     refusal-claim F D p k none c n = tt
     refusal-claim F D p k (some begin) c n = tt
-    refusal-claim F D p k (some (read t i)) c n = tt
-    refusal-claim F D p k (some (write t i x)) c n = λ z. absurd (n z)
+    refusal-claim F D p k (some (read t i)) c n = λ v q. let z : _≡_ {A = ℕ} 0 1 = cc in absurd (let w : ⊥ = omega arith in w)
+    refusal-claim F D p k (some (write t i x)) c n = not-stale S D k t c n
     refusal-claim F D p k (some (ask t)) c n = tt
     refusal-claim F D p k (some (withdraw t)) c n = tt
-    refusal-claim F D p k (some report) c n = tt
+    refusal-claim F D p k (some report) c n = λ t u q. let z : _≡_ {A = ℕ} 0 1 = cc in absurd (let w : ⊥ = omega arith in w)
     refusal-claim F D p k (some send) c n = tt
     refusal-claim F D p k (some (deliver m)) c n = tt
-    refusal-claim F D p k (some work) c n = tt
+    refusal-claim F D p k (some work) c n = λ s u a q. let z : _≡_ {A = ℕ} 0 1 = cc in absurd (let w : ⊥ = omega arith in w)
     refusal-claim F D p k (some (restart l)) c n = tt
 
     module _ (A : PlacesApart S) where
@@ -74,7 +74,7 @@ module _ {X : Type 0} (S : Setup X) where
         pub sound : (k : ℕ) → Member k → Sound k (g .memories k)
 
       module _ (g : MachineSystem S M) (H : MachineInv g) (a : CommandAt S M) (h : HandedOut (g .messages) (perform (a .at) (g .memories (a .at)) (a .command) .event))
-          (lent : CommandLent S M (g .journals (a .at)) (a .at) (g .memories (a .at)) (meaning (a .command))) where
+          (lent : CommandLent S M (g .journals (a .at)) (a .at) (g .memories (a .at)) (a .command)) where
         abbrev k : ℕ
         k = a .at
 
@@ -111,20 +111,9 @@ module _ {X : Type 0} (S : Setup X) where
                   (subst (λ (v : Event X). Cut J (appended S r (view k (perform k m b .memory) .cursor .turn) v) l) e C),
             )
 
-        lent-as : (c : Call X) → CommandLent S M J k m (some c) → Lent S J r c
-        lent-as begin g = tt
-        lent-as (read t i) g = tt
-        lent-as (write t i x) g = tt
-        lent-as (ask t) g = tt
-        lent-as (withdraw t) g = tt
-        lent-as report g = tt
-        lent-as send g = tt
-        lent-as (deliver x) g = tt
-        lent-as work g = tt
-        lent-as (restart l) g = appends-as (g .0) l (g .1)
-
-        lent-of : (c : Call X) → meaning (a .command) ≡ some c → Lent S J r c
-        lent-of c q = lent-as c (subst (CommandLent S M J k m) q lent)
+        lent-of : (c : Call X) → meaning (a .command) ≡ some c → did .event ≡ step S r c .event → Lent S J r c
+        unfolding step
+        lent-of c q e l i = let C = lent l _ _ (q ∙ ap some i) (e ∙ ap (λ (d : Call X). step S r d .event) i) in appends-as (C .0) l (C .1)
 
         kept : Kept S D B p k (record { replica = view k (did .memory); event = did .event })
         kept = go (refines k m (a .command) (H .sound k (a .here)))
@@ -133,7 +122,7 @@ module _ {X : Type 0} (S : Setup X) where
             go (refuses c n e L) = kept-alike D B p k (record { replica = r; event = refused c }) _ _ e L
                 (refuse S D B p k r (H .inv .whole) (H .inv .each k) c)
             go (follows c q e L) = kept-alike D B p k (step S r c) _ _ e L
-                (step-keeps S A D B p k r (H .inv .whole) (H .inv .each k) J (H .inv .journals k) c (rw e at h) (lent-of c q))
+                (step-keeps S A D B p k r (H .inv .whole) (H .inv .each k) J (H .inv .journals k) c (rw e at h) (lent-of c q e))
 
         journaled : Journaled S (handoutsAfter D k p (did .event)) k (view k (did .memory) .cursor .turn) (journalAfter J (appendedBy S M k m (a .command)) (did .event))
         journaled = go (refines k m (a .command) (H .sound k (a .here)))
@@ -145,7 +134,7 @@ module _ {X : Type 0} (S : Setup X) where
             go (refuses c n e L) = subst (After (view k (did .memory) .cursor .turn)) (sym e)
                 (subst (λ (n : ℕ). After n (refused c)) (ap (λ (x : Cursor). x .turn) (sym (L .cursor))) (unfold handoutsAfter journalAfter appended in H .inv .journals k))
             go (follows c q e L) = subst (After (view k (did .memory) .cursor .turn)) (sym e)
-                (subst (λ (n : ℕ). After n (step S r c .event)) (ap (λ (x : Cursor). x .turn) (sym (L .cursor))) (step-journal S A D B p k r (H .inv .whole) (H .inv .each k) J (H .inv .journals k) c (lent-of c q)))
+                (subst (λ (n : ℕ). After n (step S r c .event)) (ap (λ (x : Cursor). x .turn) (sym (L .cursor))) (step-journal S A D B p k r (H .inv .whole) (H .inv .each k) J (H .inv .journals k) c (lent-of c q e)))
 
         said : (E : List (Placed X)) → CommandClaim S (sequence D ++ E) D p k (meaning (a .command)) (did .event)
         said E = go (refines k m (a .command) (H .sound k (a .here)))
@@ -168,18 +157,18 @@ module _ {X : Type 0} (S : Setup X) where
             m′ : Memory
             m′ = did .memory
 
-            one : (j : ℕ) (b : Bool) → eqb j k ≡ b → ReplicaInv S D′ (pick b p′ (g .observed j)) j (view j (pick b m′ (g .memories j)))
+            one : (j : ℕ) (b : Bool) → eqb j k ≡ b → ReplicaInv S D′ (cond b p′ (g .observed j)) j (view j (cond b m′ (g .memories j)))
             one j true e = subst (λ (i : ℕ). ReplicaInv S D′ p′ i (view i m′)) (sym (eqb-true j k e)) (kept .mine)
             one j false e = kept .others j (eqb-false j k e) (g .observed j) (view j (g .memories j)) (H .inv .each j)
 
-            two : (j : ℕ) → Member j → (b : Bool) → eqb j k ≡ b → Sound j (pick b m′ (g .memories j))
+            two : (j : ℕ) → Member j → (b : Bool) → eqb j k ≡ b → Sound j (cond b m′ (g .memories j))
             two j h true e = subst (λ (i : ℕ). Sound i m′) (sym (eqb-true j k e)) (stays k m (a .command) (H .sound k (a .here)))
             two j h false e = H .sound j h
 
             J′ : Journal X
             J′ = journalAfter J (appendedBy S M k m (a .command)) (did .event)
 
-            three : (j : ℕ) (b : Bool) → eqb j k ≡ b → Journaled S D′ j (view j (pick b m′ (g .memories j)) .cursor .turn) (pick b J′ (g .journals j))
+            three : (j : ℕ) (b : Bool) → eqb j k ≡ b → Journaled S D′ j (view j (cond b m′ (g .memories j)) .cursor .turn) (cond b J′ (g .journals j))
             three j true e = subst (λ (i : ℕ). Journaled S D′ i (view i m′ .cursor .turn) J′) (sym (eqb-true j k e)) journaled
             three j false e = journal-others S D k p (did .event) (kept .whole .inOrder) j (eqb-false j k e) (view j (g .memories j) .cursor .turn) (g .journals j) (H .inv .journals j)
 

@@ -1,4 +1,5 @@
--- Agreement of a group of replicas: lists, the model of one replica and its calls, the observer, the group, the statement, and the statement for a machine.
+-- Agreement of a group of replicas: lists, the model of one replica and its calls, the observer, the group, the statement, and the statement for a machine. The steps of the model's
+-- calls have the names of the engine's, whose counterparts they are.
 pub mod Lists
 pub mod Writesets
 pub mod Replica

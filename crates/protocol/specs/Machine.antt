@@ -5,10 +5,10 @@ use mathlib.Core.Option.{Option, none, some}
 use mathlib.Core.List.{List, [], _∷_}
 use Rattle.protocol.specs.Lists.{update, Mem}
 use Rattle.protocol.specs.Writesets.{Message}
-use Rattle.protocol.specs.Replica.{Setup, Transaction, Replica, Event, refused}
+use Rattle.protocol.specs.Replica.{Setup, Transaction, Replica, Event, refused, restarted}
 use Rattle.protocol.specs.Journal.{Journal, journal, Cut, journalAfter, appended}
-use Rattle.protocol.specs.Observer.{noting, Observed, observing, Placed, Handout, observedAfter, handoutsAfter, messagesAfter, sequence}
-use Rattle.protocol.specs.System.{Call, begin, read, write, ask, withdraw, report, send, deliver, work, restart, System, HandedOut, step, made, PlacesApart}
+use Rattle.protocol.specs.Observer.{noting, Observed, observing, Placed, Handout, observedAfter, handoutsAfter, sequence}
+use Rattle.protocol.specs.System.{messagesAfter, Call, restart, System, HandedOut, step, made, PlacesApart}
 use Rattle.protocol.specs.Statement.{Claim, Agreed}
 
 module _ {X : Type 0} where
@@ -37,7 +37,7 @@ module _ {X : Type 0} (S : Setup X) where
       refuses : (c : ℕ) → (c ≡ 9 → ⊥) → perform m a .event ≡ refused c → Alike (view m) (view (perform m a .memory)) → Refines m a
       follows : (c : Call X) → meaning a ≡ some c → perform m a .event ≡ step S (view m) c .event → Alike (step S (view m) c .replica) (view (perform m a .memory)) → Refines m a
 
-  -- perform k: what a command at member k does and how the observer sees it; meaning: the call it is, if it is well formed; Member k: the group has a replica or station k;
+  -- perform k: what a command at member k does and how the observer sees it; meaning: the call it is, if it is well formed; Member k: the group has a replica k;
   -- view k, Sound k: the memory of member k as a replica's state, and what it meets after every call
   pub record Machine : Type 1 where
     pub Memory : Type 0
@@ -94,25 +94,16 @@ module _ {X : Type 0} (S : Setup X) where
     runCommands g [] = g
     runCommands g (a ∷ cs) = runCommands (afterCommand g a) cs
 
-    -- what a restart is lent is left by a cut, in which one command of any kind may have ended
-    abbrev pub CommandLent : Journal X → ℕ → Memory → Option (Call X) → Type 0
-    CommandLent J k m none = Unit
-    CommandLent J k m (some begin) = Unit
-    CommandLent J k m (some (read t i)) = Unit
-    CommandLent J k m (some (write t i x)) = Unit
-    CommandLent J k m (some (ask t)) = Unit
-    CommandLent J k m (some (withdraw t)) = Unit
-    CommandLent J k m (some report) = Unit
-    CommandLent J k m (some send) = Unit
-    CommandLent J k m (some (deliver x)) = Unit
-    CommandLent J k m (some work) = Unit
-    CommandLent J k m (some (restart lent)) = (b : Command) × Cut J (appendedBy k m b) lent
+    -- what an accepted restart is lent is left by a cut, in which one command of any kind may have ended
+    abbrev pub CommandLent : Journal X → ℕ → Memory → Command → Type 0
+    CommandLent J k m a = (lent held : List (Message X)) (given : Option (Message X)) → meaning a ≡ some (restart lent) → perform k m a .event ≡ restarted held given
+        → (ended : Command) × Cut J (appendedBy k m ended) lent
 
     -- the premise on a list of commands
     unfoldable pub CommandPremise : MachineSystem → List CommandAt → Type 0
     CommandPremise g [] = Unit
     CommandPremise g (a ∷ cs) =
-        (HandedOut (g .messages) (perform (a .at) (g .memories (a .at)) (a .command) .event) × CommandLent (g .journals (a .at)) (a .at) (g .memories (a .at)) (meaning (a .command)))
+        (HandedOut (g .messages) (perform (a .at) (g .memories (a .at)) (a .command) .event) × CommandLent (g .journals (a .at)) (a .at) (g .memories (a .at)) (a .command))
         × CommandPremise (afterCommand g a) cs
 
     -- the group as the model sees it

@@ -1,6 +1,5 @@
--- From the calls by value to the calls on lent parts; and that these are the engine's.
-pub mod CalledLaws
+-- From the calls by value to the calls on lent parts.
+pub mod TableLaws
 pub mod ClientFacts
 pub mod TurnFacts
 pub mod Handed
-pub mod Hosted

@@ -9,67 +9,64 @@ use Rattle.memory.specs.declared.Counts.{Counts}
 use Rattle.memory.specs.declared.Turn.{Turn}
 use Rattle.memory.specs.declared.Txn.{Txn}
 use Rattle.memory.specs.Memory.{Memory}
-use Rattle.engine.specs.Make.{countsFor, makeStep}
+use Rattle.engine.specs.Make.{makeStep}
 use Rattle.engine.specs.Moves.{sendStep, deliverStep, workStep}
-use Rattle.client.specs.Lent.{allParts}
-use Rattle.sending.specs.Lent.{sendParts, blockLeft}
-use Rattle.delivering.specs.Lent.{deliverParts}
-use Rattle.working.specs.Lent.{workParts}
-use Rattle.lent.specs.Table.{loaded, stored}
-use Rattle.lent.specs.Turns.{moved}
-use Rattle.calls.specs.Replies.{number, reply, workReply}
-use Rattle.calls.specs.declared.Reply.{Reply}
-use Rattle.calls.specs.declared.WorkReply.{WorkReply}
-use Rattle.turn_calls.specs.declared.Made.{Made}
-use Rattle.turn_calls.specs.declared.Sent.{Sent}
-use Rattle.turn_calls.specs.declared.Worked.{Worked}
-use Rattle.replica.specs.Called.{called}
-use Rattle.replica.proofs.CalledLaws.{called-six, called-other, loaded-six, stored-six}
+use Rattle.call_reply.specs.Parts.{allParts, sendParts, deliverParts, workParts}
+use Rattle.host_table.specs.Table.{loaded, stored}
+use Rattle.call_reply.specs.Replies.{number, reply, workReply, Gives, GivesBlock}
+use Rattle.call_reply.specs.declared.Reply.{Reply}
+use Rattle.call_reply.specs.declared.WorkReply.{WorkReply}
+use Rattle.call_reply.specs.declared.Made.{Made}
+use Rattle.call_reply.specs.declared.Sent.{Sent}
+use Rattle.call_reply.specs.declared.Worked.{Worked}
+use Rattle.call_reply.specs.Called.{called}
+use Rattle.call_reply.proofs.CalledLaws.{called-six, called-other}
+use Rattle.replica.proofs.TableLaws.{loaded-six, stored-six}
 
-abbrev pub MakeOn : List Txn → ℕ → ℕ → List ℤ → List ℕ → List ℕ → List ℤ → List ℤ → List ℤ → List ℕ → List ℕ → List ℕ → Made → List ℕ → List ℕ → List ℤ → List ℤ → List ℤ → List ℕ → List ℕ → List ℕ → Type 0
-MakeOn rows size me start queue items writes snapshots values stamps places outbox r queue′ items′ writes′ snapshots′ values′ stamps′ places′ outbox′ = (turn : Turn) → (r .reply ≡ reply (makeStep (allParts turn (countsFor 0 0) rows queue items writes snapshots values stamps places outbox) size me start)) × (allParts (moved (r .change) turn) (r .reply .counts) (r .rows) queue′ items′ writes′ snapshots′ values′ stamps′ places′ outbox′ ≡ makeStep (allParts turn (countsFor 0 0) rows queue items writes snapshots values stamps places outbox) size me start .memory)
+abbrev pub MakeOn : List Txn → Turn → Counts → ℕ → ℕ → List ℤ → List ℕ → List ℕ → List ℤ → List ℤ → List ℤ → List ℕ → List ℕ → List ℕ → Made → List ℕ → List ℕ → List ℤ → List ℤ → List ℤ → List ℕ → List ℕ → List ℕ → Type 0
+MakeOn rows turn counts size me start queue items writes snapshots values stamps places outbox r queue′ items′ writes′ snapshots′ values′ stamps′ places′ outbox′ = Gives reply (makeStep (allParts turn counts rows queue items writes snapshots values stamps places outbox) size me start) (r .reply) (allParts (r .turn) (r .reply .counts) (r .rows) queue′ items′ writes′ snapshots′ values′ stamps′ places′ outbox′)
 
-abbrev pub MakeDid : List Txn → Turn → ℕ → ℕ → List ℤ → List ℕ → List ℕ → List ℤ → List ℤ → List ℤ → List ℕ → List ℕ → List ℕ → Reply → List Txn → Turn → List ℕ → List ℕ → List ℤ → List ℤ → List ℤ → List ℕ → List ℕ → List ℕ → Type 0
-MakeDid table turn size me start queue items writes snapshots values stamps places outbox r table′ turn′ queue′ items′ writes′ snapshots′ values′ stamps′ places′ outbox′ = (r ≡ reply (called (allParts turn (countsFor 0 0) table queue items writes snapshots values stamps places outbox) (makeStep (allParts turn (countsFor 0 0) table queue items writes snapshots values stamps places outbox) size me start))) × (allParts turn′ (r .counts) table′ queue′ items′ writes′ snapshots′ values′ stamps′ places′ outbox′ ≡ called (allParts turn (countsFor 0 0) table queue items writes snapshots values stamps places outbox) (makeStep (allParts turn (countsFor 0 0) table queue items writes snapshots values stamps places outbox) size me start) .memory)
+abbrev pub MakeDid : List Txn → Turn → Counts → ℕ → ℕ → List ℤ → List ℕ → List ℕ → List ℤ → List ℤ → List ℤ → List ℕ → List ℕ → List ℕ → Reply → List Txn → Turn → List ℕ → List ℕ → List ℤ → List ℤ → List ℤ → List ℕ → List ℕ → List ℕ → Type 0
+MakeDid table turn counts size me start queue items writes snapshots values stamps places outbox r table′ turn′ queue′ items′ writes′ snapshots′ values′ stamps′ places′ outbox′ = Gives reply (called (λ (x : Memory). makeStep x size me start) (allParts turn counts table queue items writes snapshots values stamps places outbox)) (r) (allParts turn′ (r .counts) table′ queue′ items′ writes′ snapshots′ values′ stamps′ places′ outbox′)
 
-pub make-not : (table : List Txn) (turn : Turn) (size : ℕ) (me : ℕ) (start : List ℤ) (queue : List ℕ) (items : List ℕ) (writes : List ℤ) (snapshots : List ℤ) (values : List ℤ) (stamps : List ℕ) (places : List ℕ) (outbox : List ℕ) → (length table ≡ 6 → ⊥) → MakeDid table turn size me start queue items writes snapshots values stamps places outbox (record { number = 1; counts = countsFor 0 0 }) table turn queue items writes snapshots values stamps places outbox
-make-not table turn size me start queue items writes snapshots values stamps places outbox other = rw (called-other (allParts turn (countsFor 0 0) table queue items writes snapshots values stamps places outbox) (makeStep (allParts turn (countsFor 0 0) table queue items writes snapshots values stamps places outbox) size me start) other) (refl, refl)
+pub make-not : (table : List Txn) (turn : Turn) (counts : Counts) (size : ℕ) (me : ℕ) (start : List ℤ) (queue : List ℕ) (items : List ℕ) (writes : List ℤ) (snapshots : List ℤ) (values : List ℤ) (stamps : List ℕ) (places : List ℕ) (outbox : List ℕ) → (length table ≡ 6 → ⊥) → MakeDid table turn counts size me start queue items writes snapshots values stamps places outbox (record { number = 1; counts = counts }) table turn queue items writes snapshots values stamps places outbox
+make-not table turn counts size me start queue items writes snapshots values stamps places outbox other = rw (called-other (λ (x : Memory). makeStep x size me start) (allParts turn counts table queue items writes snapshots values stamps places outbox) other) (refl, refl)
 
-pub make-did : (table : List Txn) (turn : Turn) (size : ℕ) (me : ℕ) (start : List ℤ) (queue : List ℕ) (items : List ℕ) (writes : List ℤ) (snapshots : List ℤ) (values : List ℤ) (stamps : List ℕ) (places : List ℕ) (outbox : List ℕ) (r : Made) (queue′ : List ℕ) (items′ : List ℕ) (writes′ : List ℤ) (snapshots′ : List ℤ) (values′ : List ℤ) (stamps′ : List ℕ) (places′ : List ℕ) (outbox′ : List ℕ) → length table ≡ 6 → MakeOn (loaded table) size me start queue items writes snapshots values stamps places outbox r queue′ items′ writes′ snapshots′ values′ stamps′ places′ outbox′
-    → MakeDid table turn size me start queue items writes snapshots values stamps places outbox (r .reply) (stored (r .rows) table) (moved (r .change) turn) queue′ items′ writes′ snapshots′ values′ stamps′ places′ outbox′
-make-did table turn size me start queue items writes snapshots values stamps places outbox r queue′ items′ writes′ snapshots′ values′ stamps′ places′ outbox′ six said =
-    let q = (rw (loaded-six table six) at said) turn in
-    (rw (called-six (allParts turn (countsFor 0 0) table queue items writes snapshots values stamps places outbox) (makeStep (allParts turn (countsFor 0 0) table queue items writes snapshots values stamps places outbox) size me start) six) (q .0), rw (called-six (allParts turn (countsFor 0 0) table queue items writes snapshots values stamps places outbox) (makeStep (allParts turn (countsFor 0 0) table queue items writes snapshots values stamps places outbox) size me start) six, stored-six (r .rows) table six) (q .1))
+pub make-did : (table : List Txn) (turn : Turn) (counts : Counts) (size : ℕ) (me : ℕ) (start : List ℤ) (queue : List ℕ) (items : List ℕ) (writes : List ℤ) (snapshots : List ℤ) (values : List ℤ) (stamps : List ℕ) (places : List ℕ) (outbox : List ℕ) (r : Made) (queue′ : List ℕ) (items′ : List ℕ) (writes′ : List ℤ) (snapshots′ : List ℤ) (values′ : List ℤ) (stamps′ : List ℕ) (places′ : List ℕ) (outbox′ : List ℕ) → length table ≡ 6 → MakeOn (loaded table) turn counts size me start queue items writes snapshots values stamps places outbox r queue′ items′ writes′ snapshots′ values′ stamps′ places′ outbox′
+    → MakeDid table turn counts size me start queue items writes snapshots values stamps places outbox (r .reply) (stored (r .rows) table) (r .turn) queue′ items′ writes′ snapshots′ values′ stamps′ places′ outbox′
+make-did table turn counts size me start queue items writes snapshots values stamps places outbox r queue′ items′ writes′ snapshots′ values′ stamps′ places′ outbox′ six said =
+    let q = (rw (loaded-six table six) at said) in
+    rw (called-six (λ (x : Memory). makeStep x size me start) (allParts turn counts table queue items writes snapshots values stamps places outbox) six, stored-six (r .rows) table six) q
 
 abbrev pub SendOn : List Txn → Turn → Counts → List ℕ → List ℕ → List ℤ → List ℕ → List ℕ → Sent → List ℕ → List ℕ → List ℕ → Type 0
-SendOn rows turn counts queue items writes outbox block r queue′ outbox′ block′ = (m : Memory) → (r .number ≡ number (sendStep (sendParts m turn counts rows queue items writes outbox) block)) × (sendParts m (moved (r .change) turn) counts (r .rows) queue′ items writes outbox′ ≡ sendStep (sendParts m turn counts rows queue items writes outbox) block .memory) × (block′ ≡ blockLeft (sendStep (sendParts m turn counts rows queue items writes outbox) block .answer) block)
+SendOn rows turn counts queue items writes outbox block r queue′ outbox′ block′ = (m : Memory) → GivesBlock (sendStep (sendParts m turn counts rows queue items writes outbox) block) block (r .number) (sendParts m (r .turn) counts (r .rows) queue′ items writes outbox′) block′
 
 abbrev pub SendDid : List Txn → Turn → Counts → List ℕ → List ℕ → List ℤ → List ℕ → List ℕ → ℕ → List Txn → Turn → List ℕ → List ℕ → List ℕ → Type 0
-SendDid table turn counts queue items writes outbox block r table′ turn′ queue′ outbox′ block′ = (m : Memory) → (r ≡ number (called (sendParts m turn counts table queue items writes outbox) (sendStep (sendParts m turn counts table queue items writes outbox) block))) × (sendParts m turn′ counts table′ queue′ items writes outbox′ ≡ called (sendParts m turn counts table queue items writes outbox) (sendStep (sendParts m turn counts table queue items writes outbox) block) .memory) × (block′ ≡ blockLeft (called (sendParts m turn counts table queue items writes outbox) (sendStep (sendParts m turn counts table queue items writes outbox) block) .answer) block)
+SendDid table turn counts queue items writes outbox block r table′ turn′ queue′ outbox′ block′ = (m : Memory) → GivesBlock (called (λ (x : Memory). sendStep x block) (sendParts m turn counts table queue items writes outbox)) block (r) (sendParts m turn′ counts table′ queue′ items writes outbox′) block′
 
 pub send-not : (table : List Txn) (turn : Turn) (counts : Counts) (queue : List ℕ) (items : List ℕ) (writes : List ℤ) (outbox : List ℕ) (block : List ℕ) → (length table ≡ 6 → ⊥) → SendDid table turn counts queue items writes outbox block (1) table turn queue outbox block
-send-not table turn counts queue items writes outbox block other = λ m. rw (called-other (sendParts m turn counts table queue items writes outbox) (sendStep (sendParts m turn counts table queue items writes outbox) block) other) (refl, refl, refl)
+send-not table turn counts queue items writes outbox block other = λ m. rw (called-other (λ (x : Memory). sendStep x block) (sendParts m turn counts table queue items writes outbox) other) ((refl, refl), refl)
 
 pub send-did : (table : List Txn) (turn : Turn) (counts : Counts) (queue : List ℕ) (items : List ℕ) (writes : List ℤ) (outbox : List ℕ) (block : List ℕ) (r : Sent) (queue′ : List ℕ) (outbox′ : List ℕ) (block′ : List ℕ) → length table ≡ 6 → SendOn (loaded table) turn counts queue items writes outbox block r queue′ outbox′ block′
-    → SendDid table turn counts queue items writes outbox block (r .number) (stored (r .rows) table) (moved (r .change) turn) queue′ outbox′ block′
+    → SendDid table turn counts queue items writes outbox block (r .number) (stored (r .rows) table) (r .turn) queue′ outbox′ block′
 send-did table turn counts queue items writes outbox block r queue′ outbox′ block′ six said = λ m.
     let q = (rw (loaded-six table six) at said) m in
-    (rw (called-six (sendParts m turn counts table queue items writes outbox) (sendStep (sendParts m turn counts table queue items writes outbox) block) six) (q .0), rw (called-six (sendParts m turn counts table queue items writes outbox) (sendStep (sendParts m turn counts table queue items writes outbox) block) six, stored-six (r .rows) table six) (q .1), rw (called-six (sendParts m turn counts table queue items writes outbox) (sendStep (sendParts m turn counts table queue items writes outbox) block) six) (q .2))
+    rw (called-six (λ (x : Memory). sendStep x block) (sendParts m turn counts table queue items writes outbox) six, stored-six (r .rows) table six) q
 
 abbrev pub WorkOn : List Txn → Turn → Counts → List ℕ → List ℕ → List ℤ → List ℕ → List ℕ → Worked → List ℕ → List ℤ → List ℕ → List ℕ → Type 0
-WorkOn rows turn counts queue items values stamps places r queue′ values′ stamps′ places′ = (m : Memory) → (r .reply ≡ workReply (workStep (workParts m turn counts rows queue items values stamps places))) × (workParts m (moved (r .change) turn) (r .reply .counts) (r .rows) queue′ items values′ stamps′ places′ ≡ workStep (workParts m turn counts rows queue items values stamps places) .memory)
+WorkOn rows turn counts queue items values stamps places r queue′ values′ stamps′ places′ = (m : Memory) → Gives workReply (workStep (workParts m turn counts rows queue items values stamps places)) (r .reply) (workParts m (r .turn) (r .reply .counts) (r .rows) queue′ items values′ stamps′ places′)
 
 abbrev pub WorkDid : List Txn → Turn → Counts → List ℕ → List ℕ → List ℤ → List ℕ → List ℕ → WorkReply → List Txn → Turn → List ℕ → List ℤ → List ℕ → List ℕ → Type 0
-WorkDid table turn counts queue items values stamps places r table′ turn′ queue′ values′ stamps′ places′ = (m : Memory) → (r ≡ workReply (called (workParts m turn counts table queue items values stamps places) (workStep (workParts m turn counts table queue items values stamps places)))) × (workParts m turn′ (r .counts) table′ queue′ items values′ stamps′ places′ ≡ called (workParts m turn counts table queue items values stamps places) (workStep (workParts m turn counts table queue items values stamps places)) .memory)
+WorkDid table turn counts queue items values stamps places r table′ turn′ queue′ values′ stamps′ places′ = (m : Memory) → Gives workReply (called (λ (x : Memory). workStep x) (workParts m turn counts table queue items values stamps places)) (r) (workParts m turn′ (r .counts) table′ queue′ items values′ stamps′ places′)
 
 pub work-not : (table : List Txn) (turn : Turn) (counts : Counts) (queue : List ℕ) (items : List ℕ) (values : List ℤ) (stamps : List ℕ) (places : List ℕ) → (length table ≡ 6 → ⊥) → WorkDid table turn counts queue items values stamps places (record { number = 1; sender = 0; moved = false; count = 0; ticket = 0; aborted = replicate 6 0; counts = counts }) table turn queue values stamps places
-work-not table turn counts queue items values stamps places other = λ m. rw (called-other (workParts m turn counts table queue items values stamps places) (workStep (workParts m turn counts table queue items values stamps places)) other) (refl, refl)
+work-not table turn counts queue items values stamps places other = λ m. rw (called-other (λ (x : Memory). workStep x) (workParts m turn counts table queue items values stamps places) other) (refl, refl)
 
 pub work-did : (table : List Txn) (turn : Turn) (counts : Counts) (queue : List ℕ) (items : List ℕ) (values : List ℤ) (stamps : List ℕ) (places : List ℕ) (r : Worked) (queue′ : List ℕ) (values′ : List ℤ) (stamps′ : List ℕ) (places′ : List ℕ) → length table ≡ 6 → WorkOn (loaded table) turn counts queue items values stamps places r queue′ values′ stamps′ places′
-    → WorkDid table turn counts queue items values stamps places (r .reply) (stored (r .rows) table) (moved (r .change) turn) queue′ values′ stamps′ places′
+    → WorkDid table turn counts queue items values stamps places (r .reply) (stored (r .rows) table) (r .turn) queue′ values′ stamps′ places′
 work-did table turn counts queue items values stamps places r queue′ values′ stamps′ places′ six said = λ m.
     let q = (rw (loaded-six table six) at said) m in
-    (rw (called-six (workParts m turn counts table queue items values stamps places) (workStep (workParts m turn counts table queue items values stamps places)) six) (q .0), rw (called-six (workParts m turn counts table queue items values stamps places) (workStep (workParts m turn counts table queue items values stamps places)) six, stored-six (r .rows) table six) (q .1))
+    rw (called-six (λ (x : Memory). workStep x) (workParts m turn counts table queue items values stamps places) six, stored-six (r .rows) table six) q
 
 abbrev pub DeliverOn : Turn → Counts → List ℕ → List ℕ → List ℕ → ℕ → List ℕ → Type 0
-DeliverOn turn counts places outbox bytes r places′ = (m : Memory) → (r ≡ number (deliverStep (deliverParts m turn counts places outbox) bytes)) × (deliverParts m turn counts places′ outbox ≡ deliverStep (deliverParts m turn counts places outbox) bytes .memory)
+DeliverOn turn counts places outbox bytes r places′ = (m : Memory) → Gives number (deliverStep (deliverParts m turn counts places outbox) bytes) r (deliverParts m turn counts places′ outbox)

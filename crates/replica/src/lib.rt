@@ -1,56 +1,53 @@
 // The interface that a host program uses: the ten calls of document 01, with the table lent as a slice of records and the turn behind a reference. Each takes the lent
-// parts apart, makes the engine's call, and puts back what changed; its contract is the equation with the engine's step.
+// parts apart, makes the call by value, and puts back what changed. Its contract: what the call gives is what the engine's step gives, on every memory with the lent parts.
 ghost use mathlib.Core.Path.{_≡_};
 ghost use Rattle.memory.specs.Memory.{Memory};
-ghost use Rattle.engine.specs.Make.{countsFor, makeStep};
+ghost use Rattle.engine.specs.Make.{makeStep};
 ghost use Rattle.engine.specs.Client.{beginStep, readStep, writeStep, askStep, withdrawStep, reportStep};
 ghost use Rattle.engine.specs.Moves.{sendStep, deliverStep, workStep};
-ghost use Rattle.client.specs.Lent.{allParts, beginParts, readParts, writeParts, askParts, withdrawParts, reportParts};
-ghost use Rattle.sending.specs.Lent.{sendParts, blockLeft};
-ghost use Rattle.delivering.specs.Lent.{deliverParts};
-ghost use Rattle.working.specs.Lent.{workParts};
-ghost use Rattle.calls.specs.Replies.{number, reply, beginReply, readReply, askReply, reportReply, workReply};
-ghost use Rattle.replica.specs.Called.{called};
-use calls::AskReply;
-use calls::BeginReply;
-use calls::ReadReply;
-use calls::Reply;
-use calls::ReportReply;
-use calls::WorkReply;
-use calls::client_calls::ask_on;
-use calls::client_calls::begin_on;
-use calls::client_calls::read_on;
-use calls::client_calls::report_on;
-use calls::client_calls::withdraw_on;
-use calls::client_calls::write_on;
-use calls::replies::no_ask;
-use calls::replies::no_begin;
-use calls::replies::no_read;
-use calls::replies::no_report;
-use calls::replies::no_work;
-use calls::replies::replied;
-use lent::copy_turn;
-use lent::end;
-use lent::find;
-use lent::load;
-use lent::move_turn;
-use lent::put;
-use lent::row;
-use lent::scan;
-use lent::store;
+ghost use Rattle.call_reply.specs.Parts.{allParts, beginParts, readParts, writeParts, askParts, withdrawParts, reportParts, sendParts, deliverParts, workParts};
+ghost use Rattle.call_reply.specs.Replies.{number, reply, beginReply, readReply, askReply, reportReply, workReply, Gives, GivesBlock};
+ghost use Rattle.call_reply.specs.Called.{called};
+use call_client::ask;
+use call_client::begin;
+use call_client::read;
+use call_client::report;
+use call_client::withdraw;
+use call_deliver::deliver;
+use call_make::make;
+use call_reply::AskReply;
+use call_reply::BeginReply;
+use call_reply::ReadReply;
+use call_reply::Reply;
+use call_reply::ReportReply;
+use call_reply::WorkReply;
+use call_reply::replies::no_ask;
+use call_reply::replies::no_begin;
+use call_reply::replies::no_read;
+use call_reply::replies::no_report;
+use call_reply::replies::no_work;
+use call_reply::replies::replied;
+use call_send::send;
+use call_work::work;
+use call_write::write;
+use host_table::copy_turn;
+use host_table::end;
+use host_table::find;
+use host_table::load;
+use host_table::put;
+use host_table::row;
+use host_table::scan;
+use host_table::set_turn;
+use host_table::store;
 use memory::Counts;
 use memory::Turn;
 use memory::Txn;
-use turn_calls::deliver_on;
-use turn_calls::make_on;
-use turn_calls::not_made;
-use turn_calls::send_on;
-use turn_calls::work_on;
 
 #[no_mangle]
 pub extern "C" fn stemline_make(
     table: &mut [Txn],
     turn: &mut Turn,
+    counts: Counts,
     n: u32,
     own: u32,
     start: &[i32],
@@ -63,14 +60,21 @@ pub extern "C" fn stemline_make(
     places: &mut [u8],
     outbox: &mut [u8],
 ) -> Reply
-    ensures { λ r. ⌜ (r ≡ reply (called (allParts (now (turn .entry)) (countsFor 0 0) (now (table .entry)) (now (queue .entry)) (now (items .entry)) (now (writes .entry)) (now (snapshots .entry)) (now (values .entry)) (now (stamps .entry)) (now (places .entry)) (now (outbox .entry))) (makeStep (allParts (now (turn .entry)) (countsFor 0 0) (now (table .entry)) (now (queue .entry)) (now (items .entry)) (now (writes .entry)) (now (snapshots .entry)) (now (values .entry)) (now (stamps .entry)) (now (places .entry)) (now (outbox .entry))) n own (now (start .entry))))) × (allParts (now (turn .exit)) (r .counts) (now (table .exit)) (now (queue .exit)) (now (items .exit)) (now (writes .exit)) (now (snapshots .exit)) (now (values .exit)) (now (stamps .exit)) (now (places .exit)) (now (outbox .exit)) ≡ called (allParts (now (turn .entry)) (countsFor 0 0) (now (table .entry)) (now (queue .entry)) (now (items .entry)) (now (writes .entry)) (now (snapshots .entry)) (now (values .entry)) (now (stamps .entry)) (now (places .entry)) (now (outbox .entry))) (makeStep (allParts (now (turn .entry)) (countsFor 0 0) (now (table .entry)) (now (queue .entry)) (now (items .entry)) (now (writes .entry)) (now (snapshots .entry)) (now (values .entry)) (now (stamps .entry)) (now (places .entry)) (now (outbox .entry))) n own (now (start .entry))) .memory) ⌝ }
+    ensures { λ r. ⌜ (Gives reply
+        (called (λ x. makeStep x n own (now (start .entry)))
+        (allParts (now (turn .entry)) counts (now (table .entry)) (now (queue .entry)) (now (items .entry)) (now (writes .entry)) (now (snapshots .entry)) (now (values .entry)) (now (stamps .entry)) (now (places .entry)) (now (outbox .entry))))
+        r
+        (allParts (now (turn .exit)) (r .counts) (now (table .exit)) (now (queue .exit)) (now (items .exit)) (now (writes .exit)) (now (snapshots .exit)) (now (values .exit)) (now (stamps .exit)) (now (places .exit)) (now (outbox .exit)))) ⌝ }
 {
     if table.len() != 6 {
-        return not_made(1);
+        return replied(1, counts);
     }
     let rows = load(table);
-    let done = make_on(
+    let now = copy_turn(turn);
+    let done = make(
         rows,
+        now,
+        counts,
         n,
         own,
         start,
@@ -84,7 +88,7 @@ pub extern "C" fn stemline_make(
         outbox,
     );
     store(table, done.rows);
-    move_turn(turn, done.change);
+    set_turn(turn, done.turn);
     done.reply
 }
 
@@ -95,14 +99,18 @@ pub extern "C" fn stemline_begin(
     values: &[i32],
     snapshots: &mut [i32],
 ) -> BeginReply
-    ensures { λ r. ⌜ ((m : Memory) → (r ≡ beginReply (called (beginParts m (now (table .entry)) counts (now (values .entry)) (now (snapshots .entry))) (beginStep (beginParts m (now (table .entry)) counts (now (values .entry)) (now (snapshots .entry)))))) × (beginParts m (now (table .exit)) (r .counts) (now (values .entry)) (now (snapshots .exit)) ≡ called (beginParts m (now (table .entry)) counts (now (values .entry)) (now (snapshots .entry))) (beginStep (beginParts m (now (table .entry)) counts (now (values .entry)) (now (snapshots .entry)))) .memory)) ⌝ }
+    ensures { λ r. ⌜ ((m : Memory) → Gives beginReply
+        (called beginStep
+        (beginParts m (now (table .entry)) counts (now (values .entry)) (now (snapshots .entry))))
+        r
+        (beginParts m (now (table .exit)) (r .counts) (now (values .entry)) (now (snapshots .exit)))) ⌝ }
 {
     if table.len() != 6 {
         return no_begin(1, counts);
     }
     let at = scan(table, 0);
     let t = row(table, at);
-    let done = begin_on(at, t, counts, values, snapshots);
+    let done = begin(at, t, counts, values, snapshots);
     put(table, at, done.row);
     done.reply
 }
@@ -116,14 +124,18 @@ pub extern "C" fn stemline_read(
     snapshots: &[i32],
     item: u32,
 ) -> ReadReply
-    ensures { λ r. ⌜ ((m : Memory) → (r ≡ readReply (called (readParts m (now (table .entry)) (now (items .entry)) (now (writes .entry)) (now (snapshots .entry))) (readStep (readParts m (now (table .entry)) (now (items .entry)) (now (writes .entry)) (now (snapshots .entry))) ticket item))) × (readParts m (now (table .entry)) (now (items .entry)) (now (writes .entry)) (now (snapshots .entry)) ≡ called (readParts m (now (table .entry)) (now (items .entry)) (now (writes .entry)) (now (snapshots .entry))) (readStep (readParts m (now (table .entry)) (now (items .entry)) (now (writes .entry)) (now (snapshots .entry))) ticket item) .memory)) ⌝ }
+    ensures { λ r. ⌜ ((m : Memory) → Gives readReply
+        (called (λ x. readStep x ticket item)
+        (readParts m (now (table .entry)) (now (items .entry)) (now (writes .entry)) (now (snapshots .entry))))
+        r
+        (readParts m (now (table .entry)) (now (items .entry)) (now (writes .entry)) (now (snapshots .entry)))) ⌝ }
 {
     if table.len() != 6 {
         return no_read(1);
     }
     let at = find(table, ticket);
     let t = row(table, at);
-    read_on(at, t, items, writes, snapshots, item)
+    read(at, t, items, writes, snapshots, item)
 }
 
 #[no_mangle]
@@ -138,7 +150,11 @@ pub extern "C" fn stemline_write(
     item: u32,
     value: i32,
 ) -> Reply
-    ensures { λ r. ⌜ ((m : Memory) → (r ≡ reply (called (writeParts m (now (turn .entry)) counts (now (table .entry)) (now (items .entry)) (now (writes .entry)) (now (stamps .entry))) (writeStep (writeParts m (now (turn .entry)) counts (now (table .entry)) (now (items .entry)) (now (writes .entry)) (now (stamps .entry))) ticket item value))) × (writeParts m (now (turn .entry)) (r .counts) (now (table .exit)) (now (items .exit)) (now (writes .exit)) (now (stamps .entry)) ≡ called (writeParts m (now (turn .entry)) counts (now (table .entry)) (now (items .entry)) (now (writes .entry)) (now (stamps .entry))) (writeStep (writeParts m (now (turn .entry)) counts (now (table .entry)) (now (items .entry)) (now (writes .entry)) (now (stamps .entry))) ticket item value) .memory)) ⌝ }
+    ensures { λ r. ⌜ ((m : Memory) → Gives reply
+        (called (λ x. writeStep x ticket item value)
+        (writeParts m (now (turn .entry)) counts (now (table .entry)) (now (items .entry)) (now (writes .entry)) (now (stamps .entry))))
+        r
+        (writeParts m (now (turn .entry)) (r .counts) (now (table .exit)) (now (items .exit)) (now (writes .exit)) (now (stamps .entry)))) ⌝ }
 {
     if table.len() != 6 {
         return replied(1, counts);
@@ -146,7 +162,7 @@ pub extern "C" fn stemline_write(
     let at = find(table, ticket);
     let rows = load(table);
     let now = copy_turn(turn);
-    let done = write_on(at, rows, now, counts, items, writes, stamps, item, value);
+    let done = write(at, rows, now, counts, items, writes, stamps, item, value);
     put(table, at, done.row);
     done.reply
 }
@@ -158,28 +174,36 @@ pub extern "C" fn stemline_ask(
     counts: Counts,
     queue: &mut [u32],
 ) -> AskReply
-    ensures { λ r. ⌜ ((m : Memory) → (r ≡ askReply (called (askParts m counts (now (table .entry)) (now (queue .entry))) (askStep (askParts m counts (now (table .entry)) (now (queue .entry))) ticket))) × (askParts m (r .counts) (now (table .exit)) (now (queue .exit)) ≡ called (askParts m counts (now (table .entry)) (now (queue .entry))) (askStep (askParts m counts (now (table .entry)) (now (queue .entry))) ticket) .memory)) ⌝ }
+    ensures { λ r. ⌜ ((m : Memory) → Gives askReply
+        (called (λ x. askStep x ticket)
+        (askParts m counts (now (table .entry)) (now (queue .entry))))
+        r
+        (askParts m (r .counts) (now (table .exit)) (now (queue .exit)))) ⌝ }
 {
     if table.len() != 6 {
         return no_ask(1, counts);
     }
     let at = find(table, ticket);
     let t = row(table, at);
-    let done = ask_on(at, t, counts, queue);
+    let done = ask(at, t, counts, queue);
     put(table, at, done.row);
     done.reply
 }
 
 #[no_mangle]
 pub extern "C" fn stemline_withdraw(table: &mut [Txn], ticket: u32, counts: Counts) -> Reply
-    ensures { λ r. ⌜ ((m : Memory) → (r ≡ reply (called (withdrawParts m counts (now (table .entry))) (withdrawStep (withdrawParts m counts (now (table .entry))) ticket))) × (withdrawParts m (r .counts) (now (table .exit)) ≡ called (withdrawParts m counts (now (table .entry))) (withdrawStep (withdrawParts m counts (now (table .entry))) ticket) .memory)) ⌝ }
+    ensures { λ r. ⌜ ((m : Memory) → Gives reply
+        (called (λ x. withdrawStep x ticket)
+        (withdrawParts m counts (now (table .entry))))
+        r
+        (withdrawParts m (r .counts) (now (table .exit)))) ⌝ }
 {
     if table.len() != 6 {
         return replied(1, counts);
     }
     let at = find(table, ticket);
     let t = row(table, at);
-    let done = withdraw_on(at, t, counts);
+    let done = withdraw(at, t, counts);
     let reply = done.reply;
     if reply.number != 0 {
         return reply;
@@ -190,14 +214,18 @@ pub extern "C" fn stemline_withdraw(table: &mut [Txn], ticket: u32, counts: Coun
 
 #[no_mangle]
 pub extern "C" fn stemline_report(table: &[Txn], turn: &Turn, counts: Counts) -> ReportReply
-    ensures { λ r. ⌜ ((m : Memory) → (r ≡ reportReply (called (reportParts m (now (turn .entry)) counts (now (table .entry))) (reportStep (reportParts m (now (turn .entry)) counts (now (table .entry)))))) × (reportParts m (now (turn .entry)) counts (now (table .entry)) ≡ called (reportParts m (now (turn .entry)) counts (now (table .entry))) (reportStep (reportParts m (now (turn .entry)) counts (now (table .entry)))) .memory)) ⌝ }
+    ensures { λ r. ⌜ ((m : Memory) → Gives reportReply
+        (called reportStep
+        (reportParts m (now (turn .entry)) counts (now (table .entry))))
+        r
+        (reportParts m (now (turn .entry)) counts (now (table .entry)))) ⌝ }
 {
     if table.len() != 6 {
         return no_report(1);
     }
     let rows = load(table);
     let now = copy_turn(turn);
-    report_on(rows, now, counts)
+    report(rows, now, counts)
 }
 
 #[no_mangle]
@@ -211,16 +239,22 @@ pub extern "C" fn stemline_send(
     outbox: &mut [u8],
     block: &mut [u8],
 ) -> u8
-    ensures { λ r. ⌜ ((m : Memory) → (r ≡ number (called (sendParts m (now (turn .entry)) counts (now (table .entry)) (now (queue .entry)) (now (items .entry)) (now (writes .entry)) (now (outbox .entry))) (sendStep (sendParts m (now (turn .entry)) counts (now (table .entry)) (now (queue .entry)) (now (items .entry)) (now (writes .entry)) (now (outbox .entry))) (now (block .entry))))) × (sendParts m (now (turn .exit)) counts (now (table .exit)) (now (queue .exit)) (now (items .entry)) (now (writes .entry)) (now (outbox .exit)) ≡ called (sendParts m (now (turn .entry)) counts (now (table .entry)) (now (queue .entry)) (now (items .entry)) (now (writes .entry)) (now (outbox .entry))) (sendStep (sendParts m (now (turn .entry)) counts (now (table .entry)) (now (queue .entry)) (now (items .entry)) (now (writes .entry)) (now (outbox .entry))) (now (block .entry))) .memory) × (now (block .exit) ≡ blockLeft (called (sendParts m (now (turn .entry)) counts (now (table .entry)) (now (queue .entry)) (now (items .entry)) (now (writes .entry)) (now (outbox .entry))) (sendStep (sendParts m (now (turn .entry)) counts (now (table .entry)) (now (queue .entry)) (now (items .entry)) (now (writes .entry)) (now (outbox .entry))) (now (block .entry))) .answer) (now (block .entry)))) ⌝ }
+    ensures { λ r. ⌜ ((m : Memory) → GivesBlock
+        (called (λ x. sendStep x (now (block .entry)))
+        (sendParts m (now (turn .entry)) counts (now (table .entry)) (now (queue .entry)) (now (items .entry)) (now (writes .entry)) (now (outbox .entry))))
+        (now (block .entry))
+        r
+        (sendParts m (now (turn .exit)) counts (now (table .exit)) (now (queue .exit)) (now (items .entry)) (now (writes .entry)) (now (outbox .exit)))
+        (now (block .exit))) ⌝ }
 {
     if table.len() != 6 {
         return 1;
     }
     let rows = load(table);
     let now = copy_turn(turn);
-    let done = send_on(rows, now, counts, queue, items, writes, outbox, block);
+    let done = send(rows, now, counts, queue, items, writes, outbox, block);
     store(table, done.rows);
-    move_turn(turn, done.change);
+    set_turn(turn, done.turn);
     done.number
 }
 
@@ -232,10 +266,15 @@ pub extern "C" fn stemline_deliver(
     outbox: &[u8],
     bytes: &[u8],
 ) -> u8
-    ensures { λ r. ⌜ ((m : Memory) → (r ≡ number (deliverStep (deliverParts m (now (turn .entry)) counts (now (places .entry)) (now (outbox .entry))) (now (bytes .entry)))) × (deliverParts m (now (turn .entry)) counts (now (places .exit)) (now (outbox .entry)) ≡ deliverStep (deliverParts m (now (turn .entry)) counts (now (places .entry)) (now (outbox .entry))) (now (bytes .entry)) .memory)) ⌝ }
+    ensures { λ r. ⌜ ((m : Memory) → Gives number
+        (deliverStep
+        (deliverParts m (now (turn .entry)) counts (now (places .entry)) (now (outbox .entry)))
+        (now (bytes .entry)))
+        r
+        (deliverParts m (now (turn .entry)) counts (now (places .exit)) (now (outbox .entry)))) ⌝ }
 {
     let now = copy_turn(turn);
-    deliver_on(now, counts, places, outbox, bytes)
+    deliver(now, counts, places, outbox, bytes)
 }
 
 #[no_mangle]
@@ -249,15 +288,19 @@ pub extern "C" fn stemline_work(
     stamps: &mut [u32],
     places: &mut [u8],
 ) -> WorkReply
-    ensures { λ r. ⌜ ((m : Memory) → (r ≡ workReply (called (workParts m (now (turn .entry)) counts (now (table .entry)) (now (queue .entry)) (now (items .entry)) (now (values .entry)) (now (stamps .entry)) (now (places .entry))) (workStep (workParts m (now (turn .entry)) counts (now (table .entry)) (now (queue .entry)) (now (items .entry)) (now (values .entry)) (now (stamps .entry)) (now (places .entry)))))) × (workParts m (now (turn .exit)) (r .counts) (now (table .exit)) (now (queue .exit)) (now (items .entry)) (now (values .exit)) (now (stamps .exit)) (now (places .exit)) ≡ called (workParts m (now (turn .entry)) counts (now (table .entry)) (now (queue .entry)) (now (items .entry)) (now (values .entry)) (now (stamps .entry)) (now (places .entry))) (workStep (workParts m (now (turn .entry)) counts (now (table .entry)) (now (queue .entry)) (now (items .entry)) (now (values .entry)) (now (stamps .entry)) (now (places .entry)))) .memory)) ⌝ }
+    ensures { λ r. ⌜ ((m : Memory) → Gives workReply
+        (called workStep
+        (workParts m (now (turn .entry)) counts (now (table .entry)) (now (queue .entry)) (now (items .entry)) (now (values .entry)) (now (stamps .entry)) (now (places .entry))))
+        r
+        (workParts m (now (turn .exit)) (r .counts) (now (table .exit)) (now (queue .exit)) (now (items .entry)) (now (values .exit)) (now (stamps .exit)) (now (places .exit)))) ⌝ }
 {
     if table.len() != 6 {
         return no_work(1, counts);
     }
     let rows = load(table);
     let now = copy_turn(turn);
-    let done = work_on(rows, now, counts, queue, items, values, stamps, places);
+    let done = work(rows, now, counts, queue, items, values, stamps, places);
     store(table, done.rows);
-    move_turn(turn, done.change);
+    set_turn(turn, done.turn);
     done.reply
 }

@@ -4,7 +4,7 @@ use std::hint::black_box;
 
 use bench::plain;
 use bench::timing::{self, Case, Side, ROUNDS};
-use model::block::{self, Message, BLOCK};
+use model::block::{self, Message, BLOCK, ENTRY, HEADER, RECORD, RECORD_HEAD};
 use model::replica as second;
 use model::samples::{self, Random};
 
@@ -100,13 +100,26 @@ pub fn run() {
             block
         })
         .collect();
-    agree(&blocks, &damaged);
+    // The last record's last item out of range: the form is looked through to its end.
+    let ill_formed: Vec<[u8; BLOCK]> = (0..16)
+        .map(|_| {
+            let mut block = full_block(&mut random, 1);
+            block[HEADER + 5 * RECORD + RECORD_HEAD + 7 * ENTRY] = 128;
+            block::put_check(&mut block);
+            block
+        })
+        .collect();
+    let nexts: Vec<[u8; BLOCK]> = (0..6).map(|slot| samples::block_of(6, slot, &[])).collect();
+    agree(&blocks, &[(&damaged, 14), (&ill_formed, 15)]);
+    agree(&nexts, &[]);
 
     let mut cases = [
         case!("local transaction", local()),
         case!("round of three replicas", round()),
         case!("deliver a full block", deliver(&blocks)),
+        case!("deliver a next", deliver(&nexts)),
         case!("refuse a damaged block (14)", refuse(&damaged)),
+        case!("refuse an ill-formed block (15)", refuse(&ill_formed)),
         case!("  begin", begin()),
         case!("  read", read()),
         case!("  write", write()),
@@ -308,7 +321,7 @@ fn one_round<R: Replica>(group: &mut [R; 3]) {
 }
 
 /// Times mean nothing unless all do the same: stops where they differ.
-fn agree(blocks: &[[u8; BLOCK]], damaged: &[[u8; BLOCK]]) {
+fn agree(blocks: &[[u8; BLOCK]], refused: &[(&[[u8; BLOCK]], u8)]) {
     type Sides = (stemline::Replica, plain::Replica, second::Replica);
     fn each<T: PartialEq + std::fmt::Debug>(library: T, plain: T, model: T) -> T {
         assert_eq!(library, plain);
@@ -329,9 +342,12 @@ fn agree(blocks: &[[u8; BLOCK]], damaged: &[[u8; BLOCK]]) {
         assert_eq!(a.deliver(block), Ok(()));
         assert_eq!((b.deliver(block), c.deliver(block)), (Ok(()), Ok(())));
     }
-    for block in damaged {
-        assert_eq!(a.deliver(block), Err(stemline::Refusal::WrongCheck));
-        assert_eq!((b.deliver(block), c.deliver(block)), (Err(14), Err(14)));
+    for &(blocks, number) in refused {
+        for block in blocks {
+            assert_eq!(a.deliver(block).map_err(|r| r.number()), Err(number));
+            assert_eq!(b.deliver(block), Err(number));
+            assert_eq!(c.deliver(block), Err(number));
+        }
     }
     let mut first: [stemline::Replica; 3] = [0, 1, 2].map(|own| Replica::make(3, own));
     let mut third: [second::Replica; 3] = [0, 1, 2].map(|own| Replica::make(3, own));

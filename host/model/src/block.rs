@@ -142,27 +142,6 @@ pub fn encode_records<E>(
     put_check(block);
 }
 
-/// As [`encode_into`], from arrays: record j has `tickets[j]` and the first `writes[j]` of the
-/// eight items and values from 8·j on. A count above 6 is taken as 6, a number of writes above 8
-/// as 8.
-pub fn encode_arrays(
-    header: &Header,
-    tickets: &[u32; RECORDS],
-    writes: &[u8; RECORDS],
-    items: &[u8; RECORDS * ENTRIES],
-    values: &[i32; RECORDS * ENTRIES],
-    block: &mut [u8; BLOCK],
-) {
-    let count = header.count.min(RECORDS as u8);
-    let records = (0..usize::from(count)).map(|j| {
-        let writes = usize::from(writes[j]).min(ENTRIES);
-        let items = items[j * ENTRIES..][..writes].iter().copied();
-        let values = values[j * ENTRIES..][..writes].iter().copied();
-        (tickets[j], items.zip(values))
-    });
-    encode_records(&Header { count, ..*header }, records, block);
-}
-
 /// The message of a block, or why it is refused. See [`read`].
 pub fn decode(bytes: &[u8]) -> Result<Message, u8> {
     let header = read(bytes)?;

@@ -1,16 +1,22 @@
-//! The stored input and output of the program `replay`: the model writes the same.
+//! The stored input and output of the program `replay`: the model writes the same. And the list that
+//! `scripts/story` plays.
 
 use std::collections::BTreeMap;
 use std::path::Path;
 
-use model::replay::{self, PLACES};
+use model::replay::{self, Replay, PLACES};
 use model::workload;
 
-fn stored(file: &str) -> Vec<u8> {
+/// A file of the repository.
+fn file(name: &str) -> Vec<u8> {
     let path = Path::new(env!("CARGO_MANIFEST_DIR"))
-        .join("../../crates/replay")
-        .join(file);
+        .join("../..")
+        .join(name);
     std::fs::read(&path).unwrap_or_else(|error| panic!("{}: {error}", path.display()))
+}
+
+fn stored(name: &str) -> Vec<u8> {
+    file(&format!("crates/replay/{name}"))
 }
 
 /// That a stored file has this text. A difference is named by its first line.
@@ -120,4 +126,31 @@ fn totals_of_the_stored_list() {
         totals.aborted > 500 && totals.refused[&9] > 200,
         "{totals:?}"
     );
+}
+
+/// The story shows what it says: a block before its turn, one with a flipped bit, a stale write and an
+/// abort; and in the end the three replicas are at one turn with the same values.
+#[test]
+fn the_story() {
+    let text = String::from_utf8(file("examples/story.calls")).unwrap();
+    let calls: Vec<&str> = text.lines().filter(|line| !line.starts_with('#')).collect();
+    let input = calls.join("\n").into_bytes();
+    let totals = totals(&input, &output(&input));
+    assert_eq!((totals.calls, totals.rejected), (calls.len(), 0));
+    let refused: Vec<(u32, usize)> = totals.refused.into_iter().collect();
+    assert_eq!(refused, [(9, 1), (14, 1), (21, 2)]);
+    assert_eq!((totals.sent, totals.own, totals.committed), (6, 6, 18));
+    assert_eq!(totals.aborted, 1);
+
+    let mut replay = Replay::default();
+    for call in calls {
+        replay.answer(call.as_bytes());
+    }
+    let replicas = [0, 1, 2].map(|place| replay.replica(place).unwrap());
+    for replica in replicas {
+        assert_eq!(replica.values(), replicas[0].values());
+        assert_eq!([5, 10, 20].map(|item| replica.values()[item]), [84, 80, 73]);
+        let report = replica.report();
+        assert_eq!((report.turn, report.commits, report.open), (7, 6, 0));
+    }
 }

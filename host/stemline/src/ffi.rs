@@ -1,5 +1,8 @@
-//! The static library's structs and functions, as C sees them. `host/include/stemline.h` says the
-//! same in C; a test compares the two.
+//! The static library as Rust sees it: its structs, and its ten functions as safe ones over slices,
+//! parameter by parameter those of `crates/replica/src/lib.rt`. `host/include/stemline.h` says the same
+//! in C; a test compares the layouts.
+//!
+//! Most hosts want [`crate::Replica`], which owns what the functions are lent.
 
 /// An open transaction. Ticket 0 is a free row. Stage 0 is active, 1 asked, 2 sent.
 #[repr(C)]
@@ -13,14 +16,15 @@ pub struct Txn {
     pub writes: u32,
 }
 
-/// The slot that is processed next, whether the own block for it was sent, and whether a block of
-/// another replica is committed in part.
+/// The slot that is processed next, and two marks: whether the own block for it was sent, and whether
+/// a block of another replica is committed in part. A mark is off where it is 0, on where it is any
+/// other number.
 #[repr(C)]
 #[derive(Clone, Copy, Debug, Default, PartialEq, Eq)]
 pub struct Turn {
     pub slot: u32,
-    pub sent: bool,
-    pub applying: bool,
+    pub sent: u8,
+    pub applying: u8,
 }
 
 /// The numbers of a replica. A call gives them back as they are after it.
@@ -48,10 +52,10 @@ pub struct Report {
     pub turn: u32,
     /// The writesets committed, own and others'.
     pub commits: u32,
-    /// The tickets given: as many as `active` and the four endings together.
+    /// The tickets given: as many as `open_count` and the four endings together.
     pub tickets: u32,
     /// The open transactions.
-    pub active: u32,
+    pub open_count: u32,
     pub committed: u32,
     pub read_only: u32,
     pub aborted: u32,
@@ -127,128 +131,82 @@ const _: () = {
     assert!(size_of::<WorkReply>() == 64);
 };
 
-extern "C" {
-    pub fn stemline_make(
-        table: *mut Txn,
-        table_length: usize,
-        turn: *mut Turn,
-        n: u32,
-        own: u32,
-        start: *const i32,
-        start_length: usize,
-        queue: *mut u32,
-        queue_length: usize,
-        items: *mut u8,
-        items_length: usize,
-        writes: *mut i32,
-        writes_length: usize,
-        snapshots: *mut i32,
-        snapshots_length: usize,
-        values: *mut i32,
-        values_length: usize,
-        stamps: *mut u32,
-        stamps_length: usize,
-        places: *mut u8,
-        places_length: usize,
-        outbox: *mut u8,
-        outbox_length: usize,
+/// Declares the library's functions and makes each a safe one. A slice crosses as its pointer and its
+/// length, `mut` where the call may change it and `ref` where it only looks; all else crosses as it is.
+/// A call is defined on slices of any length and content, and the borrows keep them apart.
+macro_rules! calls {
+    ($($(#[$says:meta])* fn $name:ident = $symbol:ident(
+        $($part:ident: $(mut [$changed:ty])? $(ref [$seen:ty])? $($value:ty)?),*
+    ) -> $reply:ty;)*) => {
+        extern "C" {
+            $(fn $symbol(
+                $($part: $(*mut $changed, _: usize)? $(*const $seen, _: usize)? $($value)?),*
+            ) -> $reply;)*
+        }
+        $($(#[$says])*
+        #[allow(clippy::too_many_arguments)]
+        #[inline]
+        pub fn $name($($part: $(&mut [$changed])? $(&[$seen])? $($value)?),*) -> $reply {
+            // SAFETY: each pointer comes with the length of its own slice, borrowed for the call.
+            unsafe {
+                $symbol($($part
+                    $(.as_mut_ptr() as *mut $changed, $part.len())?
+                    $(.as_ptr() as *const $seen, $part.len())?),*)
+            }
+        })*
+    };
+}
+
+calls! {
+    /// Fills the parts of replica `own` of `n` that starts with 128 values. Refused by 1, 2.
+    fn make = stemline_make(
+        table: mut [Txn], turn: &mut Turn, counts: Counts, n: u32, own: u32, start: ref [i32],
+        queue: mut [u32], items: mut [u8], writes: mut [i32], snapshots: mut [i32],
+        values: mut [i32], stamps: mut [u32], places: mut [u8], outbox: mut [u8]
     ) -> Reply;
-    pub fn stemline_begin(
-        table: *mut Txn,
-        table_length: usize,
-        counts: Counts,
-        values: *const i32,
-        values_length: usize,
-        snapshots: *mut i32,
-        snapshots_length: usize,
+
+    /// Opens a transaction. Refused by 1, 5, 6.
+    fn begin = stemline_begin(
+        table: mut [Txn], counts: Counts, values: ref [i32], snapshots: mut [i32]
     ) -> BeginReply;
-    pub fn stemline_read(
-        table: *const Txn,
-        table_length: usize,
-        ticket: u32,
-        items: *const u8,
-        items_length: usize,
-        writes: *const i32,
-        writes_length: usize,
-        snapshots: *const i32,
-        snapshots_length: usize,
-        item: u32,
+
+    /// What a transaction reads of an item. Refused by 1, 2, 3, 4.
+    fn read = stemline_read(
+        table: ref [Txn], ticket: u32, items: ref [u8], writes: ref [i32], snapshots: ref [i32],
+        item: u32
     ) -> ReadReply;
-    pub fn stemline_write(
-        table: *mut Txn,
-        table_length: usize,
-        turn: *const Turn,
-        ticket: u32,
-        counts: Counts,
-        items: *mut u8,
-        items_length: usize,
-        writes: *mut i32,
-        writes_length: usize,
-        stamps: *const u32,
-        stamps_length: usize,
-        item: u32,
-        value: i32,
+
+    /// Puts an item and its value into a writeset. Refused by 1, 2, 3, 4, 7, 8, 9, 10.
+    fn write = stemline_write(
+        table: mut [Txn], turn: &Turn, ticket: u32, counts: Counts, items: mut [u8],
+        writes: mut [i32], stamps: ref [u32], item: u32, value: i32
     ) -> Reply;
-    pub fn stemline_ask(
-        table: *mut Txn,
-        table_length: usize,
-        ticket: u32,
-        counts: Counts,
-        queue: *mut u32,
-        queue_length: usize,
+
+    /// Requests commit. Refused by 1, 3, 4.
+    fn ask = stemline_ask(
+        table: mut [Txn], ticket: u32, counts: Counts, queue: mut [u32]
     ) -> AskReply;
-    pub fn stemline_withdraw(
-        table: *mut Txn,
-        table_length: usize,
-        ticket: u32,
-        counts: Counts,
-    ) -> Reply;
-    pub fn stemline_report(
-        table: *const Txn,
-        table_length: usize,
-        turn: *const Turn,
-        counts: Counts,
-    ) -> ReportReply;
-    pub fn stemline_send(
-        table: *mut Txn,
-        table_length: usize,
-        turn: *mut Turn,
-        counts: Counts,
-        queue: *mut u32,
-        queue_length: usize,
-        items: *const u8,
-        items_length: usize,
-        writes: *const i32,
-        writes_length: usize,
-        outbox: *mut u8,
-        outbox_length: usize,
-        block: *mut u8,
-        block_length: usize,
+
+    /// Ends an active transaction. Refused by 1, 3, 4.
+    fn withdraw = stemline_withdraw(table: mut [Txn], ticket: u32, counts: Counts) -> Reply;
+
+    /// The replica's report. Refused by 1.
+    fn report = stemline_report(table: ref [Txn], turn: &Turn, counts: Counts) -> ReportReply;
+
+    /// Writes the block for the own slot. Refused by 1, 13, 11, 12.
+    fn send = stemline_send(
+        table: mut [Txn], turn: &mut Turn, counts: Counts, queue: mut [u32], items: ref [u8],
+        writes: ref [i32], outbox: mut [u8], block: mut [u8]
     ) -> u8;
-    pub fn stemline_deliver(
-        turn: *const Turn,
-        counts: Counts,
-        places: *mut u8,
-        places_length: usize,
-        outbox: *const u8,
-        outbox_length: usize,
-        bytes: *const u8,
-        bytes_length: usize,
+
+    /// Keeps a block until its slot is the turn. Refused by 1, 14, 15, 16, 17, 18, 19, 20.
+    fn deliver = stemline_deliver(
+        turn: &Turn, counts: Counts, places: mut [u8], outbox: ref [u8], bytes: ref [u8]
     ) -> u8;
-    pub fn stemline_work(
-        table: *mut Txn,
-        table_length: usize,
-        turn: *mut Turn,
-        counts: Counts,
-        queue: *mut u32,
-        queue_length: usize,
-        items: *const u8,
-        items_length: usize,
-        values: *mut i32,
-        values_length: usize,
-        stamps: *mut u32,
-        stamps_length: usize,
-        places: *mut u8,
-        places_length: usize,
+
+    /// Takes one step at the block of the turn. Refused by 1, 21, 22.
+    fn work = stemline_work(
+        table: mut [Txn], turn: &mut Turn, counts: Counts, queue: mut [u32], items: ref [u8],
+        values: mut [i32], stamps: mut [u32], places: mut [u8]
     ) -> WorkReply;
 }

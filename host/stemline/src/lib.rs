@@ -6,7 +6,6 @@
 //! [`Replica::deliver`]; then [`Replica::work`] takes one step at a time until it is refused by
 //! [`Refusal::NothingWaits`].
 
-pub mod calls;
 pub mod ffi;
 mod memory;
 mod refusal;
@@ -84,7 +83,24 @@ impl Replica {
         // An n out of range is refused whatever the places are.
         let places = if n <= 6 { n as usize } else { 0 };
         let mut memory = Box::new(Memory::zero(places));
-        let reply = memory.make(n, own, values);
+        let m = &mut *memory;
+        let reply = ffi::make(
+            &mut m.table,
+            &mut m.turn,
+            m.counts,
+            n,
+            own,
+            values,
+            &mut m.queue,
+            &mut m.items,
+            &mut m.writes,
+            &mut m.snapshots,
+            &mut m.values,
+            &mut m.stamps,
+            &mut m.places,
+            &mut m.outbox,
+        );
+        m.counts = reply.counts;
         accepted(reply.number, Replica { memory })
     }
 
@@ -109,7 +125,9 @@ impl Replica {
     /// Opens a transaction on the values as they are now and gives its ticket. Refused by 5, 6.
     #[inline]
     pub fn begin(&mut self) -> Result<u32, Refusal> {
-        let reply = self.memory.begin();
+        let m = &mut *self.memory;
+        let reply = ffi::begin(&mut m.table, m.counts, &m.values, &mut m.snapshots);
+        m.counts = reply.counts;
         accepted(reply.number, reply.ticket)
     }
 
@@ -117,20 +135,36 @@ impl Replica {
     /// 2, 3, 4.
     #[inline]
     pub fn read(&self, ticket: u32, item: u32) -> Result<i32, Refusal> {
-        let reply = self.memory.read(ticket, item);
+        let m = &*self.memory;
+        let reply = ffi::read(&m.table, ticket, &m.items, &m.writes, &m.snapshots, item);
         accepted(reply.number, reply.value)
     }
 
     /// Puts the item with its value into the writeset and locks it. Refused by 2, 3, 4, 7, 8, 9, 10.
     #[inline]
     pub fn write(&mut self, ticket: u32, item: u32, value: i32) -> Result<(), Refusal> {
-        accepted(self.memory.write(ticket, item, value).number, ())
+        let m = &mut *self.memory;
+        let reply = ffi::write(
+            &mut m.table,
+            &m.turn,
+            ticket,
+            m.counts,
+            &mut m.items,
+            &mut m.writes,
+            &m.stamps,
+            item,
+            value,
+        );
+        m.counts = reply.counts;
+        accepted(reply.number, ())
     }
 
     /// Requests commit. Refused by 3, 4.
     #[inline]
     pub fn ask(&mut self, ticket: u32) -> Result<Asked, Refusal> {
-        let reply = self.memory.ask(ticket);
+        let m = &mut *self.memory;
+        let reply = ffi::ask(&mut m.table, ticket, m.counts, &mut m.queue);
+        m.counts = reply.counts;
         let asked = match reply.read_only {
             true => Asked::ReadOnly,
             false => Asked::Waiting,
@@ -141,13 +175,17 @@ impl Replica {
     /// Ends an active transaction. Refused by 3, 4.
     #[inline]
     pub fn withdraw(&mut self, ticket: u32) -> Result<(), Refusal> {
-        accepted(self.memory.withdraw(ticket).number, ())
+        let m = &mut *self.memory;
+        let reply = ffi::withdraw(&mut m.table, ticket, m.counts);
+        m.counts = reply.counts;
+        accepted(reply.number, ())
     }
 
     /// The counts of the calls so far. The table has its length, so this is never refused.
     #[inline]
     pub fn report(&self) -> Report {
-        self.memory.report().report
+        let m = &*self.memory;
+        ffi::report(&m.table, &m.turn, m.counts).report
     }
 
     /// The block for the own slot, with the writesets of all transactions asked so far. It goes to
@@ -155,21 +193,44 @@ impl Replica {
     #[inline]
     pub fn send(&mut self) -> Result<[u8; BLOCK], Refusal> {
         let mut block = [0; BLOCK];
-        let number = self.memory.send(&mut block);
+        let m = &mut *self.memory;
+        let number = ffi::send(
+            &mut m.table,
+            &mut m.turn,
+            m.counts,
+            &mut m.queue,
+            &m.items,
+            &m.writes,
+            &mut m.outbox,
+            &mut block,
+        );
         accepted(number, block)
     }
 
     /// Keeps a block until its slot is the turn. Refused by 1, 14, 15, 16, 17, 18, 19, 20.
     #[inline]
     pub fn deliver(&mut self, bytes: &[u8]) -> Result<(), Refusal> {
-        accepted(self.memory.deliver(bytes), ())
+        let m = &mut *self.memory;
+        let number = ffi::deliver(&m.turn, m.counts, &mut m.places, &m.outbox, bytes);
+        accepted(number, ())
     }
 
     /// Takes one step at the block of the turn: commits its next writeset, or passes over a block
     /// without records. Refused by 21, 22.
     #[inline]
     pub fn work(&mut self) -> Result<Work, Refusal> {
-        let reply = self.memory.work();
+        let m = &mut *self.memory;
+        let reply = ffi::work(
+            &mut m.table,
+            &mut m.turn,
+            m.counts,
+            &mut m.queue,
+            &m.items,
+            &mut m.values,
+            &mut m.stamps,
+            &mut m.places,
+        );
+        m.counts = reply.counts;
         let work = Work {
             sender: reply.sender,
             ticket: reply.ticket,

@@ -1,12 +1,12 @@
 -- `to_value` meets its contract: bits of the upper half stand for the number less 2^32.
-use Prim.Native.Nat.{ℕ, suc, _+_, _-_, _≤_, _<_, _^_}
-use mathlib.Core.Path.{_≡_, refl, sym, ap, _∙_}
+use Prim.Native.Nat.{ℕ, _+_, _-_, _≤_, _<_, _^_}
+use mathlib.Core.Path.{_≡_, ap, _∙_}
 use native.Mathlib.Omega.{arith}
 use borrow.Author.Tests.{lt-ltb, le-ltb}
 use lib.IntN.{negsuc, _+ℤ_}
 use mir.Facts.{toZ-ofZ, toZ-pos, sfits-toZ}
 use mir.Syntax.{w32}
-use mir.Val.{Fits, SFits, toZ}
+use mir.Val.{SFits, toZ}
 use borrow.Author.Needs.{needs}
 use Rattle.block.proofs.to_value.Statement.{statement}
 use Rattle.block.proofs.to_value.Tie as tie

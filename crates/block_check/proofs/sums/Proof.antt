@@ -23,11 +23,8 @@ loop-holds : tie.Need-loop-holds Inv-loop μ-loop
 unfolding sumTo weightedTo
 loop-holds c = (omega arith, omega arith, omega arith, omega arith, omega arith, omega arith, omega arith, omega arith, omega arith, omega arith, refl, refl)
 
-mul-at : tie.Need-mul-at Inv-loop μ-loop
-mul-at c = search needs
-
-number16-requires : tie.Need-number16-requires Inv-loop μ-loop
-number16-requires c κs = search needs
+word-requires : tie.Need-word-requires Inv-loop μ-loop
+word-requires c κs = search needs
 
 cast-a : tie.Need-cast-a Inv-loop μ-loop
 cast-a c = search needs
@@ -35,11 +32,11 @@ cast-a c = search needs
 add-a : tie.Need-add-a Inv-loop μ-loop
 add-a c = search needs
 
-add-number16 : tie.Need-add-number16 Inv-loop μ-loop
-add-number16 c = search needs
+add-word : tie.Need-add-word Inv-loop μ-loop
+add-word c = search needs
 
-number16-requires-2 : tie.Need-number16-requires-2 Inv-loop μ-loop
-number16-requires-2 c κs = search needs
+word-requires-2 : tie.Need-word-requires-2 Inv-loop μ-loop
+word-requires-2 c κs = search needs
 
 cast-b : tie.Need-cast-b Inv-loop μ-loop
 cast-b c = search needs
@@ -47,11 +44,11 @@ cast-b c = search needs
 add-b : tie.Need-add-b Inv-loop μ-loop
 add-b c = search needs
 
-add-number16-2 : tie.Need-add-number16-2 Inv-loop μ-loop
-add-number16-2 c = search needs
+add-word-2 : tie.Need-add-word-2 Inv-loop μ-loop
+add-word-2 c = search needs
 
-number16-requires-3 : tie.Need-number16-requires-3 Inv-loop μ-loop
-number16-requires-3 c κs = search needs
+word-requires-3 : tie.Need-word-requires-3 Inv-loop μ-loop
+word-requires-3 c κs = search needs
 
 cast-c : tie.Need-cast-c Inv-loop μ-loop
 cast-c c = search needs
@@ -59,11 +56,11 @@ cast-c c = search needs
 add-c : tie.Need-add-c Inv-loop μ-loop
 add-c c = search needs
 
-add-number16-3 : tie.Need-add-number16-3 Inv-loop μ-loop
-add-number16-3 c = search needs
+add-word-3 : tie.Need-add-word-3 Inv-loop μ-loop
+add-word-3 c = search needs
 
-number16-requires-4 : tie.Need-number16-requires-4 Inv-loop μ-loop
-number16-requires-4 c κs = search needs
+word-requires-4 : tie.Need-word-requires-4 Inv-loop μ-loop
+word-requires-4 c κs = search needs
 
 cast-d : tie.Need-cast-d Inv-loop μ-loop
 cast-d c = search needs
@@ -95,9 +92,9 @@ loop-again c =
     let l = w .before .before in
     let b = l .before .before .args .bytes .now in
     let i = l .loop .i in
-    let more = sum-next b i (omega arith) (omega arith) _ _ _ _ (w .number16 .ensures) (c .before .before .number162 .ensures) (c .before .number163 .ensures) (c .number164 .ensures) in
+    let more = sum-next b i (omega arith) _ _ _ _ (w .word .ensures) (c .before .before .word2 .ensures) (c .before .word3 .ensures) (c .word4 .ensures) in
     let turn =
-    weighted-turn b i (omega arith) (omega arith) _ _ _ _ (w .number16 .ensures) (c .before .before .number162 .ensures) (c .before .number163 .ensures) (c .number164 .ensures)
+    weighted-turn b i (omega arith) _ _ _ _ (w .word .ensures) (c .before .before .word2 .ensures) (c .before .word3 .ensures) (c .word4 .ensures)
     (l .loop .a) (l .loop .b) (l .loop .c) (l .loop .d) (l .loop .e) (l .loop .f) (l .loop .g) (l .loop .h) (l .loop .inv .11) in (
       omega arith,
       omega arith,
@@ -113,14 +110,14 @@ loop-again c =
       turn,
     )
 
-number16-requires-5 : tie.Need-number16-requires-5 Inv-loop μ-loop
-number16-requires-5 c κs = search needs
+word-requires-5 : tie.Need-word-requires-5 Inv-loop μ-loop
+word-requires-5 c κs = search needs
 
 cast-y : tie.Need-cast-y Inv-loop μ-loop
 cast-y c = search needs
 
-number16-requires-6 : tie.Need-number16-requires-6 Inv-loop μ-loop
-number16-requires-6 c κs = search needs
+word-requires-6 : tie.Need-word-requires-6 Inv-loop μ-loop
+word-requires-6 c κs = search needs
 
 cast-z : tie.Need-cast-z Inv-loop μ-loop
 cast-z c = search needs
@@ -190,8 +187,8 @@ returns c =
     let l = n .before .before .before in
     let e : l .loop .i ≡ 252 = omega arith in
     rw (c .before .reduced .ensures, c .reduced2 .ensures)
-    (sums-end (l .before .before .args .bytes .now) (omega arith) _ _ (rw e at (l .loop .inv .10)) (omega (arith, last l e))
-    (n .before .number165 .result) (n .number166 .result) (n .before .number165 .ensures) (n .number166 .ensures))
+    (sums-end (l .before .before .args .bytes .now) _ _ (rw e at (l .loop .inv .10)) (omega (arith, last l e))
+    (n .before .word5 .result) (n .word6 .result) (n .before .word5 .ensures) (n .word6 .ensures))
 
 pub sums-spec : {M : Type 1} → statement M
 sums-spec =
@@ -200,20 +197,19 @@ sums-spec =
     Inv-loop
     μ-loop
     loop-holds
-    mul-at
-    number16-requires
+    word-requires
     cast-a
     add-a
-    add-number16
-    number16-requires-2
+    add-word
+    word-requires-2
     cast-b
     add-b
-    add-number16-2
-    number16-requires-3
+    add-word-2
+    word-requires-3
     cast-c
     add-c
-    add-number16-3
-    number16-requires-4
+    add-word-3
+    word-requires-4
     cast-d
     add-d
     add-e
@@ -223,9 +219,9 @@ sums-spec =
     add-i
     loop-less
     loop-again
-    number16-requires-5
+    word-requires-5
     cast-y
-    number16-requires-6
+    word-requires-6
     cast-z
     add-first
     add-first-2

@@ -18,11 +18,11 @@ abbrev μ-loop : tie.MeasureT-loop
 loop-holds : tie.Need-loop-holds Inv-loop μ-loop
 loop-holds c = (omega arith, rw minus-zero)
 
-mul-number : tie.Need-mul-number Inv-loop μ-loop
-mul-number c = omega arith
+mul-number-at : tie.Need-mul-number-at Inv-loop μ-loop
+mul-number-at c = omega arith
 
-number-requires : tie.Need-number-requires Inv-loop μ-loop
-number-requires c κs = omega arith
+number-at-requires : tie.Need-number-at-requires Inv-loop μ-loop
+number-at-requires c κs = omega arith
 
 returns : tie.Need-returns Inv-loop μ-loop
 returns c =
@@ -31,7 +31,7 @@ returns c =
     let a = b .before .before .args in
     sym
     (b .loop .inv .1
-    ∙ entries-bad (b .loop .low) (a .n) (b .loop .e) (a .part .now) (n .number .result) (omega arith) (omega arith) (n .number .ensures)
+    ∙ entries-bad (b .loop .low) (a .n) (b .loop .e) (a .part .now) (n .number-at .result) (omega arith) (omega arith) (n .number-at .ensures)
     (within-below _ 127 _ (c .if1 .taken)))
 
 returns-2 : tie.Need-returns-2 Inv-loop μ-loop
@@ -41,7 +41,7 @@ returns-2 c =
     let a = b .before .before .args in
     sym
     (b .loop .inv .1
-    ∙ entries-bad (b .loop .low) (a .n) (b .loop .e) (a .part .now) (n .number .result) (omega arith) (omega arith) (n .number .ensures)
+    ∙ entries-bad (b .loop .low) (a .n) (b .loop .e) (a .part .now) (n .number-at .result) (omega arith) (omega arith) (n .number-at .ensures)
     (within-above _ 127 _ (c .if2 .taken)))
 
 add-low : tie.Need-add-low Inv-loop μ-loop
@@ -60,7 +60,7 @@ loop-again c =
     let a = b .before .before .args in (
       omega arith,
       b .loop .inv .1
-          ∙ entries-next (b .loop .low) (a .n) (b .loop .e) (a .part .now) (n .number .result) (omega arith) (omega arith) (n .number .ensures)
+          ∙ entries-next (b .loop .low) (a .n) (b .loop .e) (a .part .now) (n .number-at .result) (omega arith) (omega arith) (n .number-at .ensures)
           (within-in _ 127 _ (omega arith) (omega arith)),
     )
 
@@ -94,8 +94,8 @@ entries-fit-spec =
     Inv-loop
     μ-loop
     loop-holds
-    mul-number
-    number-requires
+    mul-number-at
+    number-at-requires
     returns
     returns-2
     add-low

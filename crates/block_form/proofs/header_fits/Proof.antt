@@ -1,6 +1,6 @@
 -- `header_fits` meets its contract: each test that fails makes `headerFits` false, and past them bytes 8 to 15 decide.
 -- Assumes nothing.
-use mathlib.Core.Path.{sym, _∙_}
+use mathlib.Core.Path.{sym}
 use native.Mathlib.Omega.{arith}
 use borrow.Author.Needs.{needs}
 use Rattle.block.proofs.FormLaws.{within-in, within-below, within-above, header-replicas, header-slot, header-sender, header-rest}
@@ -16,13 +16,13 @@ returns c = sym (header-replicas (c .before .before .before .args .block .now) (
 returns-2 : tie.Need-returns-2
 returns-2 c = sym (header-replicas (c .before .before .before .before .args .block .now) (within-above 2 6 _ (c .if2 .taken)))
 
-number-requires : tie.Need-number-requires
-number-requires c κs = search needs
+number-at-requires : tie.Need-number-at-requires
+number-at-requires c κs = search needs
 
 returns-3 : tie.Need-returns-3
 returns-3 c =
     let n = c .before in
-    sym (header-slot (c .before .before .before .before .before .before .args .block .now) (n .number .result) (n .number .ensures) (c .if3 .taken))
+    sym (header-slot (c .before .before .before .before .before .before .args .block .now) (n .number-at .result) (n .number-at .ensures) (c .if3 .taken))
 
 shared-slice-read-sender : tie.Need-shared-slice-read-sender
 shared-slice-read-sender c = search needs
@@ -39,18 +39,18 @@ rem-if4 c = search needs
 returns-4 : tie.Need-returns-4
 returns-4 c =
     let n = c .before .before .before in
-    sym (header-sender (c .before .before .before .before .before .before .before .before .args .block .now) (n .number .result) (n .number .ensures) (c .if4 .taken))
+    sym (header-sender (c .before .before .before .before .before .before .before .before .args .block .now) (n .number-at .result) (n .number-at .ensures) (c .if4 .taken))
 
-number64-requires : tie.Need-number64-requires
-number64-requires c κs = search needs
+number64-at-requires : tie.Need-number64-at-requires
+number64-at-requires c κs = search needs
 
 returns-5 : tie.Need-returns-5
 returns-5 c =
     let e = c .before in
     let n = e .before .before .before in
     let b = c .before .before .before .before .before .before .before .before .before .args .block .now in
-    rw (c .number64 .ensures)
-    (sym (header-rest b (n .number .result) (n .number .ensures) (within-in 2 6 _ (omega arith) (omega arith)) (e .before .before .if3 .left) (e .if4 .left)))
+    rw (c .number64-at .ensures)
+    (sym (header-rest b (n .number-at .result) (n .number-at .ensures) (within-in 2 6 _ (omega arith) (omega arith)) (e .before .before .if3 .left) (e .if4 .left)))
 
 pub header-fits-spec : {M : Type 1} → statement M
 header-fits-spec =
@@ -59,12 +59,12 @@ header-fits-spec =
     shared-slice-read-replicas
     returns
     returns-2
-    number-requires
+    number-at-requires
     returns-3
     shared-slice-read-sender
     cast-sender
     cast-if4
     rem-if4
     returns-4
-    number64-requires
+    number64-at-requires
     returns-5)

@@ -18,17 +18,17 @@ abbrev μ-loop : tie.MeasureT-loop
 loop-holds : tie.Need-loop-holds Inv-loop μ-loop
 loop-holds c = (omega arith, refl)
 
-mul-number : tie.Need-mul-number Inv-loop μ-loop
-mul-number c = omega arith
+mul-number-at : tie.Need-mul-number-at Inv-loop μ-loop
+mul-number-at c = omega arith
 
-number-requires : tie.Need-number-requires Inv-loop μ-loop
-number-requires c κs = omega arith
+number-at-requires : tie.Need-number-at-requires Inv-loop μ-loop
+number-at-requires c κs = omega arith
 
 returns : tie.Need-returns Inv-loop μ-loop
 returns c =
     let b = c .before .before .before in
     let a = b .before .before .args in
-    sym (b .loop .inv .1 ∙ absent-found (a .count) (b .loop .i) (a .body .now) (omega arith) (a .ticket) (sym (c .before .number .ensures) ∙ c .if1 .taken))
+    sym (b .loop .inv .1 ∙ absent-found (a .count) (b .loop .i) (a .body .now) (omega arith) (a .ticket) (sym (c .before .number-at .ensures) ∙ c .if1 .taken))
 
 add-i : tie.Need-add-i Inv-loop μ-loop
 add-i c = omega arith
@@ -42,7 +42,7 @@ loop-again c =
     let a = b .before .before .args in (
       omega arith,
       b .loop .inv .1
-          ∙ absent-next (a .count) (b .loop .i) (a .body .now) (omega arith) (a .ticket) (λ e. c .if1 .left (c .before .number .ensures ∙ e)),
+          ∙ absent-next (a .count) (b .loop .i) (a .body .now) (omega arith) (a .ticket) (λ e. c .if1 .left (c .before .number-at .ensures ∙ e)),
     )
 
 returns-2 : tie.Need-returns-2 Inv-loop μ-loop
@@ -59,8 +59,8 @@ ticket-absent-spec =
     Inv-loop
     μ-loop
     loop-holds
-    mul-number
-    number-requires
+    mul-number-at
+    number-at-requires
     returns
     add-i
     loop-less

@@ -19,11 +19,11 @@ abbrev μ-loop : tie.MeasureT-loop
 loop-holds : tie.Need-loop-holds Inv-loop μ-loop
 loop-holds c = (omega arith, rw sub-zero)
 
-mul-number : tie.Need-mul-number Inv-loop μ-loop
-mul-number c = omega arith
+mul-number-at : tie.Need-mul-number-at Inv-loop μ-loop
+mul-number-at c = omega arith
 
-number-requires : tie.Need-number-requires Inv-loop μ-loop
-number-requires c κs = omega arith
+number-at-requires : tie.Need-number-at-requires Inv-loop μ-loop
+number-at-requires c κs = omega arith
 
 add-ticket-absent : tie.Need-add-ticket-absent Inv-loop μ-loop
 add-ticket-absent c = omega arith
@@ -37,7 +37,7 @@ absent : (c : tie.After-ticket-absent Inv-loop μ-loop)
     let a = b .before .before .args in
     c .ticket-absent .result
     ≡ ticketAbsent (ticketAt (b .loop .j) (a .body .now)) (recordsFrom (a .count) (b .loop .j + 1) (a .body .now))
-absent c = rw (c .before .number .ensures) at (c .ticket-absent .ensures)
+absent c = rw (c .before .number-at .ensures) at (c .ticket-absent .ensures)
 
 returns : tie.Need-returns Inv-loop μ-loop
 returns c =
@@ -76,8 +76,8 @@ tickets-differ-spec =
     Inv-loop
     μ-loop
     loop-holds
-    mul-number
-    number-requires
+    mul-number-at
+    number-at-requires
     add-ticket-absent
     ticket-absent-requires
     returns

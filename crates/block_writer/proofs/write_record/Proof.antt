@@ -1,7 +1,6 @@
 -- `write_record` meets its contract: the ticket's part, the count's part and the entries' part, in this order, are all of it.
 -- Assumes nothing.
 use mathlib.Core.Path.{_∙_}
-use native.Mathlib.Omega.{arith}
 use borrow.Author.Tests.{eq-eqb, ne-eqb, le-leb, lt-leb}
 use borrow.Author.Needs.{needs}
 use Rattle.block.specs.Writing.{recordStep}

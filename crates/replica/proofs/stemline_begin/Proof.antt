@@ -46,36 +46,37 @@ use Rattle.memory.specs.Rows.{rowFrom, rowAt}
 use Rattle.memory.proofs.Counts as N
 use Rattle.memory.proofs.Counts.Laws as N′
 use Rattle.memory.proofs.Txn as T
-use Rattle.lent.proofs.Lend.{MutAt, slice-lent, slice-read, calls-lending}
-use Rattle.lent.proofs.Steps.{when, equal, unequal, unit-typed, frees-cell, frees-room}
-use Rattle.lent.proofs.Rows.{R, vals, tells, makes, lawful}
-use Rattle.lent.proofs.Answers.{answers}
-use Rattle.lent.proofs.Callees.{Scan, Row, Put, to-scan, asks-scan, gives-scan, to-row, asks-row, gives-row, to-put, asks-put, gives-put}
+use Rattle.host_table.proofs.Lend.{MutAt, slice-lent, slice-read, calls-lending}
+use Rattle.host_table.proofs.Steps.{when, equal, unequal, unit-typed, frees-all}
+use Rattle.host_table.proofs.Steps.Held.{cell, room}
+use Rattle.host_table.proofs.Rows.{R, vals, tells, makes, lawful}
+use Rattle.host_table.proofs.Answers.{answers}
+use Rattle.host_table.proofs.Callees.{Scan, Row, Put, to-scan, asks-scan, gives-scan, to-row, asks-row, gives-row, to-put, asks-put, gives-put}
 use Rattle.replica.proofs.Handed.{handed, goes-handed}
 use Rattle.replica.proofs.ClientFacts.{BeginOn, BeginDid, begin-not, begin-did}
-use Rattle.calls.specs.declared.Begun.{Begun}
-use Rattle.calls.proofs.Begun as D
-use Rattle.calls.proofs.Begun.Laws as D′
-use Rattle.calls.specs.declared.BeginReply.{BeginReply}
-use Rattle.calls.proofs.BeginReply as Y
-use Rattle.calls.proofs.BeginReply.Laws as Y′
-use Rattle.calls.proofs.replies.no_begin as refuse
-use Rattle.calls.proofs.replies.no_begin.Symbol as refuse-def
-use Rattle.calls.proofs.replies.no_begin.Symbol.{name as #refuse}
-use Rattle.calls.proofs.replies.no_begin.Met as refuse-thm
-use Rattle.lent.proofs.scan.Symbol as scan-def
-use Rattle.lent.proofs.scan.Symbol.{name as #scan}
-use Rattle.lent.proofs.scan.Met as scan-thm
-use Rattle.lent.proofs.row.Symbol as row-def
-use Rattle.lent.proofs.row.Symbol.{name as #row}
-use Rattle.lent.proofs.row.Met as row-thm
-use Rattle.lent.proofs.put.Symbol as put-def
-use Rattle.lent.proofs.put.Symbol.{name as #put}
-use Rattle.lent.proofs.put.Met as put-thm
-use Rattle.calls.proofs.client_calls.begin_on as call
-use Rattle.calls.proofs.client_calls.begin_on.Symbol as call-def
-use Rattle.calls.proofs.client_calls.begin_on.Symbol.{name as #call}
-use Rattle.calls.proofs.client_calls.begin_on.Met as call-thm
+use Rattle.call_reply.specs.declared.Begun.{Begun}
+use Rattle.call_reply.proofs.Begun as D
+use Rattle.call_reply.proofs.Begun.Laws as D′
+use Rattle.call_reply.specs.declared.BeginReply.{BeginReply}
+use Rattle.call_reply.proofs.BeginReply as Y
+use Rattle.call_reply.proofs.BeginReply.Laws as Y′
+use Rattle.call_reply.proofs.replies.no_begin as refuse
+use Rattle.call_reply.proofs.replies.no_begin.Symbol as refuse-def
+use Rattle.call_reply.proofs.replies.no_begin.Symbol.{name as #refuse}
+use Rattle.call_reply.proofs.replies.no_begin.Met as refuse-thm
+use Rattle.host_table.proofs.scan.Symbol as scan-def
+use Rattle.host_table.proofs.scan.Symbol.{name as #scan}
+use Rattle.host_table.proofs.scan.Met as scan-thm
+use Rattle.host_table.proofs.row.Symbol as row-def
+use Rattle.host_table.proofs.row.Symbol.{name as #row}
+use Rattle.host_table.proofs.row.Met as row-thm
+use Rattle.host_table.proofs.put.Symbol as put-def
+use Rattle.host_table.proofs.put.Symbol.{name as #put}
+use Rattle.host_table.proofs.put.Met as put-thm
+use Rattle.call_client.proofs.begin as call
+use Rattle.call_client.proofs.begin.Symbol as call-def
+use Rattle.call_client.proofs.begin.Symbol.{name as #call}
+use Rattle.call_client.proofs.begin.Met as call-thm
 use Rattle.replica.proofs.stemline_begin.Key.{name as #own}
 use Rattle.replica.proofs.stemline_begin as own
 use Rattle.replica.proofs.stemline_begin.Statement as stated
@@ -168,7 +169,7 @@ module _ {M : Type 1} (𝓤 : URA M) (H : Heap 𝓤) (A : Atoms 𝓤) (W : Given
         use1 W (later (given (Is Y.the-row (record { number = 1; ticket = 0; counts = counts }) (u ∷ [])) (‵ ftrue))) (answers 𝓤 H A W refuse.ended (refuse.clauses 𝓤 H A mem run) to-refuse (record { number = 1; ticket = 0; counts = counts }) (λ r e. id⊢ 𝓤 _) u) $ await ! tt $ learn ! (λ is. drop ! $
         land ! (from ! (stop !)) (init ! 40 refl (LL.lawful Y.the-type Y′.the-laws 𝓤 H A W .typed (record { number = 1; ticket = 0; counts = counts }) _ is .0)) $
         returns-within ! Post refl (look ! 40 refl) $
-        frees-cell ! 40 refl refl $ frees-cell ! 38 refl refl $ frees-cell ! 36 refl refl $ frees-cell ! 34 refl refl $ frees-cell ! 32 refl refl $ frees-room ! 30 refl refl $ frees-room ! 28 refl refl $ frees-room ! 26 refl refl $ frees-cell ! 24 refl refl $ frees-cell ! 22 refl refl $ frees-room ! 20 refl refl $ frees-room ! 18 refl refl $ frees-room ! 16 refl refl $ frees-room ! 14 refl refl $ frees-room ! 12 refl refl $ frees-room ! 10 refl refl $ frees-room ! 8 refl refl $ frees-room ! 6 refl refl $ frees-room ! 4 refl refl $ free0 ! $
+        frees-all ! (_ ∷ _ ∷ _ ∷ _ ∷ []) (room _ _ ∷ room _ _ ∷ room _ _ ∷ room _ _ ∷ room _ _ ∷ room _ _ ∷ room _ _ ∷ room _ _ ∷ room _ _ ∷ cell _ _ _ ∷ cell _ _ _ ∷ room _ _ ∷ room _ _ ∷ room _ _ ∷ cell _ _ _ ∷ cell _ _ _ ∷ cell _ _ _ ∷ cell _ _ _ ∷ cell _ _ _ ∷ []) $ free0 ! $
         by ! (ends-not _ is (unequal (length ys) 6 other)))))
         (λ six₀. let six = equal (length ys) 6 six₀ in
         assigns ! (addr ! (from ! (fld ! refl (hop ! (look-in ! 38 (sub ! 0 refl (whole !))) (stop !))))) (from ! (stop !)) (init ! 20 refl (tt, tt)) $
@@ -199,7 +200,7 @@ module _ {M : Type 1} (𝓤 : URA M) (H : Heap 𝓤) (A : Atoms 𝓤) (W : Given
         (λ ν δ i j. (and-then ! (load ! (from ! (stop !)) (look ! 4 refl)) (and-then ! (load ! (from ! (stop !)) (look ! 30 refl)) (and-then ! (load ! (from ! (fld ! refl (stop !))) (look-in ! 26 (sub ! 1 refl (whole !)))) (no-more !))))) (λ w₁ e₁. land ! (from ! (stop !)) (init ! 8 refl (unit-typed w₁ e₁)) $
         assigns ! (of-opd ! (load ! (from ! (fld ! refl (stop !))) (look-in ! 26 (sub ! 0 refl (whole !))))) (from ! (stop !)) (init ! 40 refl (LL.lawful Y.the-type Y′.the-laws 𝓤 H A W .typed (r .reply) _ (fields .0) .0)) $
         returns ! (look ! 40 refl) $
-        frees-cell ! 40 refl refl $ frees-cell ! 38 refl refl $ frees-cell ! 36 refl refl $ frees-cell ! 34 refl refl $ frees-cell ! 32 refl refl $ frees-cell ! 30 refl refl $ frees-cell ! 28 refl refl $ frees-cell ! 26 refl refl $ frees-cell ! 24 refl refl $ frees-cell ! 22 refl refl $ frees-cell ! 20 refl refl $ frees-cell ! 18 refl refl $ frees-cell ! 16 refl refl $ frees-cell ! 14 refl refl $ frees-cell ! 12 refl refl $ frees-cell ! 10 refl refl $ frees-cell ! 8 refl refl $ frees-cell ! 6 refl refl $ frees-cell ! 4 refl refl $ free0 ! $
+        frees-all ! (_ ∷ _ ∷ _ ∷ _ ∷ []) (cell _ _ _ ∷ cell _ _ _ ∷ cell _ _ _ ∷ cell _ _ _ ∷ cell _ _ _ ∷ cell _ _ _ ∷ cell _ _ _ ∷ cell _ _ _ ∷ cell _ _ _ ∷ cell _ _ _ ∷ cell _ _ _ ∷ cell _ _ _ ∷ cell _ _ _ ∷ cell _ _ _ ∷ cell _ _ _ ∷ cell _ _ _ ∷ cell _ _ _ ∷ cell _ _ _ ∷ cell _ _ _ ∷ []) $ free0 ! $
         move ! (0 ∷ 1 ∷ 3 ∷ 2 ∷ []) $
         by ! (ends _ (r .reply) (set ys (rowFrom 0 0 ys) (r .row)) (ws .1 .1 .1 .1 .0) (fields .0) (length-set ys (rowFrom 0 0 ys) (r .row)) (begin-did ys counts values snapshots r (ws .1 .1 .1 .1 .0) six said))))))))))))))))))))))))))))))
 
@@ -219,8 +220,8 @@ stemline-begin-spec 𝓤 H 𝓜 𝓖 𝓡 =
     entered 𝓤 H (tripleOf 𝓤 H (𝓖 .A) own.signature (own.spec 𝓤 H (𝓖 .A) (𝓜 .mem) (𝓡 .run)))
     (tables 𝓤 H 𝓜 𝓡 code.env .C) (tables 𝓤 H 𝓜 𝓡 code.env .Λ) #own code.function (code.unfolded 𝓤 H 𝓜 𝓡)
     (meets 𝓤 H (𝓖 .A) (givenOf 𝓤 H 𝓜 𝓖) (𝓜 .mem) (𝓡 .run) (tablesOf 𝓤 H 𝓜 (tables 𝓤 H 𝓜 𝓡 code.env))
-    (cited 𝓤 H (Refuse 𝓤 H (𝓖 .A) (𝓜 .mem) (𝓡 .run)) 𝓜 𝓡 code.env #refuse refuse-def.routine code.calls-calls·replies·no-begin (refuse-thm.met 𝓤 H 𝓜 𝓖 𝓡))
-    (cited 𝓤 H (Scan 𝓤 H (𝓖 .A) (𝓜 .mem) (𝓡 .run)) 𝓜 𝓡 code.env #scan scan-def.routine code.calls-lent·scan (scan-thm.met 𝓤 H 𝓜 𝓖 𝓡))
-    (cited 𝓤 H (Row 𝓤 H (𝓖 .A) (𝓜 .mem) (𝓡 .run)) 𝓜 𝓡 code.env #row row-def.routine code.calls-lent·row (row-thm.met 𝓤 H 𝓜 𝓖 𝓡))
-    (cited 𝓤 H (Put 𝓤 H (𝓖 .A) (𝓜 .mem) (𝓡 .run)) 𝓜 𝓡 code.env #put put-def.routine code.calls-lent·put (put-thm.met 𝓤 H 𝓜 𝓖 𝓡))
-    (cited 𝓤 H (ByValue 𝓤 H (𝓖 .A) (𝓜 .mem) (𝓡 .run)) 𝓜 𝓡 code.env #call call-def.routine code.calls-calls·client-calls·begin-on (call-thm.met 𝓤 H 𝓜 𝓖 𝓡)))
+    (cited 𝓤 H (Refuse 𝓤 H (𝓖 .A) (𝓜 .mem) (𝓡 .run)) 𝓜 𝓡 code.env #refuse refuse-def.routine code.calls-call-reply·replies·no-begin (refuse-thm.met 𝓤 H 𝓜 𝓖 𝓡))
+    (cited 𝓤 H (Scan 𝓤 H (𝓖 .A) (𝓜 .mem) (𝓡 .run)) 𝓜 𝓡 code.env #scan scan-def.routine code.calls-host-table·scan (scan-thm.met 𝓤 H 𝓜 𝓖 𝓡))
+    (cited 𝓤 H (Row 𝓤 H (𝓖 .A) (𝓜 .mem) (𝓡 .run)) 𝓜 𝓡 code.env #row row-def.routine code.calls-host-table·row (row-thm.met 𝓤 H 𝓜 𝓖 𝓡))
+    (cited 𝓤 H (Put 𝓤 H (𝓖 .A) (𝓜 .mem) (𝓡 .run)) 𝓜 𝓡 code.env #put put-def.routine code.calls-host-table·put (put-thm.met 𝓤 H 𝓜 𝓖 𝓡))
+    (cited 𝓤 H (ByValue 𝓤 H (𝓖 .A) (𝓜 .mem) (𝓡 .run)) 𝓜 𝓡 code.env #call call-def.routine code.calls-call-client·begin (call-thm.met 𝓤 H 𝓜 𝓖 𝓡)))

@@ -41,20 +41,21 @@ use Rattle.memory.specs.declared.Counts.{Counts}
 use Rattle.memory.specs.declared.Turn.{Turn}
 use Rattle.memory.proofs.Counts as N
 use Rattle.memory.proofs.Counts.Laws as N′
-use Rattle.lent.proofs.Lend.{ShrOf, ref-shared, calls-lending}
-use Rattle.lent.proofs.Steps.{frees-cell}
-use Rattle.lent.proofs.Rows.{R, vals, tells, makes, copies, lawful}
-use Rattle.lent.proofs.Cursor as U
-use Rattle.lent.proofs.Callees.{CopyTurn, to-copy, asks-copy, gives-copy}
+use Rattle.host_table.proofs.Lend.{ShrOf, ref-shared, calls-lending}
+use Rattle.host_table.proofs.Steps.{frees-all}
+use Rattle.host_table.proofs.Steps.Held.{cell}
+use Rattle.host_table.proofs.Rows.{R, vals, tells, makes, copies, lawful}
+use Rattle.host_table.proofs.Cursor as U
+use Rattle.host_table.proofs.Callees.{CopyTurn, to-copy, asks-copy, gives-copy}
 use Rattle.replica.proofs.Handed.{handed, goes-handed}
 use Rattle.replica.proofs.TurnFacts.{DeliverOn}
-use Rattle.lent.proofs.copy_turn.Symbol as copy-def
-use Rattle.lent.proofs.copy_turn.Symbol.{name as #copy}
-use Rattle.lent.proofs.copy_turn.Met as copy-thm
-use Rattle.turn_calls.proofs.deliver_on as call
-use Rattle.turn_calls.proofs.deliver_on.Symbol as call-def
-use Rattle.turn_calls.proofs.deliver_on.Symbol.{name as #call}
-use Rattle.turn_calls.proofs.deliver_on.Met as call-thm
+use Rattle.host_table.proofs.copy_turn.Symbol as copy-def
+use Rattle.host_table.proofs.copy_turn.Symbol.{name as #copy}
+use Rattle.host_table.proofs.copy_turn.Met as copy-thm
+use Rattle.call_deliver.proofs.deliver as call
+use Rattle.call_deliver.proofs.deliver.Symbol as call-def
+use Rattle.call_deliver.proofs.deliver.Symbol.{name as #call}
+use Rattle.call_deliver.proofs.deliver.Met as call-thm
 use Rattle.replica.proofs.stemline_deliver.Key.{name as #own}
 use Rattle.replica.proofs.stemline_deliver as own
 use Rattle.replica.proofs.stemline_deliver.Statement as stated
@@ -134,7 +135,7 @@ module _ {M : Type 1} (𝓤 : URA M) (H : Heap 𝓤) (A : Atoms 𝓤) (W : Given
         peeks ! u8 (Is u8) (shows 𝓤 H A u8) r (u ∷ []) (λ is. drop ! $
         land ! (from ! (stop !)) (init ! 20 refl (uint-lawful 𝓤 H A W w8 .typed r _ is .0)) $
         returns ! (look ! 20 refl) $
-        frees-cell ! 20 refl refl $ frees-cell ! 18 refl refl $ frees-cell ! 16 refl refl $ frees-cell ! 14 refl refl $ frees-cell ! 12 refl refl $ frees-cell ! 10 refl refl $ frees-cell ! 8 refl refl $ frees-cell ! 6 refl refl $ frees-cell ! 4 refl refl $ free0 ! $
+        frees-all ! (_ ∷ _ ∷ _ ∷ _ ∷ []) (cell _ _ _ ∷ cell _ _ _ ∷ cell _ _ _ ∷ cell _ _ _ ∷ cell _ _ _ ∷ cell _ _ _ ∷ cell _ _ _ ∷ cell _ _ _ ∷ cell _ _ _ ∷ []) $ free0 ! $
         move ! (2 ∷ 3 ∷ 1 ∷ 0 ∷ []) $
         by ! (ends _ (r) (ws .1 .1 .0) is said))))))))))))))))
 
@@ -154,5 +155,5 @@ stemline-deliver-spec 𝓤 H 𝓜 𝓖 𝓡 =
     entered 𝓤 H (tripleOf 𝓤 H (𝓖 .A) own.signature (own.spec 𝓤 H (𝓖 .A) (𝓜 .mem) (𝓡 .run)))
     (tables 𝓤 H 𝓜 𝓡 code.env .C) (tables 𝓤 H 𝓜 𝓡 code.env .Λ) #own code.function (code.unfolded 𝓤 H 𝓜 𝓡)
     (meets 𝓤 H (𝓖 .A) (givenOf 𝓤 H 𝓜 𝓖) (𝓜 .mem) (𝓡 .run) (tablesOf 𝓤 H 𝓜 (tables 𝓤 H 𝓜 𝓡 code.env))
-    (cited 𝓤 H (CopyTurn 𝓤 H (𝓖 .A) (𝓜 .mem) (𝓡 .run)) 𝓜 𝓡 code.env #copy copy-def.routine code.calls-lent·copy-turn (copy-thm.met 𝓤 H 𝓜 𝓖 𝓡))
-    (cited 𝓤 H (ByValue 𝓤 H (𝓖 .A) (𝓜 .mem) (𝓡 .run)) 𝓜 𝓡 code.env #call call-def.routine code.calls-turn-calls·deliver-on (call-thm.met 𝓤 H 𝓜 𝓖 𝓡)))
+    (cited 𝓤 H (CopyTurn 𝓤 H (𝓖 .A) (𝓜 .mem) (𝓡 .run)) 𝓜 𝓡 code.env #copy copy-def.routine code.calls-host-table·copy-turn (copy-thm.met 𝓤 H 𝓜 𝓖 𝓡))
+    (cited 𝓤 H (ByValue 𝓤 H (𝓖 .A) (𝓜 .mem) (𝓡 .run)) 𝓜 𝓡 code.env #call call-def.routine code.calls-call-deliver·deliver (call-thm.met 𝓤 H 𝓜 𝓖 𝓡)))

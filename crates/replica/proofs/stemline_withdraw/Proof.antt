@@ -44,36 +44,37 @@ use Rattle.memory.specs.declared.Txn.{Txn}
 use Rattle.memory.specs.Rows.{closed, rowOf, rowAt}
 use Rattle.memory.proofs.Counts as N
 use Rattle.memory.proofs.Counts.Laws as N′
-use Rattle.lent.proofs.Lend.{MutAt, slice-lent, slice-read, calls-lending}
-use Rattle.lent.proofs.Steps.{when, equal, unequal, unit-typed, frees-cell, frees-room}
-use Rattle.lent.proofs.Rows.{R, vals, tells, makes, lawful}
-use Rattle.lent.proofs.Answers.{answers}
-use Rattle.lent.proofs.Callees.{Find, Row, End, to-find, asks-find, gives-find, to-row, asks-row, gives-row, to-end, asks-end, gives-end}
+use Rattle.host_table.proofs.Lend.{MutAt, slice-lent, slice-read, calls-lending}
+use Rattle.host_table.proofs.Steps.{when, equal, unequal, unit-typed, frees-all}
+use Rattle.host_table.proofs.Steps.Held.{cell, room}
+use Rattle.host_table.proofs.Rows.{R, vals, tells, makes, lawful}
+use Rattle.host_table.proofs.Answers.{answers}
+use Rattle.host_table.proofs.Callees.{Find, Row, End, to-find, asks-find, gives-find, to-row, asks-row, gives-row, to-end, asks-end, gives-end}
 use Rattle.replica.proofs.Handed.{handed, goes-handed}
 use Rattle.replica.proofs.ClientFacts.{WithdrawOn, WithdrawDid, withdraw-not, withdraw-kept, withdraw-ended}
-use Rattle.calls.specs.declared.Changed.{Changed}
-use Rattle.calls.proofs.Changed as D
-use Rattle.calls.proofs.Changed.Laws as D′
-use Rattle.calls.specs.declared.Reply.{Reply}
-use Rattle.calls.proofs.Reply as Y
-use Rattle.calls.proofs.Reply.Laws as Y′
-use Rattle.calls.proofs.replies.replied as refuse
-use Rattle.calls.proofs.replies.replied.Symbol as refuse-def
-use Rattle.calls.proofs.replies.replied.Symbol.{name as #refuse}
-use Rattle.calls.proofs.replies.replied.Met as refuse-thm
-use Rattle.lent.proofs.find.Symbol as find-def
-use Rattle.lent.proofs.find.Symbol.{name as #find}
-use Rattle.lent.proofs.find.Met as find-thm
-use Rattle.lent.proofs.row.Symbol as row-def
-use Rattle.lent.proofs.row.Symbol.{name as #row}
-use Rattle.lent.proofs.row.Met as row-thm
-use Rattle.lent.proofs.end.Symbol as end-def
-use Rattle.lent.proofs.end.Symbol.{name as #end}
-use Rattle.lent.proofs.end.Met as end-thm
-use Rattle.calls.proofs.client_calls.withdraw_on as call
-use Rattle.calls.proofs.client_calls.withdraw_on.Symbol as call-def
-use Rattle.calls.proofs.client_calls.withdraw_on.Symbol.{name as #call}
-use Rattle.calls.proofs.client_calls.withdraw_on.Met as call-thm
+use Rattle.call_reply.specs.declared.Changed.{Changed}
+use Rattle.call_reply.proofs.Changed as D
+use Rattle.call_reply.proofs.Changed.Laws as D′
+use Rattle.call_reply.specs.declared.Reply.{Reply}
+use Rattle.call_reply.proofs.Reply as Y
+use Rattle.call_reply.proofs.Reply.Laws as Y′
+use Rattle.call_reply.proofs.replies.replied as refuse
+use Rattle.call_reply.proofs.replies.replied.Symbol as refuse-def
+use Rattle.call_reply.proofs.replies.replied.Symbol.{name as #refuse}
+use Rattle.call_reply.proofs.replies.replied.Met as refuse-thm
+use Rattle.host_table.proofs.find.Symbol as find-def
+use Rattle.host_table.proofs.find.Symbol.{name as #find}
+use Rattle.host_table.proofs.find.Met as find-thm
+use Rattle.host_table.proofs.row.Symbol as row-def
+use Rattle.host_table.proofs.row.Symbol.{name as #row}
+use Rattle.host_table.proofs.row.Met as row-thm
+use Rattle.host_table.proofs.end.Symbol as end-def
+use Rattle.host_table.proofs.end.Symbol.{name as #end}
+use Rattle.host_table.proofs.end.Met as end-thm
+use Rattle.call_client.proofs.withdraw as call
+use Rattle.call_client.proofs.withdraw.Symbol as call-def
+use Rattle.call_client.proofs.withdraw.Symbol.{name as #call}
+use Rattle.call_client.proofs.withdraw.Met as call-thm
 use Rattle.replica.proofs.stemline_withdraw.Key.{name as #own}
 use Rattle.replica.proofs.stemline_withdraw as own
 use Rattle.replica.proofs.stemline_withdraw.Statement as stated
@@ -163,7 +164,7 @@ module _ {M : Type 1} (𝓤 : URA M) (H : Heap 𝓤) (A : Atoms 𝓤) (W : Given
         use1 W (later (given (Is Y.the-row (record { number = 1; counts = counts }) (u ∷ [])) (‵ ftrue))) (answers 𝓤 H A W refuse.ended (refuse.clauses 𝓤 H A mem run) to-refuse (record { number = 1; counts = counts }) (λ r e. id⊢ 𝓤 _) u) $ await ! tt $ learn ! (λ is. drop ! $
         land ! (from ! (stop !)) (init ! 36 refl (LL.lawful Y.the-type Y′.the-laws 𝓤 H A W .typed (record { number = 1; counts = counts }) _ is .0)) $
         returns-within ! Post refl (look ! 36 refl) $
-        frees-cell ! 36 refl refl $ frees-cell ! 34 refl refl $ frees-cell ! 32 refl refl $ frees-cell ! 30 refl refl $ frees-room ! 28 refl refl $ frees-room ! 26 refl refl $ frees-room ! 24 refl refl $ frees-room ! 22 refl refl $ frees-cell ! 20 refl refl $ frees-cell ! 18 refl refl $ frees-room ! 16 refl refl $ frees-room ! 14 refl refl $ frees-room ! 12 refl refl $ frees-room ! 10 refl refl $ frees-room ! 8 refl refl $ frees-room ! 6 refl refl $ frees-room ! 4 refl refl $ free0 ! $
+        frees-all ! (_ ∷ _ ∷ _ ∷ _ ∷ []) (room _ _ ∷ room _ _ ∷ room _ _ ∷ room _ _ ∷ room _ _ ∷ room _ _ ∷ room _ _ ∷ cell _ _ _ ∷ cell _ _ _ ∷ room _ _ ∷ room _ _ ∷ room _ _ ∷ room _ _ ∷ cell _ _ _ ∷ cell _ _ _ ∷ cell _ _ _ ∷ cell _ _ _ ∷ []) $ free0 ! $
         by ! (ends-not _ is (unequal (length ys) 6 other)))))
         (λ six₀. let six = equal (length ys) 6 six₀ in
         assigns ! (addr ! (from ! (fld ! refl (hop ! (look-in ! 34 (sub ! 0 refl (whole !))) (stop !))))) (from ! (stop !)) (init ! 16 refl (tt, tt)) $
@@ -192,7 +193,7 @@ module _ {M : Type 1} (𝓤 : URA M) (H : Heap 𝓤) (A : Atoms 𝓤) (W : Given
         when ! (load ! (from ! (stop !)) (look ! 18 refl)) (λ refused.
         assigns ! (of-opd ! (load ! (from ! (stop !)) (look ! 22 refl))) (from ! (stop !)) (init ! 36 refl (LL.lawful Y.the-type Y′.the-laws 𝓤 H A W .typed (r .reply) _ is₆ .0)) $
         returns-within ! Post refl (look ! 36 refl) $
-        frees-cell ! 36 refl refl $ frees-cell ! 34 refl refl $ frees-cell ! 32 refl refl $ frees-cell ! 30 refl refl $ frees-cell ! 28 refl refl $ frees-cell ! 26 refl refl $ frees-cell ! 24 refl refl $ frees-cell ! 22 refl refl $ frees-cell ! 20 refl refl $ frees-cell ! 18 refl refl $ frees-cell ! 16 refl refl $ frees-cell ! 14 refl refl $ frees-cell ! 12 refl refl $ frees-cell ! 10 refl refl $ frees-room ! 8 refl refl $ frees-room ! 6 refl refl $ frees-room ! 4 refl refl $ free0 ! $
+        frees-all ! (_ ∷ _ ∷ _ ∷ _ ∷ []) (room _ _ ∷ room _ _ ∷ room _ _ ∷ cell _ _ _ ∷ cell _ _ _ ∷ cell _ _ _ ∷ cell _ _ _ ∷ cell _ _ _ ∷ cell _ _ _ ∷ cell _ _ _ ∷ cell _ _ _ ∷ cell _ _ _ ∷ cell _ _ _ ∷ cell _ _ _ ∷ cell _ _ _ ∷ cell _ _ _ ∷ cell _ _ _ ∷ []) $ free0 ! $
         move ! (2 ∷ 3 ∷ 1 ∷ 0 ∷ []) $
         by ! (ends _ (r .reply) ys is₆ refl (withdraw-kept ys ticket counts r six said (unequal (r .reply .number) 0 refused))))
         (λ taken.
@@ -203,7 +204,7 @@ module _ {M : Type 1} (𝓤 : URA M) (H : Heap 𝓤) (A : Atoms 𝓤) (W : Given
         (λ ν δ i j. (and-then ! (load ! (from ! (stop !)) (look ! 4 refl)) (and-then ! (load ! (from ! (stop !)) (look ! 28 refl)) (no-more !)))) (λ w₁ e₁. land ! (from ! (stop !)) (init ! 8 refl (unit-typed w₁ e₁)) $
         assigns ! (of-opd ! (load ! (from ! (stop !)) (look ! 22 refl))) (from ! (stop !)) (init ! 36 refl (LL.lawful Y.the-type Y′.the-laws 𝓤 H A W .typed (r .reply) _ is₆ .0)) $
         returns ! (look ! 36 refl) $
-        frees-cell ! 36 refl refl $ frees-cell ! 34 refl refl $ frees-cell ! 32 refl refl $ frees-cell ! 30 refl refl $ frees-cell ! 28 refl refl $ frees-cell ! 26 refl refl $ frees-cell ! 24 refl refl $ frees-cell ! 22 refl refl $ frees-cell ! 20 refl refl $ frees-cell ! 18 refl refl $ frees-cell ! 16 refl refl $ frees-cell ! 14 refl refl $ frees-cell ! 12 refl refl $ frees-cell ! 10 refl refl $ frees-cell ! 8 refl refl $ frees-cell ! 6 refl refl $ frees-cell ! 4 refl refl $ free0 ! $
+        frees-all ! (_ ∷ _ ∷ _ ∷ _ ∷ []) (cell _ _ _ ∷ cell _ _ _ ∷ cell _ _ _ ∷ cell _ _ _ ∷ cell _ _ _ ∷ cell _ _ _ ∷ cell _ _ _ ∷ cell _ _ _ ∷ cell _ _ _ ∷ cell _ _ _ ∷ cell _ _ _ ∷ cell _ _ _ ∷ cell _ _ _ ∷ cell _ _ _ ∷ cell _ _ _ ∷ cell _ _ _ ∷ cell _ _ _ ∷ []) $ free0 ! $
         move ! (0 ∷ 1 ∷ 3 ∷ 2 ∷ []) $
         by ! (ends _ (r .reply) (set ys (rowOf ticket ys) closed) is₆ (length-set ys (rowOf ticket ys) closed) (withdraw-ended ys ticket counts r six said (equal (r .reply .number) 0 taken))))))))))))))))))))))))))))))
 
@@ -223,8 +224,8 @@ stemline-withdraw-spec 𝓤 H 𝓜 𝓖 𝓡 =
     entered 𝓤 H (tripleOf 𝓤 H (𝓖 .A) own.signature (own.spec 𝓤 H (𝓖 .A) (𝓜 .mem) (𝓡 .run)))
     (tables 𝓤 H 𝓜 𝓡 code.env .C) (tables 𝓤 H 𝓜 𝓡 code.env .Λ) #own code.function (code.unfolded 𝓤 H 𝓜 𝓡)
     (meets 𝓤 H (𝓖 .A) (givenOf 𝓤 H 𝓜 𝓖) (𝓜 .mem) (𝓡 .run) (tablesOf 𝓤 H 𝓜 (tables 𝓤 H 𝓜 𝓡 code.env))
-    (cited 𝓤 H (Refuse 𝓤 H (𝓖 .A) (𝓜 .mem) (𝓡 .run)) 𝓜 𝓡 code.env #refuse refuse-def.routine code.calls-calls·replies·replied (refuse-thm.met 𝓤 H 𝓜 𝓖 𝓡))
-    (cited 𝓤 H (Find 𝓤 H (𝓖 .A) (𝓜 .mem) (𝓡 .run)) 𝓜 𝓡 code.env #find find-def.routine code.calls-lent·find (find-thm.met 𝓤 H 𝓜 𝓖 𝓡))
-    (cited 𝓤 H (Row 𝓤 H (𝓖 .A) (𝓜 .mem) (𝓡 .run)) 𝓜 𝓡 code.env #row row-def.routine code.calls-lent·row (row-thm.met 𝓤 H 𝓜 𝓖 𝓡))
-    (cited 𝓤 H (End 𝓤 H (𝓖 .A) (𝓜 .mem) (𝓡 .run)) 𝓜 𝓡 code.env #end end-def.routine code.calls-lent·end (end-thm.met 𝓤 H 𝓜 𝓖 𝓡))
-    (cited 𝓤 H (ByValue 𝓤 H (𝓖 .A) (𝓜 .mem) (𝓡 .run)) 𝓜 𝓡 code.env #call call-def.routine code.calls-calls·client-calls·withdraw-on (call-thm.met 𝓤 H 𝓜 𝓖 𝓡)))
+    (cited 𝓤 H (Refuse 𝓤 H (𝓖 .A) (𝓜 .mem) (𝓡 .run)) 𝓜 𝓡 code.env #refuse refuse-def.routine code.calls-call-reply·replies·replied (refuse-thm.met 𝓤 H 𝓜 𝓖 𝓡))
+    (cited 𝓤 H (Find 𝓤 H (𝓖 .A) (𝓜 .mem) (𝓡 .run)) 𝓜 𝓡 code.env #find find-def.routine code.calls-host-table·find (find-thm.met 𝓤 H 𝓜 𝓖 𝓡))
+    (cited 𝓤 H (Row 𝓤 H (𝓖 .A) (𝓜 .mem) (𝓡 .run)) 𝓜 𝓡 code.env #row row-def.routine code.calls-host-table·row (row-thm.met 𝓤 H 𝓜 𝓖 𝓡))
+    (cited 𝓤 H (End 𝓤 H (𝓖 .A) (𝓜 .mem) (𝓡 .run)) 𝓜 𝓡 code.env #end end-def.routine code.calls-host-table·end (end-thm.met 𝓤 H 𝓜 𝓖 𝓡))
+    (cited 𝓤 H (ByValue 𝓤 H (𝓖 .A) (𝓜 .mem) (𝓡 .run)) 𝓜 𝓡 code.env #call call-def.routine code.calls-call-client·withdraw (call-thm.met 𝓤 H 𝓜 𝓖 𝓡)))

@@ -48,42 +48,43 @@ use Rattle.memory.specs.declared.Txn.{Txn}
 use Rattle.memory.proofs.Counts as N
 use Rattle.memory.proofs.Counts.Laws as N′
 use Rattle.memory.proofs.Txn as T
-use Rattle.lent.specs.Table.{loaded, stored}
-use Rattle.lent.specs.Turns.{moved}
-use Rattle.lent.proofs.Lend.{MutAt, MutOf, slice-lent, slice-read, ref-lent, ref-read, calls-lending}
-use Rattle.lent.proofs.Steps.{when, equal, unequal, unit-typed, frees-cell, frees-room}
-use Rattle.lent.proofs.Rows.{R, vals, tells, makes, lawful}
-use Rattle.lent.proofs.Cursor as U
-use Rattle.lent.proofs.Answers.{answers}
-use Rattle.lent.proofs.Callees.{Load, Store, CopyTurn, MoveTurn, to-load, asks-load, gives-load, to-store, asks-store, gives-store, stored-length, to-copy, asks-copy, gives-copy, to-move, asks-move, gives-move}
+use Rattle.memory.proofs.Turn as K
+use Rattle.host_table.specs.Table.{loaded, stored}
+use Rattle.host_table.proofs.Lend.{MutAt, MutOf, slice-lent, slice-read, ref-lent, ref-read, calls-lending}
+use Rattle.host_table.proofs.Steps.{when, equal, unequal, unit-typed, frees-all}
+use Rattle.host_table.proofs.Steps.Held.{cell, room}
+use Rattle.host_table.proofs.Rows.{R, vals, tells, makes, lawful}
+use Rattle.host_table.proofs.Cursor as U
+use Rattle.host_table.proofs.Answers.{answers}
+use Rattle.host_table.proofs.Callees.{Load, Store, CopyTurn, SetTurn, to-load, asks-load, gives-load, to-store, asks-store, gives-store, stored-length, to-copy, asks-copy, gives-copy, to-turn, asks-turn, gives-turn}
 use Rattle.replica.proofs.Handed.{handed, goes-handed, is-rows}
 use Rattle.replica.proofs.TurnFacts.{WorkOn, WorkDid, work-not, work-did}
-use Rattle.turn_calls.specs.declared.Worked.{Worked}
-use Rattle.turn_calls.proofs.Worked as D
-use Rattle.turn_calls.proofs.Worked.Laws as D′
-use Rattle.calls.specs.declared.WorkReply.{WorkReply}
-use Rattle.calls.proofs.WorkReply as Y
-use Rattle.calls.proofs.WorkReply.Laws as Y′
-use Rattle.calls.proofs.replies.no_work as refuse
-use Rattle.calls.proofs.replies.no_work.Symbol as refuse-def
-use Rattle.calls.proofs.replies.no_work.Symbol.{name as #refuse}
-use Rattle.calls.proofs.replies.no_work.Met as refuse-thm
-use Rattle.lent.proofs.load.Symbol as load-def
-use Rattle.lent.proofs.load.Symbol.{name as #load}
-use Rattle.lent.proofs.load.Met as load-thm
-use Rattle.lent.proofs.copy_turn.Symbol as copy-def
-use Rattle.lent.proofs.copy_turn.Symbol.{name as #copy}
-use Rattle.lent.proofs.copy_turn.Met as copy-thm
-use Rattle.lent.proofs.store.Symbol as store-def
-use Rattle.lent.proofs.store.Symbol.{name as #store}
-use Rattle.lent.proofs.store.Met as store-thm
-use Rattle.lent.proofs.move_turn.Symbol as move-def
-use Rattle.lent.proofs.move_turn.Symbol.{name as #move}
-use Rattle.lent.proofs.move_turn.Met as move-thm
-use Rattle.turn_calls.proofs.work_on as call
-use Rattle.turn_calls.proofs.work_on.Symbol as call-def
-use Rattle.turn_calls.proofs.work_on.Symbol.{name as #call}
-use Rattle.turn_calls.proofs.work_on.Met as call-thm
+use Rattle.call_reply.specs.declared.Worked.{Worked}
+use Rattle.call_reply.proofs.Worked as D
+use Rattle.call_reply.proofs.Worked.Laws as D′
+use Rattle.call_reply.specs.declared.WorkReply.{WorkReply}
+use Rattle.call_reply.proofs.WorkReply as Y
+use Rattle.call_reply.proofs.WorkReply.Laws as Y′
+use Rattle.call_reply.proofs.replies.no_work as refuse
+use Rattle.call_reply.proofs.replies.no_work.Symbol as refuse-def
+use Rattle.call_reply.proofs.replies.no_work.Symbol.{name as #refuse}
+use Rattle.call_reply.proofs.replies.no_work.Met as refuse-thm
+use Rattle.host_table.proofs.load.Symbol as load-def
+use Rattle.host_table.proofs.load.Symbol.{name as #load}
+use Rattle.host_table.proofs.load.Met as load-thm
+use Rattle.host_table.proofs.copy_turn.Symbol as copy-def
+use Rattle.host_table.proofs.copy_turn.Symbol.{name as #copy}
+use Rattle.host_table.proofs.copy_turn.Met as copy-thm
+use Rattle.host_table.proofs.store.Symbol as store-def
+use Rattle.host_table.proofs.store.Symbol.{name as #store}
+use Rattle.host_table.proofs.store.Met as store-thm
+use Rattle.host_table.proofs.set_turn.Symbol as turn-def
+use Rattle.host_table.proofs.set_turn.Symbol.{name as #turn}
+use Rattle.host_table.proofs.set_turn.Met as turn-thm
+use Rattle.call_work.proofs.work as call
+use Rattle.call_work.proofs.work.Symbol as call-def
+use Rattle.call_work.proofs.work.Symbol.{name as #call}
+use Rattle.call_work.proofs.work.Met as call-thm
 use Rattle.replica.proofs.stemline_work.Key.{name as #own}
 use Rattle.replica.proofs.stemline_work as own
 use Rattle.replica.proofs.stemline_work.Statement as stated
@@ -155,7 +156,7 @@ module _ {M : Type 1} (𝓤 : URA M) (H : Heap 𝓤) (A : Atoms 𝓤) (W : Given
       qed W (‵ (MutAt R b₀ o₀ κ₀ γ₀ (length ys) ys) ∷ ‵ (flft κ₀ q₀) ∷ ‵ (MutOf U.R b₁ o₁ κ₁ γ₁ h) ∷ ‵ (flft κ₁ q₁) ∷ ‵ Rest ∷ Toks ∷ []) ∵ updating ! $ move ! (4 ∷ []) $ use1 W (later (‵ (fsep ftrue (fsep (left (MutSlice (named 0) κ₃ u32 .exit yes) (record { ptr = (b₃, o₃); name = γ₃; now = queue }) queue) (fsep ftrue (fsep (left (MutSlice (named 0) κ₅ i32 .exit yes) (record { ptr = (b₅, o₅); name = γ₅; now = values }) values) (fsep (left (MutSlice (named 0) κ₆ u32 .exit yes) (record { ptr = (b₆, o₆); name = γ₆; now = stamps }) stamps) (fsep (left (MutSlice (named 0) κ₇ u8 .exit yes) (record { ptr = (b₇, o₇); name = γ₇; now = places }) places) ftrue)))))))) (go-all 𝓤 H A W 7 ((plain (λ _. N.the-row)) ∷ (mutSliceOf (2 ∷ []) tt (plain (λ _. u32))) ∷ (shrSliceOf (3 ∷ []) tt (plain (λ _. u8))) ∷ (mutSliceOf (4 ∷ []) tt (plain (λ _. i32))) ∷ (mutSliceOf (5 ∷ []) tt (plain (λ _. u32))) ∷ (mutSliceOf (6 ∷ []) tt (plain (λ _. u8))) ∷ []) (yes, (yes, (yes, (yes, (yes, (yes, tt)))))) (stay-none (λ _. N.the-row) yes, (stay-slice (2 ∷ []) tt (plain (λ _. u32)), (stay-none-slice (3 ∷ []) tt (plain (λ _. u8)) yes, (stay-slice (4 ∷ []) tt (plain (λ _. i32)), (stay-slice (5 ∷ []) tt (plain (λ _. u32)), (stay-slice (6 ∷ []) tt (plain (λ _. u8)), tt)))))) (goes-none 𝓤 H A W 7 (λ _. N.the-row) yes (λ κs x f. refl), (goes-slice 𝓤 H A W 7 2 tt (plain (λ _. u32)), (goes-none-slice 𝓤 H A W 7 (3 ∷ []) tt (plain (λ _. u8)) yes, (goes-slice 𝓤 H A W 7 4 tt (plain (λ _. i32)), (goes-slice 𝓤 H A W 7 5 tt (plain (λ _. u32)), (goes-slice 𝓤 H A W 7 6 tt (plain (λ _. u8)), tt)))))) (κ₀, (κ₁, (κ₃, (κ₄, (κ₅, (κ₆, (κ₇, tt))))))) rest (tt, (queue, (tt, (values, (stamps, (places, tt)))))) rest-at (tt, (refl, (tt, (refl, (refl, (refl, tt))))))) $ await ! tt $ move ! (1 ∷ 2 ∷ 3 ∷ 4 ∷ 0 ∷ []) $
       by ! (ends v (record { number = 1; sender = 0; moved = false; count = 0; ticket = 0; aborted = replicate 6 0; counts = counts }) ys h queue values stamps places is refl (work-not ys h counts queue items values stamps places other))
 
-  module _ (C : Calls 𝓤 H) (Λ : Loops 𝓤 H) (fm : FmC 𝓤 H (W .laws) C) (known-refuse : Triple 𝓤 (C #refuse) (Refuse 𝓤 H A mem run)) (known-load : Triple 𝓤 (C #load) (Load 𝓤 H A mem run)) (known-copy : Triple 𝓤 (C #copy) (CopyTurn 𝓤 H A mem run)) (known-store : Triple 𝓤 (C #store) (Store 𝓤 H A mem run)) (known-move : Triple 𝓤 (C #move) (MoveTurn 𝓤 H A mem run)) (known-call : Triple 𝓤 (C #call) (ByValue 𝓤 H A mem run)) where
+  module _ (C : Calls 𝓤 H) (Λ : Loops 𝓤 H) (fm : FmC 𝓤 H (W .laws) C) (known-refuse : Triple 𝓤 (C #refuse) (Refuse 𝓤 H A mem run)) (known-load : Triple 𝓤 (C #load) (Load 𝓤 H A mem run)) (known-copy : Triple 𝓤 (C #copy) (CopyTurn 𝓤 H A mem run)) (known-store : Triple 𝓤 (C #store) (Store 𝓤 H A mem run)) (known-turn : Triple 𝓤 (C #turn) (SetTurn 𝓤 H A mem run)) (known-call : Triple 𝓤 (C #call) (ByValue 𝓤 H A mem run)) where
     walk : ent 𝓤 (onEntry 𝓤 H A own.signature (κ₀, (κ₁, (κ₃, (κ₄, (κ₅, (κ₆, (κ₇, tt))))))) (q₀, (q₁, (q₃, (q₄, (q₅, (q₆, (q₇, tt))))))) a at) (WpFn 𝓤 H C Λ code.function (sliceVal (b₀, o₀) (length ys) ∷ vptr b₁ o₁ ∷ LL.val N.the-type N′.the-laws counts ∷ sliceVal (b₃, o₃) (length queue) ∷ sliceVal (b₄, o₄) (length items) ∷ sliceVal (b₅, o₅) (length values) ∷ sliceVal (b₆, o₆) (length stamps) ∷ sliceVal (b₇, o₇) (length places) ∷ []) Post)
     walk =
         qed W ((‵ (flft κ₀ q₀) ⊛ (‵ (flft κ₁ q₁) ⊛ (‵ (flft κ₃ q₃) ⊛ (‵ (flft κ₄ q₄) ⊛ (‵ (flft κ₅ q₅) ⊛ (‵ (flft κ₆ q₆) ⊛ (‵ (flft κ₇ q₇) ⊛ ‵ ftrue))))))) ∷ ‵ (owns (MutSlice (named 0) κ₀ R ∷ MutRef (named 1) κ₁ U.R ∷ N.the-row ∷ MutSlice (named 2) κ₃ u32 ∷ ShrSlice (named 3) κ₄ u8 ∷ MutSlice (named 4) κ₅ i32 ∷ MutSlice (named 5) κ₆ u32 ∷ MutSlice (named 6) κ₇ u8 ∷ []) a at) ∷ []) ∵ enter ! C Λ code.function (sliceVal (b₀, o₀) (length ys) ∷ vptr b₁ o₁ ∷ LL.val N.the-type N′.the-laws counts ∷ sliceVal (b₃, o₃) (length queue) ∷ sliceVal (b₄, o₄) (length items) ∷ sliceVal (b₅, o₅) (length values) ∷ sliceVal (b₆, o₆) (length stamps) ∷ sliceVal (b₇, o₇) (length places) ∷ []) _ $
@@ -173,7 +174,7 @@ module _ {M : Type 1} (𝓤 : URA M) (H : Heap 𝓤) (A : Atoms 𝓤) (W : Given
         use1 W (later (given (Is Y.the-row (record { number = 1; sender = 0; moved = false; count = 0; ticket = 0; aborted = replicate 6 0; counts = counts }) (u ∷ [])) (‵ ftrue))) (answers 𝓤 H A W refuse.ended (refuse.clauses 𝓤 H A mem run) to-refuse (record { number = 1; sender = 0; moved = false; count = 0; ticket = 0; aborted = replicate 6 0; counts = counts }) (λ r e. id⊢ 𝓤 _) u) $ await ! tt $ learn ! (λ is. drop ! $
         land ! (from ! (stop !)) (init ! 62 refl (LL.lawful Y.the-type Y′.the-laws 𝓤 H A W .typed (record { number = 1; sender = 0; moved = false; count = 0; ticket = 0; aborted = replicate 6 0; counts = counts }) _ is .0)) $
         returns-within ! Post refl (look ! 62 refl) $
-        frees-cell ! 62 refl refl $ frees-cell ! 60 refl refl $ frees-cell ! 58 refl refl $ frees-cell ! 56 refl refl $ frees-cell ! 54 refl refl $ frees-cell ! 52 refl refl $ frees-cell ! 50 refl refl $ frees-cell ! 48 refl refl $ frees-cell ! 46 refl refl $ frees-room ! 44 refl refl $ frees-room ! 42 refl refl $ frees-room ! 40 refl refl $ frees-cell ! 38 refl refl $ frees-cell ! 36 refl refl $ frees-room ! 34 refl refl $ frees-room ! 32 refl refl $ frees-room ! 30 refl refl $ frees-room ! 28 refl refl $ frees-room ! 26 refl refl $ frees-room ! 24 refl refl $ frees-room ! 22 refl refl $ frees-room ! 20 refl refl $ frees-room ! 18 refl refl $ frees-room ! 16 refl refl $ frees-room ! 14 refl refl $ frees-room ! 12 refl refl $ frees-room ! 10 refl refl $ frees-room ! 8 refl refl $ frees-room ! 6 refl refl $ free0 ! $
+        frees-all ! (_ ∷ _ ∷ _ ∷ _ ∷ _ ∷ _ ∷ []) (room _ _ ∷ room _ _ ∷ room _ _ ∷ room _ _ ∷ room _ _ ∷ room _ _ ∷ room _ _ ∷ room _ _ ∷ room _ _ ∷ room _ _ ∷ room _ _ ∷ room _ _ ∷ room _ _ ∷ room _ _ ∷ room _ _ ∷ cell _ _ _ ∷ cell _ _ _ ∷ room _ _ ∷ room _ _ ∷ room _ _ ∷ cell _ _ _ ∷ cell _ _ _ ∷ cell _ _ _ ∷ cell _ _ _ ∷ cell _ _ _ ∷ cell _ _ _ ∷ cell _ _ _ ∷ cell _ _ _ ∷ cell _ _ _ ∷ []) $ free0 ! $
         by ! (ends-not _ is (unequal (length ys) 6 other)))))
         (λ six₀. let six = equal (length ys) 6 six₀ in
         assigns ! (addr ! (from ! (fld ! refl (hop ! (look-in ! 60 (sub ! 0 refl (whole !))) (stop !))))) (from ! (stop !)) (init ! 34 refl (tt, tt)) $
@@ -202,28 +203,28 @@ module _ {M : Type 1} (𝓤 : URA M) (H : Heap 𝓤) (A : Atoms 𝓤) (W : Given
         land ! (from ! (stop !)) (init ! 40 refl (LL.lawful D.the-type D′.the-laws 𝓤 H A W .typed r _ is .0)) $
         rewrite ! 40 (λ (w : Val). ‵ (fat fullShare D′.mir l11 0 w)) (ap only (LL.tells D.the-type D′.the-laws r _ is)) refl $
         let fields = LL.owed D.the-type D′.the-laws r _ is in
-        let is₄ = is-rows (r .rows) _ (fields .1 .0) in
-        let v₄ = D′.the-laws .1 .0 .val (map (T.the-type .to) (r .rows)) in
+        let is₄ = is-rows (r .rows) _ (fields .1 .1 .0) in
+        let v₄ = D′.the-laws .1 .1 .0 .val (map (T.the-type .to) (r .rows)) in
         assigns ! (addr ! (from ! (fld ! refl (hop ! (look-in ! 60 (sub ! 0 refl (whole !))) (stop !))))) (from ! (stop !)) (init ! 10 refl (tt, tt)) $
         assigns ! (agg ! (and-then ! (load ! (from ! (stop !)) (look ! 10 refl)) (and-then ! (load ! (from ! (fld ! refl (stop !))) (look-in ! 60 (sub ! 1 refl (whole !)))) (no-more !)))) (from ! (stop !)) (init ! 8 refl (tt, (tt, (record { fits = room₀ .0 }, tt)))) $
         move ! (4 ∷ 5 ∷ []) $
         calls-lending ! fm (slice-lent R b₀ o₀ κ₀ q₀ γ₀ ys W room₀ (stored (r .rows) ys) (stored-length 𝓤 H A W mem run (r .rows) ys (is₄ .1 .0 .1))) (Store 𝓤 H A mem run) known-store (to-store 𝓤 H A W mem run b₀ o₀ ys (r .rows) v₄) (asks-store 𝓤 H A W mem run b₀ o₀ ys (r .rows) v₄ is₄) (λ u. u ≡ vunit) (gives-store 𝓤 H A W mem run b₀ o₀ ys (r .rows) v₄)
-        (λ ν δ i j. (and-then ! (load ! (from ! (stop !)) (look ! 8 refl)) (and-then ! (load ! (from ! (fld ! refl (stop !))) (look-in ! 40 (sub ! 1 refl (whole !)))) (no-more !)))) (λ w₁ e₁. land ! (from ! (stop !)) (init ! 12 refl (unit-typed w₁ e₁)) $
+        (λ ν δ i j. (and-then ! (load ! (from ! (stop !)) (look ! 8 refl)) (and-then ! (load ! (from ! (fld ! refl (stop !))) (look-in ! 40 (sub ! 2 refl (whole !)))) (no-more !)))) (λ w₁ e₁. land ! (from ! (stop !)) (init ! 12 refl (unit-typed w₁ e₁)) $
         assigns ! (addr ! (from ! (hop ! (look ! 58 refl) (stop !)))) (from ! (stop !)) (init ! 6 refl (tt, tt)) $
         move ! (4 ∷ 5 ∷ []) $
-        calls-lending ! fm (ref-lent U.R b₁ o₁ κ₁ q₁ γ₁ h W (moved (r .change) h)) (MoveTurn 𝓤 H A mem run) known-move (to-move 𝓤 H A W mem run b₁ o₁ h (r .change) (fields .1 .1 .0 .1)) (asks-move 𝓤 H A W mem run b₁ o₁ h (r .change) (fields .1 .1 .0 .1)) (λ u. u ≡ vunit) (gives-move 𝓤 H A W mem run b₁ o₁ h (r .change) (fields .1 .1 .0 .1))
-        (λ ν δ i j. (and-then ! (load ! (from ! (stop !)) (look ! 6 refl)) (and-then ! (load ! (from ! (fld ! refl (stop !))) (look-in ! 40 (sub ! 2 refl (whole !)))) (no-more !)))) (λ w₂ e₂. land ! (from ! (stop !)) (store ! 12 refl (unit-typed w₂ e₂)) $
+        calls-lending ! fm (ref-lent U.R b₁ o₁ κ₁ q₁ γ₁ h W (r .turn)) (SetTurn 𝓤 H A mem run) known-turn (to-turn 𝓤 H A W mem run b₁ o₁ h (r .turn) (D′.the-laws .1 .0 .val (K.the-type .to (r .turn)))) (asks-turn 𝓤 H A W mem run b₁ o₁ h (r .turn) (D′.the-laws .1 .0 .val (K.the-type .to (r .turn))) (fields .1 .0)) (λ u. u ≡ vunit) (gives-turn 𝓤 H A W mem run b₁ o₁ h (r .turn) (D′.the-laws .1 .0 .val (K.the-type .to (r .turn))))
+        (λ ν δ i j. (and-then ! (load ! (from ! (stop !)) (look ! 6 refl)) (and-then ! (load ! (from ! (fld ! refl (stop !))) (look-in ! 40 (sub ! 1 refl (whole !)))) (no-more !)))) (λ w₂ e₂. land ! (from ! (stop !)) (store ! 12 refl (unit-typed w₂ e₂)) $
         assigns ! (of-opd ! (load ! (from ! (fld ! refl (stop !))) (look-in ! 40 (sub ! 0 refl (whole !))))) (from ! (stop !)) (init ! 62 refl (LL.lawful Y.the-type Y′.the-laws 𝓤 H A W .typed (r .reply) _ (fields .0) .0)) $
         returns ! (look ! 62 refl) $
-        frees-cell ! 62 refl refl $ frees-cell ! 60 refl refl $ frees-cell ! 58 refl refl $ frees-cell ! 56 refl refl $ frees-cell ! 54 refl refl $ frees-cell ! 52 refl refl $ frees-cell ! 50 refl refl $ frees-cell ! 48 refl refl $ frees-cell ! 46 refl refl $ frees-cell ! 44 refl refl $ frees-cell ! 42 refl refl $ frees-cell ! 40 refl refl $ frees-cell ! 38 refl refl $ frees-cell ! 36 refl refl $ frees-cell ! 34 refl refl $ frees-cell ! 32 refl refl $ frees-cell ! 30 refl refl $ frees-cell ! 28 refl refl $ frees-cell ! 26 refl refl $ frees-cell ! 24 refl refl $ frees-cell ! 22 refl refl $ frees-cell ! 20 refl refl $ frees-cell ! 18 refl refl $ frees-cell ! 16 refl refl $ frees-cell ! 14 refl refl $ frees-cell ! 12 refl refl $ frees-cell ! 10 refl refl $ frees-cell ! 8 refl refl $ frees-cell ! 6 refl refl $ free0 ! $
+        frees-all ! (_ ∷ _ ∷ _ ∷ _ ∷ _ ∷ _ ∷ []) (cell _ _ _ ∷ cell _ _ _ ∷ cell _ _ _ ∷ cell _ _ _ ∷ cell _ _ _ ∷ cell _ _ _ ∷ cell _ _ _ ∷ cell _ _ _ ∷ cell _ _ _ ∷ cell _ _ _ ∷ cell _ _ _ ∷ cell _ _ _ ∷ cell _ _ _ ∷ cell _ _ _ ∷ cell _ _ _ ∷ cell _ _ _ ∷ cell _ _ _ ∷ cell _ _ _ ∷ cell _ _ _ ∷ cell _ _ _ ∷ cell _ _ _ ∷ cell _ _ _ ∷ cell _ _ _ ∷ cell _ _ _ ∷ cell _ _ _ ∷ cell _ _ _ ∷ cell _ _ _ ∷ cell _ _ _ ∷ cell _ _ _ ∷ []) $ free0 ! $
         move ! (2 ∷ 3 ∷ 0 ∷ 1 ∷ 5 ∷ 4 ∷ []) $
-        by ! (ends _ (r .reply) (stored (r .rows) ys) (moved (r .change) h) (ws .1 .1 .1 .0) (ws .1 .1 .1 .1 .1 .0) (ws .1 .1 .1 .1 .1 .1 .0) (ws .1 .1 .1 .1 .1 .1 .1 .0) (fields .0) (stored-length 𝓤 H A W mem run (r .rows) ys (is₄ .1 .0 .1)) (work-did ys h counts queue items values stamps places r (ws .1 .1 .1 .0) (ws .1 .1 .1 .1 .1 .0) (ws .1 .1 .1 .1 .1 .1 .0) (ws .1 .1 .1 .1 .1 .1 .1 .0) six said)))))))))))))))))))))))))))))))))))))))))
+        by ! (ends _ (r .reply) (stored (r .rows) ys) (r .turn) (ws .1 .1 .1 .0) (ws .1 .1 .1 .1 .1 .0) (ws .1 .1 .1 .1 .1 .1 .0) (ws .1 .1 .1 .1 .1 .1 .1 .0) (fields .0) (stored-length 𝓤 H A W mem run (r .rows) ys (is₄ .1 .0 .1)) (work-did ys h counts queue items values stamps places r (ws .1 .1 .1 .0) (ws .1 .1 .1 .1 .1 .0) (ws .1 .1 .1 .1 .1 .1 .0) (ws .1 .1 .1 .1 .1 .1 .1 .0) six said)))))))))))))))))))))))))))))))))))))))))
 
 module _ {M : Type 1} (𝓤 : URA M) (H : Heap 𝓤) (A : Atoms 𝓤) (W : Given 𝓤 H A) (mem : Memory → SProp 𝓤) (run : Routine → Fun 𝓤) (𝓣 : Tables 𝓤 H)
-    (g-refuse : Triple 𝓤 (𝓣 .C #refuse) (Refuse 𝓤 H A mem run)) (g-load : Triple 𝓤 (𝓣 .C #load) (Load 𝓤 H A mem run)) (g-copy : Triple 𝓤 (𝓣 .C #copy) (CopyTurn 𝓤 H A mem run)) (g-store : Triple 𝓤 (𝓣 .C #store) (Store 𝓤 H A mem run)) (g-move : Triple 𝓤 (𝓣 .C #move) (MoveTurn 𝓤 H A mem run)) (g-call : Triple 𝓤 (𝓣 .C #call) (ByValue 𝓤 H A mem run)) where
+    (g-refuse : Triple 𝓤 (𝓣 .C #refuse) (Refuse 𝓤 H A mem run)) (g-load : Triple 𝓤 (𝓣 .C #load) (Load 𝓤 H A mem run)) (g-copy : Triple 𝓤 (𝓣 .C #copy) (CopyTurn 𝓤 H A mem run)) (g-store : Triple 𝓤 (𝓣 .C #store) (Store 𝓤 H A mem run)) (g-turn : Triple 𝓤 (𝓣 .C #turn) (SetTurn 𝓤 H A mem run)) (g-call : Triple 𝓤 (𝓣 .C #call) (ByValue 𝓤 H A mem run)) where
   walks : Walks 𝓤 H A own.ended stayed (WpFn 𝓤 H (𝓣 .C) (𝓣 .Λ) code.function) (own.clauses 𝓤 H A mem run)
   walks = walked 𝓤 H A own.ended stayed (own.clauses 𝓤 H A mem run) (WpFn 𝓤 H (𝓣 .C) (𝓣 .Λ) code.function) (λ κs. (slice-vals, (ptr-vals, (LL.vals N.the-type N′.the-laws, (slice-vals, (slice-vals, (slice-vals, (slice-vals, (slice-vals, tt))))))))) (λ κs. (mut-slice-tells (named 0) (κs .0) R, (mut-tells (named 1) (κs .1 .0) U.R, (LL.tells N.the-type N′.the-laws, (mut-slice-tells (named 2) (κs .1 .1 .0) u32, (shr-slice-tells (named 3) (κs .1 .1 .1 .0) u8, (mut-slice-tells (named 4) (κs .1 .1 .1 .1 .0) i32, (mut-slice-tells (named 5) (κs .1 .1 .1 .1 .1 .0) u32, (mut-slice-tells (named 6) (κs .1 .1 .1 .1 .1 .1 .0) u8, tt)))))))))
-      (λ κs qs bounds a _ are. via 𝓤 _ (fst∗ 𝓤 _ (emp 𝓤)) (walk 𝓤 H A W mem run (κs .0) (qs .0) (κs .1 .0) (qs .1 .0) (κs .1 .1 .0) (qs .1 .1 .0) (κs .1 .1 .1 .0) (qs .1 .1 .1 .0) (κs .1 .1 .1 .1 .0) (qs .1 .1 .1 .1 .0) (κs .1 .1 .1 .1 .1 .0) (qs .1 .1 .1 .1 .1 .0) (κs .1 .1 .1 .1 .1 .1 .0) (qs .1 .1 .1 .1 .1 .1 .0) (a .0 .ptr .0) (a .0 .ptr .1) (a .0 .name) (a .0 .now) (are .0 .0 .1) (a .1 .0 .ptr .0) (a .1 .0 .ptr .1) (a .1 .0 .name) (a .1 .0 .now) (a .1 .1 .0) (are .1 .1 .0) (a .1 .1 .1 .0 .ptr .0) (a .1 .1 .1 .0 .ptr .1) (a .1 .1 .1 .0 .name) (a .1 .1 .1 .0 .now) (are .1 .1 .1 .0 .0 .1) (a .1 .1 .1 .1 .0 .ptr .0) (a .1 .1 .1 .1 .0 .ptr .1) (a .1 .1 .1 .1 .0 .name) (a .1 .1 .1 .1 .0 .now) (are .1 .1 .1 .1 .0 .0 .1) (a .1 .1 .1 .1 .1 .0 .ptr .0) (a .1 .1 .1 .1 .1 .0 .ptr .1) (a .1 .1 .1 .1 .1 .0 .name) (a .1 .1 .1 .1 .1 .0 .now) (are .1 .1 .1 .1 .1 .0 .0 .1) (a .1 .1 .1 .1 .1 .1 .0 .ptr .0) (a .1 .1 .1 .1 .1 .1 .0 .ptr .1) (a .1 .1 .1 .1 .1 .1 .0 .name) (a .1 .1 .1 .1 .1 .1 .0 .now) (are .1 .1 .1 .1 .1 .1 .0 .0 .1) (a .1 .1 .1 .1 .1 .1 .1 .0 .ptr .0) (a .1 .1 .1 .1 .1 .1 .1 .0 .ptr .1) (a .1 .1 .1 .1 .1 .1 .1 .0 .name) (a .1 .1 .1 .1 .1 .1 .1 .0 .now) (are .1 .1 .1 .1 .1 .1 .1 .0 .0 .1) (𝓣 .C) (𝓣 .Λ) (fmOf 𝓤 H (W .laws) 𝓣) g-refuse g-load g-copy g-store g-move g-call))
+      (λ κs qs bounds a _ are. via 𝓤 _ (fst∗ 𝓤 _ (emp 𝓤)) (walk 𝓤 H A W mem run (κs .0) (qs .0) (κs .1 .0) (qs .1 .0) (κs .1 .1 .0) (qs .1 .1 .0) (κs .1 .1 .1 .0) (qs .1 .1 .1 .0) (κs .1 .1 .1 .1 .0) (qs .1 .1 .1 .1 .0) (κs .1 .1 .1 .1 .1 .0) (qs .1 .1 .1 .1 .1 .0) (κs .1 .1 .1 .1 .1 .1 .0) (qs .1 .1 .1 .1 .1 .1 .0) (a .0 .ptr .0) (a .0 .ptr .1) (a .0 .name) (a .0 .now) (are .0 .0 .1) (a .1 .0 .ptr .0) (a .1 .0 .ptr .1) (a .1 .0 .name) (a .1 .0 .now) (a .1 .1 .0) (are .1 .1 .0) (a .1 .1 .1 .0 .ptr .0) (a .1 .1 .1 .0 .ptr .1) (a .1 .1 .1 .0 .name) (a .1 .1 .1 .0 .now) (are .1 .1 .1 .0 .0 .1) (a .1 .1 .1 .1 .0 .ptr .0) (a .1 .1 .1 .1 .0 .ptr .1) (a .1 .1 .1 .1 .0 .name) (a .1 .1 .1 .1 .0 .now) (are .1 .1 .1 .1 .0 .0 .1) (a .1 .1 .1 .1 .1 .0 .ptr .0) (a .1 .1 .1 .1 .1 .0 .ptr .1) (a .1 .1 .1 .1 .1 .0 .name) (a .1 .1 .1 .1 .1 .0 .now) (are .1 .1 .1 .1 .1 .0 .0 .1) (a .1 .1 .1 .1 .1 .1 .0 .ptr .0) (a .1 .1 .1 .1 .1 .1 .0 .ptr .1) (a .1 .1 .1 .1 .1 .1 .0 .name) (a .1 .1 .1 .1 .1 .1 .0 .now) (are .1 .1 .1 .1 .1 .1 .0 .0 .1) (a .1 .1 .1 .1 .1 .1 .1 .0 .ptr .0) (a .1 .1 .1 .1 .1 .1 .1 .0 .ptr .1) (a .1 .1 .1 .1 .1 .1 .1 .0 .name) (a .1 .1 .1 .1 .1 .1 .1 .0 .now) (are .1 .1 .1 .1 .1 .1 .1 .0 .0 .1) (𝓣 .C) (𝓣 .Λ) (fmOf 𝓤 H (W .laws) 𝓣) g-refuse g-load g-copy g-store g-turn g-call))
 
   meets : Meets 𝓤 H A own.signature (WpFn 𝓤 H (𝓣 .C) (𝓣 .Λ) code.function) (own.spec 𝓤 H A mem run)
   meets = walk-meets 𝓤 H A own.ended stayed W (goes-slice 𝓤 H A W 7 0 tt (plain (λ _. R)), (goes-ref 𝓤 H A W 7 1 tt (plain (λ _. U.R)), (goes-handed 𝓤 H A W 7 (plain (λ _. N.the-row)) yes, (goes-handed 𝓤 H A W 7 (mutSliceOf (2 ∷ []) tt (plain (λ _. u32))) yes, (goes-handed 𝓤 H A W 7 (shrSliceOf (3 ∷ []) tt (plain (λ _. u8))) yes, (goes-handed 𝓤 H A W 7 (mutSliceOf (4 ∷ []) tt (plain (λ _. i32))) yes, (goes-handed 𝓤 H A W 7 (mutSliceOf (5 ∷ []) tt (plain (λ _. u32))) yes, (goes-handed 𝓤 H A W 7 (mutSliceOf (6 ∷ []) tt (plain (λ _. u8))) yes, tt)))))))) (own.clauses 𝓤 H A mem run)
@@ -235,9 +236,9 @@ stemline-work-spec 𝓤 H 𝓜 𝓖 𝓡 =
     entered 𝓤 H (tripleOf 𝓤 H (𝓖 .A) own.signature (own.spec 𝓤 H (𝓖 .A) (𝓜 .mem) (𝓡 .run)))
     (tables 𝓤 H 𝓜 𝓡 code.env .C) (tables 𝓤 H 𝓜 𝓡 code.env .Λ) #own code.function (code.unfolded 𝓤 H 𝓜 𝓡)
     (meets 𝓤 H (𝓖 .A) (givenOf 𝓤 H 𝓜 𝓖) (𝓜 .mem) (𝓡 .run) (tablesOf 𝓤 H 𝓜 (tables 𝓤 H 𝓜 𝓡 code.env))
-    (cited 𝓤 H (Refuse 𝓤 H (𝓖 .A) (𝓜 .mem) (𝓡 .run)) 𝓜 𝓡 code.env #refuse refuse-def.routine code.calls-calls·replies·no-work (refuse-thm.met 𝓤 H 𝓜 𝓖 𝓡))
-    (cited 𝓤 H (Load 𝓤 H (𝓖 .A) (𝓜 .mem) (𝓡 .run)) 𝓜 𝓡 code.env #load load-def.routine code.calls-lent·load (load-thm.met 𝓤 H 𝓜 𝓖 𝓡))
-    (cited 𝓤 H (CopyTurn 𝓤 H (𝓖 .A) (𝓜 .mem) (𝓡 .run)) 𝓜 𝓡 code.env #copy copy-def.routine code.calls-lent·copy-turn (copy-thm.met 𝓤 H 𝓜 𝓖 𝓡))
-    (cited 𝓤 H (Store 𝓤 H (𝓖 .A) (𝓜 .mem) (𝓡 .run)) 𝓜 𝓡 code.env #store store-def.routine code.calls-lent·store (store-thm.met 𝓤 H 𝓜 𝓖 𝓡))
-    (cited 𝓤 H (MoveTurn 𝓤 H (𝓖 .A) (𝓜 .mem) (𝓡 .run)) 𝓜 𝓡 code.env #move move-def.routine code.calls-lent·move-turn (move-thm.met 𝓤 H 𝓜 𝓖 𝓡))
-    (cited 𝓤 H (ByValue 𝓤 H (𝓖 .A) (𝓜 .mem) (𝓡 .run)) 𝓜 𝓡 code.env #call call-def.routine code.calls-turn-calls·work-on (call-thm.met 𝓤 H 𝓜 𝓖 𝓡)))
+    (cited 𝓤 H (Refuse 𝓤 H (𝓖 .A) (𝓜 .mem) (𝓡 .run)) 𝓜 𝓡 code.env #refuse refuse-def.routine code.calls-call-reply·replies·no-work (refuse-thm.met 𝓤 H 𝓜 𝓖 𝓡))
+    (cited 𝓤 H (Load 𝓤 H (𝓖 .A) (𝓜 .mem) (𝓡 .run)) 𝓜 𝓡 code.env #load load-def.routine code.calls-host-table·load (load-thm.met 𝓤 H 𝓜 𝓖 𝓡))
+    (cited 𝓤 H (CopyTurn 𝓤 H (𝓖 .A) (𝓜 .mem) (𝓡 .run)) 𝓜 𝓡 code.env #copy copy-def.routine code.calls-host-table·copy-turn (copy-thm.met 𝓤 H 𝓜 𝓖 𝓡))
+    (cited 𝓤 H (Store 𝓤 H (𝓖 .A) (𝓜 .mem) (𝓡 .run)) 𝓜 𝓡 code.env #store store-def.routine code.calls-host-table·store (store-thm.met 𝓤 H 𝓜 𝓖 𝓡))
+    (cited 𝓤 H (SetTurn 𝓤 H (𝓖 .A) (𝓜 .mem) (𝓡 .run)) 𝓜 𝓡 code.env #turn turn-def.routine code.calls-host-table·set-turn (turn-thm.met 𝓤 H 𝓜 𝓖 𝓡))
+    (cited 𝓤 H (ByValue 𝓤 H (𝓖 .A) (𝓜 .mem) (𝓡 .run)) 𝓜 𝓡 code.env #call call-def.routine code.calls-call-work·work (call-thm.met 𝓤 H 𝓜 𝓖 𝓡)))

@@ -49,41 +49,42 @@ use Rattle.memory.specs.Rows.{rowOf}
 use Rattle.memory.proofs.Counts as N
 use Rattle.memory.proofs.Counts.Laws as N′
 use Rattle.memory.proofs.Txn as T
-use Rattle.lent.specs.Table.{loaded}
-use Rattle.lent.proofs.Lend.{MutAt, ShrOf, slice-lent, slice-read, ref-shared, calls-lending}
-use Rattle.lent.proofs.Steps.{when, equal, unequal, unit-typed, frees-cell, frees-room}
-use Rattle.lent.proofs.Rows.{R, vals, tells, makes, copies, lawful}
-use Rattle.lent.proofs.Cursor as U
-use Rattle.lent.proofs.Answers.{answers}
-use Rattle.lent.proofs.Callees.{Find, Put, to-find, asks-find, gives-find, to-put, asks-put, gives-put, Load, CopyTurn, to-load, asks-load, gives-load, to-copy, asks-copy, gives-copy}
+use Rattle.host_table.specs.Table.{loaded}
+use Rattle.host_table.proofs.Lend.{MutAt, ShrOf, slice-lent, slice-read, ref-shared, calls-lending}
+use Rattle.host_table.proofs.Steps.{when, equal, unequal, unit-typed, frees-all}
+use Rattle.host_table.proofs.Steps.Held.{cell, room}
+use Rattle.host_table.proofs.Rows.{R, vals, tells, makes, copies, lawful}
+use Rattle.host_table.proofs.Cursor as U
+use Rattle.host_table.proofs.Answers.{answers}
+use Rattle.host_table.proofs.Callees.{Find, Put, to-find, asks-find, gives-find, to-put, asks-put, gives-put, Load, CopyTurn, to-load, asks-load, gives-load, to-copy, asks-copy, gives-copy}
 use Rattle.replica.proofs.Handed.{handed, goes-handed}
 use Rattle.replica.proofs.ClientFacts.{WriteOn, WriteDid, write-not, write-did}
-use Rattle.calls.specs.declared.Changed.{Changed}
-use Rattle.calls.proofs.Changed as D
-use Rattle.calls.proofs.Changed.Laws as D′
-use Rattle.calls.specs.declared.Reply.{Reply}
-use Rattle.calls.proofs.Reply as Y
-use Rattle.calls.proofs.Reply.Laws as Y′
-use Rattle.calls.proofs.replies.replied as refuse
-use Rattle.calls.proofs.replies.replied.Symbol as refuse-def
-use Rattle.calls.proofs.replies.replied.Symbol.{name as #refuse}
-use Rattle.calls.proofs.replies.replied.Met as refuse-thm
-use Rattle.lent.proofs.load.Symbol as load-def
-use Rattle.lent.proofs.load.Symbol.{name as #load}
-use Rattle.lent.proofs.load.Met as load-thm
-use Rattle.lent.proofs.copy_turn.Symbol as copy-def
-use Rattle.lent.proofs.copy_turn.Symbol.{name as #copy}
-use Rattle.lent.proofs.copy_turn.Met as copy-thm
-use Rattle.lent.proofs.find.Symbol as find-def
-use Rattle.lent.proofs.find.Symbol.{name as #find}
-use Rattle.lent.proofs.find.Met as find-thm
-use Rattle.lent.proofs.put.Symbol as put-def
-use Rattle.lent.proofs.put.Symbol.{name as #put}
-use Rattle.lent.proofs.put.Met as put-thm
-use Rattle.calls.proofs.client_calls.write_on as call
-use Rattle.calls.proofs.client_calls.write_on.Symbol as call-def
-use Rattle.calls.proofs.client_calls.write_on.Symbol.{name as #call}
-use Rattle.calls.proofs.client_calls.write_on.Met as call-thm
+use Rattle.call_reply.specs.declared.Changed.{Changed}
+use Rattle.call_reply.proofs.Changed as D
+use Rattle.call_reply.proofs.Changed.Laws as D′
+use Rattle.call_reply.specs.declared.Reply.{Reply}
+use Rattle.call_reply.proofs.Reply as Y
+use Rattle.call_reply.proofs.Reply.Laws as Y′
+use Rattle.call_reply.proofs.replies.replied as refuse
+use Rattle.call_reply.proofs.replies.replied.Symbol as refuse-def
+use Rattle.call_reply.proofs.replies.replied.Symbol.{name as #refuse}
+use Rattle.call_reply.proofs.replies.replied.Met as refuse-thm
+use Rattle.host_table.proofs.load.Symbol as load-def
+use Rattle.host_table.proofs.load.Symbol.{name as #load}
+use Rattle.host_table.proofs.load.Met as load-thm
+use Rattle.host_table.proofs.copy_turn.Symbol as copy-def
+use Rattle.host_table.proofs.copy_turn.Symbol.{name as #copy}
+use Rattle.host_table.proofs.copy_turn.Met as copy-thm
+use Rattle.host_table.proofs.find.Symbol as find-def
+use Rattle.host_table.proofs.find.Symbol.{name as #find}
+use Rattle.host_table.proofs.find.Met as find-thm
+use Rattle.host_table.proofs.put.Symbol as put-def
+use Rattle.host_table.proofs.put.Symbol.{name as #put}
+use Rattle.host_table.proofs.put.Met as put-thm
+use Rattle.call_write.proofs.write as call
+use Rattle.call_write.proofs.write.Symbol as call-def
+use Rattle.call_write.proofs.write.Symbol.{name as #call}
+use Rattle.call_write.proofs.write.Met as call-thm
 use Rattle.replica.proofs.stemline_write.Key.{name as #own}
 use Rattle.replica.proofs.stemline_write as own
 use Rattle.replica.proofs.stemline_write.Statement as stated
@@ -173,7 +174,7 @@ module _ {M : Type 1} (𝓤 : URA M) (H : Heap 𝓤) (A : Atoms 𝓤) (W : Given
         use1 W (later (given (Is Y.the-row (record { number = 1; counts = counts }) (u ∷ [])) (‵ ftrue))) (answers 𝓤 H A W refuse.ended (refuse.clauses 𝓤 H A mem run) to-refuse (record { number = 1; counts = counts }) (λ r e. id⊢ 𝓤 _) u) $ await ! tt $ learn ! (λ is. drop ! $
         land ! (from ! (stop !)) (init ! 58 refl (LL.lawful Y.the-type Y′.the-laws 𝓤 H A W .typed (record { number = 1; counts = counts }) _ is .0)) $
         returns-within ! Post refl (look ! 58 refl) $
-        frees-cell ! 58 refl refl $ frees-cell ! 56 refl refl $ frees-cell ! 54 refl refl $ frees-cell ! 52 refl refl $ frees-cell ! 50 refl refl $ frees-cell ! 48 refl refl $ frees-cell ! 46 refl refl $ frees-cell ! 44 refl refl $ frees-cell ! 42 refl refl $ frees-cell ! 40 refl refl $ frees-room ! 38 refl refl $ frees-room ! 36 refl refl $ frees-room ! 34 refl refl $ frees-room ! 32 refl refl $ frees-cell ! 30 refl refl $ frees-cell ! 28 refl refl $ frees-room ! 26 refl refl $ frees-room ! 24 refl refl $ frees-room ! 22 refl refl $ frees-room ! 20 refl refl $ frees-room ! 18 refl refl $ frees-room ! 16 refl refl $ frees-room ! 14 refl refl $ frees-room ! 12 refl refl $ frees-room ! 10 refl refl $ frees-room ! 8 refl refl $ frees-room ! 6 refl refl $ free0 ! $
+        frees-all ! (_ ∷ _ ∷ _ ∷ _ ∷ _ ∷ _ ∷ []) (room _ _ ∷ room _ _ ∷ room _ _ ∷ room _ _ ∷ room _ _ ∷ room _ _ ∷ room _ _ ∷ room _ _ ∷ room _ _ ∷ room _ _ ∷ room _ _ ∷ cell _ _ _ ∷ cell _ _ _ ∷ room _ _ ∷ room _ _ ∷ room _ _ ∷ room _ _ ∷ cell _ _ _ ∷ cell _ _ _ ∷ cell _ _ _ ∷ cell _ _ _ ∷ cell _ _ _ ∷ cell _ _ _ ∷ cell _ _ _ ∷ cell _ _ _ ∷ cell _ _ _ ∷ cell _ _ _ ∷ []) $ free0 ! $
         by ! (ends-not _ is (unequal (length ys) 6 other)))))
         (λ six₀. let six = equal (length ys) 6 six₀ in
         assigns ! (addr ! (from ! (fld ! refl (hop ! (look-in ! 56 (sub ! 0 refl (whole !))) (stop !))))) (from ! (stop !)) (init ! 26 refl (tt, tt)) $
@@ -209,7 +210,7 @@ module _ {M : Type 1} (𝓤 : URA M) (H : Heap 𝓤) (A : Atoms 𝓤) (W : Given
         (λ ν δ i j. (and-then ! (load ! (from ! (stop !)) (look ! 6 refl)) (and-then ! (load ! (from ! (stop !)) (look ! 38 refl)) (and-then ! (load ! (from ! (fld ! refl (stop !))) (look-in ! 32 (sub ! 1 refl (whole !)))) (no-more !))))) (λ w₁ e₁. land ! (from ! (stop !)) (init ! 10 refl (unit-typed w₁ e₁)) $
         assigns ! (of-opd ! (load ! (from ! (fld ! refl (stop !))) (look-in ! 32 (sub ! 0 refl (whole !))))) (from ! (stop !)) (init ! 58 refl (LL.lawful Y.the-type Y′.the-laws 𝓤 H A W .typed (r .reply) _ (fields .0) .0)) $
         returns ! (look ! 58 refl) $
-        frees-cell ! 58 refl refl $ frees-cell ! 56 refl refl $ frees-cell ! 54 refl refl $ frees-cell ! 52 refl refl $ frees-cell ! 50 refl refl $ frees-cell ! 48 refl refl $ frees-cell ! 46 refl refl $ frees-cell ! 44 refl refl $ frees-cell ! 42 refl refl $ frees-cell ! 40 refl refl $ frees-cell ! 38 refl refl $ frees-cell ! 36 refl refl $ frees-cell ! 34 refl refl $ frees-cell ! 32 refl refl $ frees-cell ! 30 refl refl $ frees-cell ! 28 refl refl $ frees-cell ! 26 refl refl $ frees-cell ! 24 refl refl $ frees-cell ! 22 refl refl $ frees-cell ! 20 refl refl $ frees-cell ! 18 refl refl $ frees-cell ! 16 refl refl $ frees-cell ! 14 refl refl $ frees-cell ! 12 refl refl $ frees-cell ! 10 refl refl $ frees-cell ! 8 refl refl $ frees-cell ! 6 refl refl $ free0 ! $
+        frees-all ! (_ ∷ _ ∷ _ ∷ _ ∷ _ ∷ _ ∷ []) (cell _ _ _ ∷ cell _ _ _ ∷ cell _ _ _ ∷ cell _ _ _ ∷ cell _ _ _ ∷ cell _ _ _ ∷ cell _ _ _ ∷ cell _ _ _ ∷ cell _ _ _ ∷ cell _ _ _ ∷ cell _ _ _ ∷ cell _ _ _ ∷ cell _ _ _ ∷ cell _ _ _ ∷ cell _ _ _ ∷ cell _ _ _ ∷ cell _ _ _ ∷ cell _ _ _ ∷ cell _ _ _ ∷ cell _ _ _ ∷ cell _ _ _ ∷ cell _ _ _ ∷ cell _ _ _ ∷ cell _ _ _ ∷ cell _ _ _ ∷ cell _ _ _ ∷ cell _ _ _ ∷ []) $ free0 ! $
         move ! (0 ∷ 1 ∷ 4 ∷ 5 ∷ 3 ∷ 2 ∷ []) $
         by ! (ends _ (r .reply) (set ys (rowOf ticket ys) (r .row)) (ws .1 .1 .1 .1 .0) (ws .1 .1 .1 .1 .1 .0) (fields .0) (length-set ys (rowOf ticket ys) (r .row)) (write-did ys h ticket counts items writes stamps item value r (ws .1 .1 .1 .1 .0) (ws .1 .1 .1 .1 .1 .0) six said)))))))))))))))))))))))))))))))))))))))
 
@@ -229,9 +230,9 @@ stemline-write-spec 𝓤 H 𝓜 𝓖 𝓡 =
     entered 𝓤 H (tripleOf 𝓤 H (𝓖 .A) own.signature (own.spec 𝓤 H (𝓖 .A) (𝓜 .mem) (𝓡 .run)))
     (tables 𝓤 H 𝓜 𝓡 code.env .C) (tables 𝓤 H 𝓜 𝓡 code.env .Λ) #own code.function (code.unfolded 𝓤 H 𝓜 𝓡)
     (meets 𝓤 H (𝓖 .A) (givenOf 𝓤 H 𝓜 𝓖) (𝓜 .mem) (𝓡 .run) (tablesOf 𝓤 H 𝓜 (tables 𝓤 H 𝓜 𝓡 code.env))
-    (cited 𝓤 H (Refuse 𝓤 H (𝓖 .A) (𝓜 .mem) (𝓡 .run)) 𝓜 𝓡 code.env #refuse refuse-def.routine code.calls-calls·replies·replied (refuse-thm.met 𝓤 H 𝓜 𝓖 𝓡))
-    (cited 𝓤 H (Load 𝓤 H (𝓖 .A) (𝓜 .mem) (𝓡 .run)) 𝓜 𝓡 code.env #load load-def.routine code.calls-lent·load (load-thm.met 𝓤 H 𝓜 𝓖 𝓡))
-    (cited 𝓤 H (CopyTurn 𝓤 H (𝓖 .A) (𝓜 .mem) (𝓡 .run)) 𝓜 𝓡 code.env #copy copy-def.routine code.calls-lent·copy-turn (copy-thm.met 𝓤 H 𝓜 𝓖 𝓡))
-    (cited 𝓤 H (Find 𝓤 H (𝓖 .A) (𝓜 .mem) (𝓡 .run)) 𝓜 𝓡 code.env #find find-def.routine code.calls-lent·find (find-thm.met 𝓤 H 𝓜 𝓖 𝓡))
-    (cited 𝓤 H (Put 𝓤 H (𝓖 .A) (𝓜 .mem) (𝓡 .run)) 𝓜 𝓡 code.env #put put-def.routine code.calls-lent·put (put-thm.met 𝓤 H 𝓜 𝓖 𝓡))
-    (cited 𝓤 H (ByValue 𝓤 H (𝓖 .A) (𝓜 .mem) (𝓡 .run)) 𝓜 𝓡 code.env #call call-def.routine code.calls-calls·client-calls·write-on (call-thm.met 𝓤 H 𝓜 𝓖 𝓡)))
+    (cited 𝓤 H (Refuse 𝓤 H (𝓖 .A) (𝓜 .mem) (𝓡 .run)) 𝓜 𝓡 code.env #refuse refuse-def.routine code.calls-call-reply·replies·replied (refuse-thm.met 𝓤 H 𝓜 𝓖 𝓡))
+    (cited 𝓤 H (Load 𝓤 H (𝓖 .A) (𝓜 .mem) (𝓡 .run)) 𝓜 𝓡 code.env #load load-def.routine code.calls-host-table·load (load-thm.met 𝓤 H 𝓜 𝓖 𝓡))
+    (cited 𝓤 H (CopyTurn 𝓤 H (𝓖 .A) (𝓜 .mem) (𝓡 .run)) 𝓜 𝓡 code.env #copy copy-def.routine code.calls-host-table·copy-turn (copy-thm.met 𝓤 H 𝓜 𝓖 𝓡))
+    (cited 𝓤 H (Find 𝓤 H (𝓖 .A) (𝓜 .mem) (𝓡 .run)) 𝓜 𝓡 code.env #find find-def.routine code.calls-host-table·find (find-thm.met 𝓤 H 𝓜 𝓖 𝓡))
+    (cited 𝓤 H (Put 𝓤 H (𝓖 .A) (𝓜 .mem) (𝓡 .run)) 𝓜 𝓡 code.env #put put-def.routine code.calls-host-table·put (put-thm.met 𝓤 H 𝓜 𝓖 𝓡))
+    (cited 𝓤 H (ByValue 𝓤 H (𝓖 .A) (𝓜 .mem) (𝓡 .run)) 𝓜 𝓡 code.env #call call-def.routine code.calls-call-write·write (call-thm.met 𝓤 H 𝓜 𝓖 𝓡)))

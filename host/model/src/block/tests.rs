@@ -106,32 +106,6 @@ fn round_trips() {
 }
 
 #[test]
-fn arrays_give_the_same_block() {
-    let seed = 2;
-    let mut random = Random::new(seed);
-    for round in 0..2_000 {
-        let message = samples::message(&mut random);
-        let mut tickets = [0; RECORDS];
-        let mut writes = [0; RECORDS];
-        let mut items = [0; RECORDS * ENTRIES];
-        let mut values = [0; RECORDS * ENTRIES];
-        for (j, record) in message.records.iter().enumerate() {
-            tickets[j] = record.ticket;
-            writes[j] = record.entries.len() as u8;
-            for (e, entry) in record.entries.iter().enumerate() {
-                items[8 * j + e] = entry.item;
-                values[8 * j + e] = entry.value;
-            }
-        }
-        let expected = encode(&message);
-        let header = header(&expected);
-        let mut block = [0xFF; BLOCK];
-        encode_arrays(&header, &tickets, &writes, &items, &values, &mut block);
-        assert_eq!(block, expected, "seed {seed}, round {round}");
-    }
-}
-
-#[test]
 fn refusals_in_order() {
     let good = encode(&message(1, vec![record(1, &[(5, 40)])]));
     for length in (0..=600).filter(|&length| length != BLOCK) {

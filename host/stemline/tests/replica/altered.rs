@@ -5,13 +5,20 @@ use model::block::{self, BLOCK, MAX_TICKET};
 use model::drive::{start_values, Peers, Subject, STYLES};
 use model::samples::{self, Random};
 use stemline::ffi::Txn;
-use stemline::Memory;
+use stemline::{Memory, Refusal, Replica};
 
 use crate::both::Both;
+use crate::lent::Lent;
+use crate::seeds::Seeds;
 
-const ROUNDS: usize = 2_000;
+const RUNS: u64 = 2_000;
 /// Calls at one altered memory, each on what the last one left.
 const CALLS: usize = 60;
+/// The calls, write twice: it has the most to look at.
+const CALLED: [&str; 11] = [
+    "make", "begin", "read", "write", "write", "ask", "withdraw", "report", "send", "deliver",
+    "work",
+];
 
 /// A number with the limits of what a call compares it with.
 fn number(random: &mut Random) -> u32 {
@@ -68,7 +75,7 @@ fn place(random: &mut Random, replicas: u8) -> [u8; BLOCK] {
 }
 
 /// A memory that calls have led to.
-fn reached(random: &mut Random, seed: u64) -> Memory {
+fn reached(random: &mut Random, seed: u64) -> Lent {
     let n = 2 + random.below(5) as u32;
     let own = random.below(n as usize) as u32;
     let mut both = Both::new(n, own, &start_values());
@@ -78,11 +85,11 @@ fn reached(random: &mut Random, seed: u64) -> Memory {
         let answer = both.call(&call);
         peers.feed(&call, &answer);
     }
-    both.library.memory().clone()
+    Lent::of(both.library.memory())
 }
 
 /// Alters one part.
-fn alter(random: &mut Random, memory: &mut Memory) {
+fn alter(random: &mut Random, memory: &mut Lent) {
     let replicas = memory.counts.replicas;
     let counts = &mut memory.counts;
     match random.below(16) {
@@ -91,8 +98,8 @@ fn alter(random: &mut Random, memory: &mut Memory) {
         2 => memory.table[random.below(6)].stage = small(random),
         3 => memory.table[random.below(6)].writes = small(random),
         4 => memory.turn.slot = number(random),
-        5 => memory.turn.sent ^= true,
-        6 => memory.turn.applying ^= true,
+        5 => memory.turn.sent = byte(random),
+        6 => memory.turn.applying = byte(random),
         7 => memory.items.fill_with(|| byte(random)),
         8 => fill_numbers(random, &mut memory.queue),
         9 => fill_numbers(random, &mut memory.stamps),
@@ -110,11 +117,9 @@ fn alter(random: &mut Random, memory: &mut Memory) {
             // Most often with places of the right length, so that the calls get past 1.
             counts.replicas = byte(random);
             let length = BLOCK * usize::from(counts.replicas);
-            let mut places = memory.places.to_vec();
             if random.below(8) > 0 {
-                places.resize(length, random.byte());
+                memory.places.resize(length, random.byte());
             }
-            memory.places = places.into_boxed_slice();
         }
         14 => {
             let (places, _) = memory.places.as_chunks_mut::<BLOCK>();
@@ -122,76 +127,31 @@ fn alter(random: &mut Random, memory: &mut Memory) {
                 .iter_mut()
                 .for_each(|at| *at = place(random, replicas));
         }
-        _ => memory.outbox = place(random, replicas),
+        _ => memory.outbox = place(random, replicas).to_vec(),
     }
 }
 
-/// Which call, and what goes with it.
-#[derive(Debug)]
-struct Asked {
-    call: usize,
-    ticket: u32,
-    item: u32,
-    value: i32,
-    bytes: Vec<u8>,
-}
-
-impl Asked {
-    fn random(random: &mut Random, memory: &Memory) -> Asked {
-        let row = memory.table[random.below(6)];
-        let replicas = memory.counts.replicas;
-        let outbox = memory.outbox;
-        let any = number(random);
-        Asked {
-            call: random.below(10),
-            ticket: random.pick(&[row.ticket, row.ticket, row.ticket, any]),
-            item: random.below(130) as u32,
-            value: samples::value(random),
-            bytes: match random.below(4) {
-                0 => outbox.to_vec(),
-                1 => samples::block_of(2, any % 1_000, &[]).to_vec(),
-                _ => place(random, replicas).to_vec(),
-            },
-        }
-    }
-
-    /// The number of the answer, and the answer as text.
-    fn call(&self, memory: &mut Memory) -> (u8, String) {
-        macro_rules! said {
-            ($reply:expr) => {{
-                let reply = $reply;
-                (reply.number, format!("{reply:?}"))
-            }};
-        }
-        match self.call {
-            0 => said!(memory.make(self.ticket % 8, self.item % 8, &start_values())),
-            1 => said!(memory.begin()),
-            2 => said!(memory.read(self.ticket, self.item)),
-            3 | 4 => said!(memory.write(self.ticket, self.item, self.value)),
-            5 => said!(memory.ask(self.ticket)),
-            6 => said!(memory.withdraw(self.ticket)),
-            7 => {
-                let mut block = [0; BLOCK];
-                let number = memory.send(&mut block);
-                (number, format!("{number} {block:?}"))
-            }
-            8 => {
-                let number = memory.deliver(&self.bytes);
-                (number, format!("{number}"))
-            }
-            _ => {
-                let (number, report) = said!(memory.report());
-                assert_eq!(number, 0, "a report: {report}");
-                said!(memory.work())
-            }
-        }
-    }
+/// What goes with the next call.
+fn give(random: &mut Random, memory: &mut Lent) {
+    let row = memory.table[random.below(6)];
+    let any = number(random);
+    memory.n = random.below(8) as u32;
+    memory.own = random.below(8) as u32;
+    memory.ticket = random.pick(&[row.ticket, row.ticket, row.ticket, any]);
+    memory.item = random.below(130) as u32;
+    memory.value = samples::value(random);
+    memory.bytes = match random.below(4) {
+        0 => memory.outbox.clone(),
+        1 => samples::block_of(2, any % 1_000, &[]).to_vec(),
+        _ => place(random, memory.counts.replicas).to_vec(),
+    };
 }
 
 #[test]
 fn every_call_returns() {
     let mut numbers = [0u32; 23];
-    for seed in 0..ROUNDS as u64 {
+    let seeds = Seeds::new(RUNS);
+    seeds.each(|seed| {
         let mut random = Random::new(seed);
         let mut memory = reached(&mut random, seed);
         for _ in 0..random.pick(&[1, 2, 3, 40]) {
@@ -201,61 +161,67 @@ fn every_call_returns() {
             if random.below(10) == 0 {
                 alter(&mut random, &mut memory);
             }
-            let asked = Asked::random(&mut random, &memory);
+            give(&mut random, &mut memory);
+            let name = random.pick(&CALLED);
             let before = memory.clone();
             let mut copy = memory.clone();
-            let answer = asked.call(&mut memory);
-            let again = asked.call(&mut copy);
-            let place = format!("seed {seed}, call {call}: {asked:?}");
+            let answer = memory.call(name);
+            let again = copy.call(name);
+            let place = format!("call {call}: {name}");
             assert_eq!(answer, again, "{place}");
             assert!(memory == copy, "{place}: the memories differ");
             if answer.0 != 0 && answer.0 != 9 {
                 assert!(memory == before, "{place}: {answer:?} changed something");
             }
+            assert!(name != "report" || answer.0 == 0, "{place}: {answer:?}");
             numbers[usize::from(answer.0)] += 1;
         }
-    }
-    // Every number of the table is met here too.
+    });
+    // Every number of the table is met here too, unless fewer runs are asked for.
     let missing: Vec<usize> = (0..23).filter(|&number| numbers[number] == 0).collect();
-    assert_eq!(missing, [0; 0], "{numbers:?}");
+    assert!(seeds.runs < RUNS || missing.is_empty(), "{numbers:?}");
+}
+
+/// A replica 0 of 2 with one transaction open, and its memory altered.
+fn altered(alter: impl FnOnce(&mut Memory)) -> Replica {
+    let mut replica = Replica::new(2, 0, &start_values()).unwrap();
+    replica.begin().unwrap();
+    let mut memory = replica.memory().clone();
+    alter(&mut memory);
+    Replica::from_memory(memory)
 }
 
 /// What the engine's definitions say of single alterations.
 #[test]
 fn single_alterations() {
-    let fresh = || {
-        let both = Both::new(2, 0, &start_values());
-        both.library.memory().clone()
-    };
     // A row that claims more than 8 writes has 8: the ninth item is refused by 10.
-    let mut memory = fresh();
-    memory.begin();
-    memory.table[0].writes = 200;
-    for (at, item) in memory.items[..8].iter_mut().enumerate() {
-        *item = 10 + at as u8;
-    }
-    assert_eq!(memory.write(1, 9, 0).number, 10);
-    assert_eq!(memory.write(1, 12, 0).number, 0);
+    let mut replica = altered(|memory| {
+        memory.table[0].writes = 200;
+        for (at, item) in memory.items[..8].iter_mut().enumerate() {
+            *item = 10 + at as u8;
+        }
+    });
+    assert_eq!(replica.write(1, 9, 0), Err(Refusal::WritesetFull));
+    assert_eq!(replica.write(1, 12, 0), Ok(()));
     // A count at its type's limit stays.
-    let mut memory = fresh();
-    memory.counts.withdrawn = u32::MAX;
-    memory.begin();
-    assert_eq!(memory.withdraw(1).number, 0);
-    assert_eq!(memory.counts.withdrawn, u32::MAX);
+    let mut replica = altered(|memory| memory.counts.withdrawn = u32::MAX);
+    assert_eq!(replica.withdraw(1), Ok(()));
+    assert_eq!(replica.report().withdrawn, u32::MAX);
     // A stage above 2 is not active.
-    let mut memory = fresh();
-    memory.begin();
-    memory.table[0].stage = 3;
-    assert_eq!(memory.ask(1).number, 4);
+    let mut replica = altered(|memory| memory.table[0].stage = 3);
+    assert_eq!(replica.ask(1), Err(Refusal::NotActive));
     // With an N of 0 and no place every place is empty; of 200, every block is another group's.
-    let mut memory = fresh();
-    memory.counts.replicas = 0;
-    assert_eq!(memory.work().number, 1);
-    memory.places = Box::new([]);
-    assert_eq!(memory.work().number, 21);
+    let places = |replicas: u8, places: usize| {
+        altered(|memory| {
+            memory.counts.replicas = replicas;
+            memory.places = vec![0; BLOCK * places].into_boxed_slice();
+        })
+    };
+    assert_eq!(places(0, 2).work(), Err(Refusal::WrongLength));
+    assert_eq!(places(0, 0).work(), Err(Refusal::NothingWaits));
     let good = samples::block_of(2, 1, &[]);
-    memory.counts.replicas = 200;
-    assert_eq!(memory.deliver(&good), 1);
-    memory.places = vec![0; 200 * BLOCK].into_boxed_slice();
-    assert_eq!(memory.deliver(&good), 16);
+    let mut replica = places(200, 0);
+    assert_eq!(replica.deliver(&good), Err(Refusal::WrongLength));
+    let mut replica = places(200, 200);
+    assert_eq!(replica.deliver(&good), Err(Refusal::WrongGroup));
 }

@@ -72,7 +72,7 @@ fn report(replica: &Replica) -> second::Report {
         turn: report.turn,
         commits: report.commits,
         tickets: report.tickets,
-        open: report.active,
+        open: report.open_count,
         committed: report.committed,
         read_only: report.read_only,
         aborted: report.aborted,
@@ -141,7 +141,7 @@ pub fn same(model: &second::Replica, memory: &Memory) {
     );
     let turn = memory.turn;
     let due = (model.turn, model.outbox.is_some(), model.applying);
-    assert_eq!((turn.slot, turn.sent, turn.applying), due);
+    assert_eq!((turn.slot, turn.sent != 0, turn.applying != 0), due);
     assert!(memory.values == model.values, "values");
     assert!(memory.stamps == model.stamps, "stamps");
     if let Some(sent) = &model.outbox {

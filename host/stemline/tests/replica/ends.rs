@@ -10,33 +10,44 @@ use stemline::ffi::Txn;
 use stemline::Replica;
 
 use crate::both::{same, Both};
+use crate::lent::Lent;
 
-/// Every N and own number, in range or not; and a make on a memory that was used before.
+/// Every N and own number, in range or not; and a make on a memory that was used before, which
+/// keeps everything where it is refused, the counts too.
 #[test]
 fn makes() {
     let values = start_values();
-    let mut used = with_own_block().library.memory().clone();
+    let mut used = Lent::of(with_own_block().library.memory());
+    (used.turn.sent, used.turn.applying) = (255, 2);
     for n in (0..10).chain([256, 258, 1 << 31, u32::MAX]) {
         for own in (0..10).chain([256, 1 << 31, u32::MAX]) {
             let model = second::Replica::make(n, own, &values);
             let library = Replica::new(n, own, &values);
+            let before = Lent {
+                n,
+                own,
+                ..used.clone()
+            };
+            let mut again = before.clone();
+            let (number, _) = again.call("make");
             match (library, model) {
-                (Ok(library), Ok(model)) => same(&model, library.memory()),
-                (Err(refusal), Err(number)) => assert_eq!(refusal.number(), number),
-                _ => panic!("{n}, {own}: one is refused"),
-            }
-            let before = used.clone();
-            let reply = used.make(n, own, &values);
-            match second::Replica::make(n, own, &values) {
-                // Its places are for two; 1 stands before 2.
-                _ if (3..=6).contains(&n) => assert!(reply.number == 1 && used == before),
-                Err(_) => assert!(reply.number == 2 && used == before, "{n}, {own}"),
-                Ok(model) => {
-                    assert_eq!(reply.number, 0);
-                    same(&model, &used);
-                    assert_eq!(used, *Replica::new(n, own, &values).unwrap().memory());
-                    used = before;
+                (Ok(library), Ok(model)) => {
+                    same(&model, library.memory());
+                    let made = Lent {
+                        n,
+                        own,
+                        ..Lent::of(library.memory())
+                    };
+                    // The places of the used one are for two; 1 stands before 2.
+                    let due = if n == 2 { (0, made) } else { (1, before) };
+                    assert!((number, again) == due, "{n}, {own}");
                 }
+                (Err(refusal), Err(due)) => {
+                    assert_eq!(refusal.number(), due);
+                    let due = if (3..=6).contains(&n) { 1 } else { 2 };
+                    assert!(number == due && again == before, "{n}, {own}");
+                }
+                _ => panic!("{n}, {own}: one is refused"),
             }
         }
     }

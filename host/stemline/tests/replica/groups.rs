@@ -10,24 +10,14 @@ use model::samples::Random;
 
 use crate::both::Both;
 use crate::ends;
+use crate::seeds::Seeds;
 
 /// The calls of a run, before its group comes to rest.
 const CALLS: usize = 5_000;
-
-/// Names the seed of a run that fails.
-struct Seed(u64);
-
-impl Drop for Seed {
-    fn drop(&mut self) {
-        if std::thread::panicking() {
-            eprintln!("seed {}", self.0);
-        }
-    }
-}
+const RUNS: u64 = 400;
 
 /// A group of `n`, as it is after so many slots and tickets.
 fn group(seed: u64, n: u32, style: Style, slots: u32, tickets: u32) -> Seen {
-    let _seed = Seed(seed);
     let member = |own| Both::new(n, own, &start_values()).late(slots, tickets);
     let mut group = Group::new((0..n).map(member).collect(), style);
     let mut random = Random::new(seed);
@@ -46,7 +36,6 @@ fn group(seed: u64, n: u32, style: Style, slots: u32, tickets: u32) -> Seen {
 
 /// One replica of `n`, as it is after so many slots and tickets, that takes forged blocks.
 fn single(seed: u64, n: u32, style: Style, slots: u32, tickets: u32) -> Seen {
-    let _seed = Seed(seed);
     let own = seed as u32 / 5 % n;
     let mut both = Both::new(n, own, &start_values()).late(slots, tickets);
     let mut peers = Peers::new(n, own, both.report());
@@ -60,35 +49,40 @@ fn single(seed: u64, n: u32, style: Style, slots: u32, tickets: u32) -> Seen {
     peers.seen
 }
 
-/// A million calls and more, of which every refusal number of the table comes back. Numbers 6 and
-/// 13 are met by replicas near the last ticket and slot, 22 on a memory set up for it.
-#[test]
-fn library_and_model_give_the_same() {
-    let mut seen = Seen::default();
-    for seed in 0..400 {
-        let n = 2 + seed as u32 % 5;
-        let style = STYLES[seed as usize / 5 % 4];
-        if seed % 2 == 0 {
-            seen.add(&group(seed, n, style, 0, 0));
-        } else {
-            seen.add(&single(seed, n, style, 0, 0));
-        }
+/// What a seed stands for: a group or a single replica; some also near the last ticket and slot,
+/// where numbers 6 and 13 are met.
+fn run(seed: u64, seen: &mut Seen) {
+    let n = 2 + seed as u32 % 5;
+    let style = STYLES[seed as usize / 5 % 4];
+    if seed.is_multiple_of(2) {
+        seen.add(&group(seed, n, style, 0, 0));
+    } else {
+        seen.add(&single(seed, n, style, 0, 0));
     }
-    for seed in 400..420 {
-        let n = 2 + seed as u32 % 5;
+    if seed.is_multiple_of(21) {
         let style = Style::new(30, 40, 6);
         seen.add(&group(seed, n, style, SLOTS - 60, MAX_TICKET - 80));
         seen.add(&single(seed, n, style, SLOTS - 60, MAX_TICKET - 60));
     }
-    let unsent = ends::own_writesets_not_open_as_sent();
-    seen.add(&unsent);
+}
+
+/// A million calls and more, of which every refusal number of the table comes back; 22 on a memory
+/// set up for it.
+#[test]
+fn library_and_model_give_the_same() {
+    let mut seen = ends::own_writesets_not_open_as_sent();
+    let seeds = Seeds::new(RUNS);
+    seeds.each(|seed| run(seed, &mut seen));
     print(&seen);
-    assert!(seen.calls >= 1_000_000, "{} calls", seen.calls);
-    let all: Vec<usize> = (1..=22).collect();
-    assert_eq!(seen.numbers(20), all, "{seen:?}");
-    assert!(seen.commits > 50_000 && seen.aborted > 10_000, "{seen:?}");
-    assert!(seen.stale > 5_000 && seen.read_only > 5_000, "{seen:?}");
-    assert!(seen.sent.iter().all(|&blocks| blocks > 200), "{seen:?}");
+    // Fewer runs may meet less.
+    if seeds.runs >= RUNS {
+        assert!(seen.calls >= 1_000_000, "{} calls", seen.calls);
+        let all: Vec<usize> = (1..=22).collect();
+        assert_eq!(seen.numbers(20), all, "{seen:?}");
+        assert!(seen.commits > 50_000 && seen.aborted > 10_000, "{seen:?}");
+        assert!(seen.stale > 5_000 && seen.read_only > 5_000, "{seen:?}");
+        assert!(seen.sent.iter().all(|&blocks| blocks > 200), "{seen:?}");
+    }
 }
 
 /// The counts, past the capture of a test that passes: the gate is to show them.

@@ -8,7 +8,7 @@ use std::process::Command;
 use stemline::ffi::{
     AskReply, BeginReply, Counts, ReadReply, Reply, Report, ReportReply, Turn, Txn, WorkReply,
 };
-use stemline::Refusal;
+use stemline::{Refusal, Replica, BLOCK, ITEMS};
 
 /// Compiles a C program against the header and the static library, and gives what it prints.
 pub fn run_c(source: &str, name: &str) -> String {
@@ -65,7 +65,7 @@ fn structs_have_one_layout() {
     layout!(due, lines, "stemline_counts", Counts,
         replicas own commits done tickets committed read_only aborted withdrawn);
     layout!(due, lines, "stemline_report_values", Report,
-        turn commits tickets active committed read_only aborted withdrawn);
+        turn commits tickets open_count committed read_only aborted withdrawn);
     layout!(due, lines, "stemline_reply", Reply, counts number);
     layout!(due, lines, "stemline_begin_reply", BeginReply, counts ticket number);
     layout!(due, lines, "stemline_read_reply", ReadReply, number value);
@@ -111,7 +111,8 @@ fn lengths_are_the_same() {
     let source = format!(
         "#include <stdio.h>\n#include \"stemline.h\"\nint main(void) {{\n{lines}return 0;\n}}\n"
     );
-    let memory = stemline::Memory::zero(3);
+    let replica = Replica::new(3, 0, &[0; ITEMS]).unwrap();
+    let memory = replica.memory();
     let due = [
         memory.table.len(),
         memory.items.len(),
@@ -122,10 +123,70 @@ fn lengths_are_the_same() {
         memory.stamps.len(),
         memory.places.len(),
         memory.outbox.len(),
-        stemline::BLOCK,
+        BLOCK,
     ];
     let due: String = due.iter().map(|length| format!("{length}\n")).collect();
     assert_eq!(run_c(&source, "lengths"), due);
+}
+
+/// A host that stores the counts of every reply has the same replica after a second make that is
+/// refused, be it by 1 or by 2.
+#[test]
+fn a_refused_make_from_c() {
+    let source = r#"
+        #include <stdio.h>
+        #include <string.h>
+        #include "stemline.h"
+        static struct {
+            stemline_txn table[STEMLINE_TABLE];
+            stemline_turn turn;
+            uint8_t items[STEMLINE_ITEMS];
+            int32_t writes[STEMLINE_WRITES];
+            int32_t snapshots[STEMLINE_SNAPSHOTS];
+            uint32_t queue[STEMLINE_QUEUE];
+            int32_t values[STEMLINE_VALUES];
+            uint32_t stamps[STEMLINE_STAMPS];
+            uint8_t places[STEMLINE_PLACES(2)];
+            uint8_t outbox[STEMLINE_OUTBOX];
+        } s, before;
+        static stemline_counts counts;
+        static int32_t start[STEMLINE_VALUES] = {7};
+        static void make(uint32_t n, uint32_t own) {
+            stemline_reply r = stemline_make(
+                s.table, STEMLINE_TABLE, &s.turn, counts, n, own, start, STEMLINE_VALUES,
+                s.queue, STEMLINE_QUEUE, s.items, STEMLINE_ITEMS, s.writes, STEMLINE_WRITES,
+                s.snapshots, STEMLINE_SNAPSHOTS, s.values, STEMLINE_VALUES,
+                s.stamps, STEMLINE_STAMPS, s.places, sizeof s.places, s.outbox, STEMLINE_OUTBOX);
+            counts = r.counts;
+            printf("make %u %u: %d", (unsigned)n, (unsigned)own, r.number);
+        }
+        static void begin(void) {
+            stemline_begin_reply r = stemline_begin(
+                s.table, STEMLINE_TABLE, counts, s.values, STEMLINE_VALUES,
+                s.snapshots, STEMLINE_SNAPSHOTS);
+            counts = r.counts;
+            printf("begin: %d, %u\n", r.number, (unsigned)r.ticket);
+        }
+        int main(void) {
+            make(2, 1);
+            printf(", %d\n", (int)s.values[0]);
+            begin();
+            memcpy(&before, &s, sizeof s);
+            const uint32_t sizes[] = {2, 3, 7};
+            for (int i = 0; i < 3; i++) {
+                make(sizes[i], 2);
+                printf(", %s, replica %d of %d\n", memcmp(&before, &s, sizeof s) ? "changed" : "kept",
+                       counts.own, counts.replicas);
+            }
+            begin();
+            return 0;
+        }
+    "#;
+    let due = "make 2 1: 0, 7\nbegin: 0, 1\n\
+               make 2 2: 2, kept, replica 1 of 2\nmake 3 2: 1, kept, replica 1 of 2\n\
+               make 7 2: 2, kept, replica 1 of 2\n\
+               begin: 0, 2\n";
+    assert_eq!(run_c(source, "make"), due);
 }
 
 /// The one call that the story does not make: withdraw, at a right length and at a wrong one.

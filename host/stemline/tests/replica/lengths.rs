@@ -2,35 +2,10 @@
 
 use model::drive::start_values;
 use model::samples::{block_of, Random};
-use stemline::calls::{self, Parts};
-use stemline::ffi::{
-    AskReply, BeginReply, Counts, ReadReply, Reply, ReportReply, Turn, Txn, WorkReply,
-};
-use stemline::{Memory, Replica, Report, BLOCK};
+use stemline::ffi::{AskReply, BeginReply, Counts, ReadReply, Reply, ReportReply, Txn, WorkReply};
+use stemline::{Replica, Report};
 
-/// All that the calls are lent, in lengths that can be wrong.
-#[derive(Clone, Debug, PartialEq)]
-struct Lent {
-    turn: Turn,
-    counts: Counts,
-    table: Vec<Txn>,
-    queue: Vec<u32>,
-    items: Vec<u8>,
-    writes: Vec<i32>,
-    snapshots: Vec<i32>,
-    values: Vec<i32>,
-    stamps: Vec<u32>,
-    places: Vec<u8>,
-    outbox: Vec<u8>,
-    start: Vec<i32>,
-    /// What a send fills.
-    block: Vec<u8>,
-    /// What a deliver gets.
-    bytes: Vec<u8>,
-    n: u32,
-    ticket: u32,
-    item: u32,
-}
+use crate::lent::Lent;
 
 /// The parts with a length, by name; a call is lent some of them.
 const PARTS: [&str; 12] = [
@@ -48,149 +23,39 @@ const PARTS: [&str; 12] = [
     "bytes",
 ];
 
-impl Lent {
-    fn of(memory: &Memory, bytes: &[u8], ticket: u32, item: u32) -> Lent {
-        Lent {
-            turn: memory.turn,
-            counts: memory.counts,
-            table: memory.table.to_vec(),
-            queue: memory.queue.to_vec(),
-            items: memory.items.to_vec(),
-            writes: memory.writes.to_vec(),
-            snapshots: memory.snapshots.to_vec(),
-            values: memory.values.to_vec(),
-            stamps: memory.stamps.to_vec(),
-            places: memory.places.to_vec(),
-            outbox: memory.outbox.to_vec(),
-            start: start_values().to_vec(),
-            block: vec![0xa5; BLOCK],
-            bytes: bytes.to_vec(),
-            n: 2,
-            ticket,
-            item,
-        }
+fn length(lent: &Lent, part: &str) -> usize {
+    match part {
+        "table" => lent.table.len(),
+        "queue" => lent.queue.len(),
+        "items" => lent.items.len(),
+        "writes" => lent.writes.len(),
+        "snapshots" => lent.snapshots.len(),
+        "values" => lent.values.len(),
+        "stamps" => lent.stamps.len(),
+        "places" => lent.places.len(),
+        "outbox" => lent.outbox.len(),
+        "start" => lent.start.len(),
+        "block" => lent.block.len(),
+        "bytes" => lent.bytes.len(),
+        _ => panic!("no part {part}"),
     }
+}
 
-    fn length(&self, part: &str) -> usize {
-        match part {
-            "table" => self.table.len(),
-            "queue" => self.queue.len(),
-            "items" => self.items.len(),
-            "writes" => self.writes.len(),
-            "snapshots" => self.snapshots.len(),
-            "values" => self.values.len(),
-            "stamps" => self.stamps.len(),
-            "places" => self.places.len(),
-            "outbox" => self.outbox.len(),
-            "start" => self.start.len(),
-            "block" => self.block.len(),
-            "bytes" => self.bytes.len(),
-            _ => panic!("no part {part}"),
-        }
-    }
-
-    fn resize(&mut self, part: &str, length: usize) {
-        match part {
-            "table" => self.table.resize(length, Txn::default()),
-            "queue" => self.queue.resize(length, 0),
-            "items" => self.items.resize(length, 0),
-            "writes" => self.writes.resize(length, 0),
-            "snapshots" => self.snapshots.resize(length, 0),
-            "values" => self.values.resize(length, 0),
-            "stamps" => self.stamps.resize(length, 0),
-            "places" => self.places.resize(length, 0),
-            "outbox" => self.outbox.resize(length, 0),
-            "start" => self.start.resize(length, 0),
-            "block" => self.block.resize(length, 0),
-            "bytes" => self.bytes.resize(length, 0),
-            _ => panic!("no part {part}"),
-        }
-    }
-
-    fn make(&mut self) -> Reply {
-        let parts = Parts {
-            table: &mut self.table,
-            turn: &mut self.turn,
-            queue: &mut self.queue,
-            items: &mut self.items,
-            writes: &mut self.writes,
-            snapshots: &mut self.snapshots,
-            values: &mut self.values,
-            stamps: &mut self.stamps,
-            places: &mut self.places,
-            outbox: &mut self.outbox,
-        };
-        calls::make(parts, self.n, 0, &self.start)
-    }
-
-    /// A call by name: its number, and all it answers as text.
-    fn call(&mut self, name: &str) -> (u8, String) {
-        let l = self;
-        macro_rules! said {
-            ($reply:expr) => {{
-                let reply = $reply;
-                (reply.number, format!("{reply:?}"))
-            }};
-        }
-        match name {
-            "make" => said!(l.make()),
-            "begin" => said!(calls::begin(
-                &mut l.table,
-                l.counts,
-                &l.values,
-                &mut l.snapshots
-            )),
-            "read" => said!(calls::read(
-                &l.table,
-                l.ticket,
-                &l.items,
-                &l.writes,
-                &l.snapshots,
-                l.item
-            )),
-            "write" => said!(calls::write(
-                &mut l.table,
-                &l.turn,
-                l.ticket,
-                l.counts,
-                &mut l.items,
-                &mut l.writes,
-                &l.stamps,
-                l.item,
-                -7
-            )),
-            "ask" => said!(calls::ask(&mut l.table, l.ticket, l.counts, &mut l.queue)),
-            "withdraw" => said!(calls::withdraw(&mut l.table, l.ticket, l.counts)),
-            "report" => said!(calls::report(&l.table, &l.turn, l.counts)),
-            "send" => {
-                let number = calls::send(
-                    &mut l.table,
-                    &mut l.turn,
-                    l.counts,
-                    &mut l.queue,
-                    &l.items,
-                    &l.writes,
-                    &mut l.outbox,
-                    &mut l.block,
-                );
-                (number, format!("{number}"))
-            }
-            "deliver" => {
-                let number = calls::deliver(&l.turn, l.counts, &mut l.places, &l.outbox, &l.bytes);
-                (number, format!("{number}"))
-            }
-            "work" => said!(calls::work(
-                &mut l.table,
-                &mut l.turn,
-                l.counts,
-                &mut l.queue,
-                &l.items,
-                &mut l.values,
-                &mut l.stamps,
-                &mut l.places
-            )),
-            _ => panic!("no call {name}"),
-        }
+fn resize(lent: &mut Lent, part: &str, length: usize) {
+    match part {
+        "table" => lent.table.resize(length, Txn::default()),
+        "queue" => lent.queue.resize(length, 0),
+        "items" => lent.items.resize(length, 0),
+        "writes" => lent.writes.resize(length, 0),
+        "snapshots" => lent.snapshots.resize(length, 0),
+        "values" => lent.values.resize(length, 0),
+        "stamps" => lent.stamps.resize(length, 0),
+        "places" => lent.places.resize(length, 0),
+        "outbox" => lent.outbox.resize(length, 0),
+        "start" => lent.start.resize(length, 0),
+        "block" => lent.block.resize(length, 0),
+        "bytes" => lent.bytes.resize(length, 0),
+        _ => panic!("no part {part}"),
     }
 }
 
@@ -215,10 +80,6 @@ const CALLS: [(&str, &str); 10] = [
 fn answer_of_one(name: &str, counts: Counts) -> String {
     let number = 1;
     match name {
-        "make" => {
-            let counts = Counts::default();
-            format!("{:?}", Reply { number, counts })
-        }
         "begin" => {
             let ticket = 0;
             let reply = BeginReply {
@@ -229,7 +90,7 @@ fn answer_of_one(name: &str, counts: Counts) -> String {
             format!("{reply:?}")
         }
         "read" => format!("{:?}", ReadReply { number, value: 0 }),
-        "write" | "withdraw" => format!("{:?}", Reply { number, counts }),
+        "make" | "write" | "withdraw" => format!("{:?}", Reply { number, counts }),
         "ask" => {
             let read_only = false;
             let reply = AskReply {
@@ -262,7 +123,13 @@ fn states(name: &str) -> [(Lent, u8); 2] {
     let ticket = replica.begin().unwrap();
     replica.write(ticket, 5, 40).unwrap();
     let bytes = block_of(2, 1, &[(3, &[(9, 1)])]);
-    let lent = |replica: &Replica| Lent::of(replica.memory(), &bytes, ticket, 5);
+    let lent = |replica: &Replica| Lent {
+        bytes: bytes.to_vec(),
+        ticket,
+        item: 5,
+        value: -7,
+        ..Lent::of(replica.memory())
+    };
     let mut sent = replica.clone();
     sent.ask(ticket).unwrap();
     let block = sent.send().unwrap();
@@ -302,7 +169,7 @@ fn states(name: &str) -> [(Lent, u8); 2] {
 fn check(name: &str, lent: &str, good: &Lent, number: u8, wrong: &[(&str, usize)]) {
     let mut state = good.clone();
     for &(part, length) in wrong {
-        state.resize(part, length);
+        resize(&mut state, part, length);
     }
     let before = state.clone();
     let answer = state.call(name);
@@ -327,7 +194,7 @@ fn one_wrong_length() {
     for (name, lent) in CALLS {
         for (good, number) in states(name) {
             for part in PARTS {
-                let right = good.length(part);
+                let right = length(&good, part);
                 for length in [0, 1, right - 1, right + 1, 2 * right, right + 512] {
                     check(name, lent, &good, number, &[(part, length)]);
                 }
@@ -346,7 +213,7 @@ fn several_wrong_lengths() {
             let mut wrong = Vec::new();
             for part in PARTS {
                 if random.below(6) == 0 {
-                    let right = good.length(part);
+                    let right = length(good, part);
                     let length = random.pick(&[0, 1, right - 1, right + 1, right + 2]);
                     wrong.push((part, length));
                 }

@@ -17,7 +17,7 @@ fn c_and_rust_print_the_same() {
     let last = "  item 5: 84 84 84  item 10: 80 80 80  item 20: 70 70 70\n";
     assert!(rust.contains(last), "{rust}");
     assert!(
-        rust.ends_with("the three copies are equal\n"),
+        rust.ends_with("All three replicas hold the same measures: yes\n"),
         "the story's end:\n{rust}"
     );
 }
@@ -30,9 +30,9 @@ fn an_early_block_waits() {
     let text = String::from_utf8(text).unwrap();
     let (_, after) = text.split_once("before the 86.\n").unwrap();
     let lines: Vec<&str> = after.lines().collect();
-    assert!(lines[0].starts_with("  studio 1: receives a block"));
-    assert!(lines[1].starts_with("  studio 1: receives a block"));
-    assert!(lines[2].starts_with("  studio 1: commits ticket 1 of studio 2"));
+    assert!(lines[0].starts_with("  replica 1: receives a block"));
+    assert!(lines[1].starts_with("  replica 1: receives a block"));
+    assert!(lines[2].starts_with("  replica 1: commits ticket 1 of replica 2"));
     assert!(lines[2].contains("item 5: 84 86 86"), "{text}");
-    assert!(lines[3].starts_with("  studio 1: commits ticket 2 of studio 0"));
+    assert!(lines[3].starts_with("  replica 1: commits ticket 2 of replica 0"));
 }

@@ -1,51 +1,26 @@
--- `print::put_block` is safe: the index stays within the block.
-use Prim.Native.Nat.{_≤_, _-_}
+-- `print::put_block` meets its contract.
+use borrow.Author.Tests.{eq-eqb, ne-eqb}
 use lib.ListN.{length}
+use Rattle.replay.proofs.TextLaws.{appends-none, appends-then}
 use borrow.Author.Needs.{needs}
 use Rattle.replay.proofs.print.put_block.Statement.{statement}
 use Rattle.replay.proofs.print.put_block.Tie as tie
 
-abbrev Inv-loop : tie.InvT-loop
-Inv-loop out₀ at block end₀ i₀ out end i = i ≤ length block
+returns : tie.Need-returns
+returns c = rw (eq-eqb (length (c .before .before .before .args .block .now)) 0 (c .if1 .taken)) (appends-none (c .before .before .before .args .out .now) (c .before .before .before .args .at))
 
-abbrev μ-loop : tie.MeasureT-loop
-μ-loop out₀ at block end₀ i₀ out end i = length block - i
-
-put-requires : tie.Need-put-requires Inv-loop μ-loop
+put-requires : tie.Need-put-requires
 put-requires c κs = search needs
 
-loop-holds : tie.Need-loop-holds Inv-loop μ-loop
-loop-holds c = search needs
+put-digits-requires : tie.Need-put-digits-requires
+put-digits-requires c κs = search needs
 
-shared-slice-read-put-hex : tie.Need-shared-slice-read-put-hex Inv-loop μ-loop
-shared-slice-read-put-hex c = search needs
+same-length : tie.Need-same-length
+same-length c = search needs
 
-put-hex-requires : tie.Need-put-hex-requires Inv-loop μ-loop
-put-hex-requires c κs = search needs
-
-add-i : tie.Need-add-i Inv-loop μ-loop
-add-i c = search needs
-
-loop-less : tie.Need-loop-less Inv-loop μ-loop
-loop-less c = search needs
-
-loop-again : tie.Need-loop-again Inv-loop μ-loop
-loop-again c = search needs
-
-returns : tie.Need-returns Inv-loop μ-loop
-returns c = search needs
+returns-2 : tie.Need-returns-2
+returns-2 c = rw (ne-eqb (length (c .before .before .before .before .before .before .before .before .before .before .before .args .block .now)) 0 (c .before .before .before .before .before .before .before .before .if1 .left)) (appends-then (c .before .before .before .before .before .before .put .ensures) (c .before .before .put-digits .ensures))
 
 pub put-block-spec : {M : Type 1} → statement M
 put-block-spec =
-    tie.close
-    (tie.spec
-    Inv-loop
-    μ-loop
-    put-requires
-    loop-holds
-    shared-slice-read-put-hex
-    put-hex-requires
-    add-i
-    loop-less
-    loop-again
-    returns)
+    tie.close (tie.spec returns put-requires put-digits-requires same-length returns-2)

@@ -1,0 +1,86 @@
+-- Blocks read back, and six rows: what holds with no premise. Assumes nothing.
+use Prim.Native.Nat.{ℕ, _≤_, _<_}
+use mathlib.Core.Path.{_≡_, refl, sym, subst}
+use mathlib.Core.Bool.{cond}
+use mathlib.Core.Logic.{_⊎_, inl, inr}
+use mathlib.Core.List.{List, List·Memᴰ·head, List·Memᴰ·tail, [], _∷_}
+use native.Mathlib.Omega.{arith}
+use lib.IntN.{ℤ}
+use lib.ListN.{length, replicate}
+use Rattle.block.specs.Bytes.{blockOf}
+use Rattle.block.specs.Form.{messageOf}
+use Rattle.block.specs.Answers.{blockRefusal}
+use Rattle.block.specs.Theorems.{AreBytes}
+use Rattle.block.proofs.Theorems.{theorems}
+use Rattle.memory.specs.Memory.{Memory}
+use Rattle.engine.specs.Calls.{Outcome}
+use Rattle.engine.specs.Calls.Answer.{sent, kept, restarted}
+use Rattle.engine.specs.Moves.{messageFor, sendNow}
+use Rattle.engine.specs.Step.{step}
+use Rattle.engine.specs.Step.Call.{send, deliver}
+use Rattle.engine.specs.Restart.{isFrom, blocksIn, lastOwn, restartStep}
+use Rattle.engine.proofs.Tests.{cond-by}
+use Rattle.engine.proofs.Steps.{send-by, deliver-by, restart-by}
+use Rattle.engine.proofs.Passed.{deliver-passed}
+use Rattle.engine.proofs.RestartLaws.{AllGood, good-taken, reads-good}
+use Rattle.protocol.specs.Journal.{journal}
+use Rattle.agreement.specs.Group.{CallAt, fresh, run, Calls}
+use Rattle.agreement.specs.Handed.{ReadsBack}
+use Rattle.agreement.specs.SixRows.{SixRows}
+use Rattle.agreement.proofs.View.{Sound}
+use Rattle.agreement.proofs.Sendable.{sendable}
+use Rattle.agreement.proofs.Runs.{kept-run, fresh-kept}
+use Rattle.agreement.proofs.Theorem.{owes}
+
+-- the memory of each replica after any list of calls
+sound-run : (n : ℕ) (start : List ℤ) → 2 ≤ n → n ≤ 6 → length start ≡ 128 → (cs : List CallAt) → Calls n cs → (k : ℕ) → k < n → Sound n (run n start (fresh n start) cs .memories k)
+sound-run n start least most long cs f k h =
+    kept-run n start least most long (owes n start) cs f (λ j. journal [] 0) (fresh n start) (fresh-kept n start least most long (owes n start)) .sound k h .sound
+
+pub six-rows : SixRows
+six-rows = record { tables = λ n start least most long cs f k h. sound-run n start least most long cs f k h .shape .lengths .table }
+
+-- ---- send
+
+sent-back : (n : ℕ) (m : Memory) → Sound n m → (lent block : List ℕ) → step m (send lent) .answer ≡ sent block → (blockRefusal block ≡ 0) × (messageOf block ≡ messageFor m)
+unfolding sendNow
+sent-back n m s lent block =
+    send-by (λ (o : Outcome). o .answer ≡ sent block → (blockRefusal block ≡ 0) × (messageOf block ≡ messageFor m)) m lent
+    (λ e q. let r = theorems .round-trip (messageFor m) (sendable n m s lent e) in
+    let i : blockOf (messageFor m) ≡ block = cc in
+    subst (λ (b : List ℕ). (blockRefusal b ≡ 0) × (messageOf b ≡ messageFor m)) i (r .taken, r .message))
+    (λ e q. let z : _≡_ {A = ℕ} 0 1 = cc in absurd (let w : ⊥ = omega arith in w))
+
+-- ---- deliver
+
+kept-only : (m : Memory) (bytes : List ℕ) → AreBytes bytes → step m (deliver bytes) .answer ≡ kept → bytes ≡ blockOf (messageOf bytes)
+kept-only m bytes a =
+    deliver-by (λ (o : Outcome). o .answer ≡ kept → bytes ≡ blockOf (messageOf bytes)) m bytes
+    (λ e q. sym (theorems .reading bytes (record { bytes = a; taken = deliver-passed m bytes e .taken }) .block))
+    (λ e q. let z : _≡_ {A = ℕ} 0 1 = cc in absurd (let w : ⊥ = omega arith in w))
+
+-- ---- restart
+
+abbrev Given : List ℕ → Type 0
+Given b = (b ≡ replicate 512 0) ⊎ (blockRefusal b ≡ 0)
+
+last-given : (n own : ℕ) (d : List ℕ) (bs : List (List ℕ)) → AllGood n bs → Given d → Given (lastOwn own d bs)
+unfolding lastOwn
+last-given n own d [] g h = h
+last-given n own d (b ∷ bs) g h =
+    last-given n own (cond (isFrom own b) b d) bs (λ c q. g c (List·Memᴰ·tail q))
+    (cond-by Given (isFrom own b) (λ e. inr (good-taken n b (g b (List·Memᴰ·head refl)))) (λ e. h))
+
+restart-given : (m : Memory) (n own : ℕ) (values : List ℤ) (journal lent : List ℕ) (count : ℕ) (block : List ℕ) → restartStep m n own values journal lent .answer ≡ restarted count block → Given block
+restart-given m n own values journal lent count block =
+    restart-by (λ (o : Outcome). o .answer ≡ restarted count block → Given block) m n own values journal lent
+    (λ e q. let i : lastOwn own (replicate 512 0) (blocksIn n journal) ≡ block = cc in
+    subst Given i (last-given n own (replicate 512 0) (blocksIn n journal) (reads-good n 0 _ journal) (inl refl)))
+    (λ e q. let z : _≡_ {A = ℕ} 0 1 = cc in absurd (let w : ⊥ = omega arith in w))
+
+pub reads-back : ReadsBack
+reads-back = record {
+  sends = λ n start least most long cs f k h. sent-back n _ (sound-run n start least most long cs f k h);
+  restarts = restart-given;
+  keeps = kept-only;
+}

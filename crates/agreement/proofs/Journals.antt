@@ -1,0 +1,95 @@
+-- A replica's journal has the blocks put down, in slot order. Assumes nothing.
+use Prim.Native.Nat.{ℕ, _*_, _/_}
+use mathlib.Core.Path.{_≡_, sym, ap, _∙_, subst}
+use mathlib.Core.List.{List, [], map}
+use native.Mathlib.Nat.{lt-mul-div-succ}
+use native.Mathlib.Omega.{arith}
+use lib.IntN.{ℤ}
+use lib.ListN.{length, length-map, take}
+use lib.Seq.{length-take-le, take-all}
+use Rattle.block.proofs.AnswerLaws.{is-taken}
+use Rattle.engine.specs.Client.{reportOf}
+use Rattle.engine.specs.Restart.{isGood, blocksIn}
+use Rattle.engine.proofs.RestartLaws.{good-taken}
+use Rattle.protocol.specs.Writesets.{Message}
+use Rattle.protocol.specs.Journal.{Journal, journal, inSlotOrder}
+use Rattle.protocol.specs.Blocks.{join, readBlocks}
+use Rattle.protocol.specs.Observer.{Handout, handoutMessage}
+use Rattle.protocol.specs.Machine.{MachineSystem}
+use Rattle.protocol.proofs.BlockLaws.{Read, read-part}
+use Rattle.protocol.proofs.SequenceLaws.{map-take}
+use Rattle.protocol.proofs.RestartLaws.{read-all}
+use Rattle.protocol.proofs.Tracking.{InOrder}
+use Rattle.protocol.proofs.JournalLaws.{Journaled}
+use Rattle.protocol.proofs.Refinement.{MachineInv, inv-commands, fresh-inv}
+use Rattle.agreement.specs.Group.{messageIn, fresh, run}
+use Rattle.agreement.specs.Journals.{InSlotOrder, JournalTheorem}
+use Rattle.agreement.proofs.View.{setup}
+use Rattle.agreement.proofs.RestartView.{reads-in-order, read-enough}
+use Rattle.agreement.proofs.RestartStep.{lentMessages}
+use Rattle.agreement.proofs.JournalView.{OnDisk}
+use Rattle.agreement.proofs.Replicas.{places-apart}
+use Rattle.agreement.proofs.Runs.{machine, machineOf, commands, journalsRun, runs, fresh-kept, kept-run}
+use Rattle.agreement.proofs.Premises.{length-join, premise}
+use Rattle.agreement.proofs.Theorem.{owes}
+
+module _ (n : ℕ) (l : List ℕ) (K : List (Message ℤ)) (H : OnDisk n l K) where
+  long : length l ≡ 512 * length (H .blocks)
+  long = ap length (sym (H .joined)) ∙ length-join n (H .blocks) (H .good)
+
+  -- all blocks are read
+  part : Read 512 (omega arith) (isGood n) (H .blocks) (take (length l) (join (H .blocks))) (length (H .blocks))
+  part = read-part 512 (omega arith) (isGood n) (length (H .blocks)) (H .blocks) (omega arith) (λ x q. (is-taken x (good-taken n x (H .good x q)) .long, H .good x q)) (length l)
+
+  all-bytes : take (length l) (join (H .blocks)) ≡ l
+  all-bytes = ap (take (length l)) (H .joined) ∙ take-all (length l) l (omega arith)
+
+  read-blocks : readBlocks 512 (isGood n) (length l / 512) l ≡ H .blocks
+  read-blocks =
+      read-enough (isGood n) (length l / 512) (length (H .blocks)) l (let h = lt-mul-div-succ (length l) {b = 512} (omega arith) in omega arith) (let e = long in omega arith)
+      ∙ ap (readBlocks 512 (isGood n) (length (H .blocks))) (sym all-bytes) ∙ part .read
+      ∙ take-all (part .count) (H .blocks) (part .whole (length (H .blocks)) (let e = long in let a = ap length all-bytes in omega arith))
+
+  all-messages : lentMessages n l ≡ K
+  all-messages = ap (map messageIn) read-blocks ∙ H .says
+
+in-order : (n : ℕ) (start : List ℤ) (D : List (Handout ℤ)) (k turn : ℕ) (l : List ℕ) (J : Journal ℤ) → OnDisk n l (J .kept) → InOrder (setup n start) D → Journaled (setup n start) D k turn J
+    → InSlotOrder n D turn l
+in-order n start D k turn l J H L Q = record {
+  count = length (J .kept);
+  whole = long n l (J .kept) H ∙ ap (λ (c : ℕ). 512 * c) (sym (length-map (H .blocks) messageIn) ∙ ap length (H .says));
+  read = sym (length-map (blocksIn n l) messageIn) ∙ ap length messages ∙ length-map (take (length (J .kept)) D) handoutMessage ∙ length-take-le (length (J .kept)) D (Q .within);
+  messages = messages;
+  reach = Q .reach;
+}
+  where
+    first : J .kept ≡ map handoutMessage (take (length (J .kept)) D)
+    first = Q .holds ∙ sym (map-take handoutMessage (length (J .kept)) D)
+
+    messages : map messageIn (blocksIn n l) ≡ map handoutMessage (take (length (J .kept)) D)
+    messages =
+        reads-in-order n 0 (length l / 512) l ∙ ap (inSlotOrder 0) (all-messages n l (J .kept) H ∙ first)
+        ∙ read-all (setup n start) D L k (length (J .kept)) (Q .within) (λ s g o. let a = Q .own s g o in let b = Q .safe in omega arith)
+
+pub journals : JournalTheorem
+unfolding reportOf
+journals n start least most long cs f p k h =
+    in-order n start (run n start (fresh n start) cs .handouts) k (run n start (fresh n start) cs .memories k .turn .slot) (run n start (fresh n start) cs .disks k .journal) (J k)
+    (kept-run n start least most long (owes n start) cs f (λ j. journal [] 0) (fresh n start) (fresh-kept n start least most long (owes n start)) .disks k)
+    (I .inv .whole .inOrder) (I .inv .journals k)
+  where
+    J : ℕ → Journal ℤ
+    J = journalsRun n start least most long (owes n start) (λ j. journal [] 0) (fresh n start) cs
+
+    Inv : MachineSystem (setup n start) (machine n start least most long (owes n start)) → Type 0
+    Inv = MachineInv (setup n start) (machine n start least most long (owes n start)) (places-apart n start)
+
+    before : Inv (machineOf n start least most long (owes n start) (λ j. journal [] 0) (fresh n start))
+    before = fresh-inv (setup n start) (machine n start least most long (owes n start)) (places-apart n start)
+
+    I : Inv (machineOf n start least most long (owes n start) J (run n start (fresh n start) cs))
+    I =
+        subst Inv (runs n start least most long (owes n start) cs f (λ j. journal [] 0) (fresh n start))
+        (inv-commands (setup n start) (machine n start least most long (owes n start)) (places-apart n start) (commands n start least most long (owes n start) cs f)
+        (machineOf n start least most long (owes n start) (λ j. journal [] 0) (fresh n start)) before
+        (premise n start least most long (owes n start) cs f (λ j. journal [] 0) (fresh n start) (fresh-kept n start least most long (owes n start)) before (λ j. omega arith) p))

@@ -1,0 +1,154 @@
+-- The premise of a list of calls gives that of the machine: what was there when the last own block was handed out holds every own block handed out. Assumes nothing.
+use Prim.Native.Nat.{ℕ, suc, _*_, _<_, _≤_, max}
+use mathlib.Core.Path.{_≡_, refl, sym, ap, subst}
+use mathlib.Core.Bool.{Bool, true, false, cond}
+use mathlib.Core.Option.{Option, none, some}
+use mathlib.Core.List.{List, List·Memᴰ·head, List·Memᴰ·tail, [], _∷_}
+use native.Mathlib.Omega.{arith}
+use lib.Dec.{eqb}
+use lib.IntN.{ℤ}
+use lib.ListN.{length, length-append, length-map, getD}
+use Rattle.block.specs.Message.{signed32}
+use Rattle.block.proofs.AnswerLaws.{is-taken}
+use Rattle.memory.specs.Memory.{Memory}
+use Rattle.engine.specs.Calls.{Answer}
+use Rattle.engine.specs.Calls.Answer.{refused, made, began, got, wrote, queued, readOnly, withdrew, reported, sent, kept, worked, restarted}
+use Rattle.engine.specs.Step.{Call, step}
+use Rattle.engine.proofs.Tests.{cond-by}
+use Rattle.engine.proofs.RestartLaws.{AllGood, good-taken}
+use Rattle.protocol.specs.Lists.{opt}
+use Rattle.protocol.specs.Writesets.{Message}
+use Rattle.protocol.specs.Replica.{Event}
+use Rattle.protocol.specs.Journal.{Journal, journalAfter}
+use Rattle.protocol.specs.Blocks.{join}
+use Rattle.protocol.specs.Machine.{MachineSystem, CommandPremise, runCommands}
+use Rattle.protocol.proofs.ListLaws.{update-same}
+use Rattle.protocol.proofs.Refinement.{MachineInv, inv-commands}
+use Rattle.agreement.specs.Group.{messageIn, GroupCall, argumentsOf, heard, handedOutIn, Disk, diskAfter, Group, CallAt, did, next, run, Calls, PremiseFrom}
+use Rattle.agreement.proofs.View.{setup, Sound, Owed}
+use Rattle.agreement.proofs.JournalView.{OnDisk}
+use Rattle.agreement.proofs.Replicas.{places-apart}
+use Rattle.agreement.proofs.Runs.{machine, machineOf, command, commands, journalNext, journalsNext, one, Kept, disk-next, kept-next, handed-at, lent-at}
+
+-- ---- a disk's bytes
+
+pub length-join : (n : ℕ) (bs : List (List ℕ)) → AllGood n bs → length (join bs) ≡ 512 * length bs
+unfolding join
+length-join n [] g = refl
+length-join n (b ∷ bs) g =
+    let e = is-taken b (good-taken n b (g b (List·Memᴰ·head refl))) .long in
+    let a = length-append b (join bs) in
+    let h = length-join n bs (λ c q. g c (List·Memᴰ·tail q)) in
+    omega arith
+
+-- with every own block handed out in the journal, the disk has its bytes
+safe-bytes : (n : ℕ) (l : List ℕ) (J : Journal ℤ) → OnDisk n l (J .kept) → J .safe ≤ length (J .kept) → 512 * J .safe ≤ length l
+safe-bytes n l J H h =
+    let a = length-join n (H .blocks) (H .good) in
+    let b = ap length (H .joined) in
+    let c = length-map (H .blocks) messageIn in
+    let e = ap length (H .says) in
+    omega arith
+
+-- the floor after a call, with the bytes l, is as high as what is safe
+floor-by : (n : ℕ) (J : Journal ℤ) (floor : ℕ) (l : List ℕ) (more : Option (Message ℤ)) (c : GroupCall) (a : Answer) → 512 * J .safe ≤ floor → 512 * journalAfter J more (heard n c a) .safe ≤ length l
+    → 512 * journalAfter J more (heard n c a) .safe ≤ opt (handedOutIn a) floor (λ b. length l)
+unfolding heard journalAfter
+floor-by n J floor l more c (refused k) h u = h
+floor-by n J floor l more c made h u = h
+floor-by n J floor l more c (began t) h u = h
+floor-by n J floor l more c (got v) h u = h
+floor-by n J floor l more c wrote h u = h
+floor-by n J floor l more c queued h u = h
+floor-by n J floor l more c readOnly h u = h
+floor-by n J floor l more c withdrew h u = h
+floor-by n J floor l more c (reported r) h u = h
+floor-by n J floor l more c (sent b) h u = u
+floor-by n J floor l more c kept h u = h
+floor-by n J floor l more c (worked s) h u = cond-by (λ (e : Event ℤ). 512 * journalAfter J more e .safe ≤ floor) (eqb (s .ticket) 0) (λ q. h) (λ q. h)
+floor-by n J floor l more c (restarted k b) h u = go (eqb (getD b 0 0) 0) u
+  where
+    safeWith : Bool → ℕ
+    safeWith z = opt (cond z none (some (messageIn b))) (J .safe) (λ (w : Message ℤ). max (J .safe) (suc (w .slot)))
+
+    go : (z : Bool) → 512 * safeWith z ≤ length l → 512 * safeWith z ≤ opt (cond z none (some b)) floor (λ (x : List ℕ). length l)
+    go true u = h
+    go false u = u
+
+-- ---- a run
+
+module _ (n : ℕ) (start : List ℤ) (least : 2 ≤ n) (most : n ≤ 6) (long : length start ≡ 128)
+    (owes : (m : Memory) → Sound n m → (c : Call) → Owed n start m c (step m c)) where
+  abbrev Inv : (ℕ → Journal ℤ) → Group → Type 0
+  Inv J g = MachineInv (setup n start) (machine n start least most long owes) (places-apart n start) (machineOf n start least most long owes J g)
+
+  abbrev Holds : (ℕ → Journal ℤ) → Group → Type 0
+  Holds J g = Kept n start least most long owes J g
+
+  rest : (g : Group) (c : CallAt) (cs : List CallAt) → PremiseFrom n start g (c ∷ cs) → PremiseFrom n start (next n start g c) cs
+  unfolding run
+  rest g c cs A = record {
+    delivered = λ before k b h. A .delivered (c ∷ before) k b (h .0, ap (λ (l : List CallAt). c ∷ l) (h .1));
+    lent = λ before k j l x b h. A .lent (c ∷ before) k j l x b (h .0, ap (λ (y : List CallAt). c ∷ y) (h .1));
+  }
+
+  -- the first call's premise, as the machine's
+  first : (g : Group) (c : CallAt) (cs : List CallAt) → PremiseFrom n start g (c ∷ cs) → (J : ℕ → Journal ℤ) → Holds J g
+      → ((k : ℕ) → 512 * J k .safe ≤ g .disks k .floor) → (h : (c .at < n) × (signed32 (argumentsOf (c .does) .value) ≡ true))
+      → CommandPremise (setup n start) (machine n start least most long owes) (machineOf n start least most long owes J g) (command n start least most long owes c h ∷ [])
+  unfolding run CommandPremise
+  first g c cs A J K low h = (
+    (
+      handed-at n start least most long owes (g .blocks) (c .at) (g .memories (c .at)) (c .does) (λ b e q. A .delivered [] (c .at) b (cs, ap is e) q),
+      lent-at n start least most long owes (J (c .at)) (g .disks (c .at)) (K .disks (c .at)) (low (c .at)) (c .at) (g .memories (c .at)) (K .sound (c .at) (h .0)) (c .does) (h .1)
+          (λ j l x b e q. A .lent [] (c .at) j l x b (cs, ap is e) q),
+    ),
+    tt,
+  )
+    where
+      is : GroupCall → List CallAt
+      is d = record { at = c .at; does = d } ∷ cs
+
+  inv-next : (J : ℕ → Journal ℤ) (g : Group) (c : CallAt) (h : (c .at < n) × (signed32 (argumentsOf (c .does) .value) ≡ true)) → Inv J g
+      → CommandPremise (setup n start) (machine n start least most long owes) (machineOf n start least most long owes J g) (command n start least most long owes c h ∷ [])
+      → Inv (journalsNext n start least most long owes J g c) (next n start g c)
+  unfolding runCommands
+  inv-next J g c h I p =
+      subst (MachineInv (setup n start) (machine n start least most long owes) (places-apart n start)) (one n start least most long owes J g c h)
+      (inv-commands (setup n start) (machine n start least most long owes) (places-apart n start) (command n start least most long owes c h ∷ []) (machineOf n start least most long owes J g) I p)
+
+  floors-next : (J : ℕ → Journal ℤ) (g : Group) (c : CallAt) → Holds J g → c .at < n
+      → Inv (journalsNext n start least most long owes J g c) (next n start g c) → ((k : ℕ) → 512 * J k .safe ≤ g .disks k .floor)
+      → (k : ℕ) → 512 * journalsNext n start least most long owes J g c k .safe ≤ next n start g c .disks k .floor
+  floors-next J g c K h I low k = by (eqb k (c .at))
+    where
+      d′ : Disk
+      d′ = diskAfter (g .disks (c .at)) (c .does) (did n start g c .answer)
+
+      J′ : Journal ℤ
+      J′ = journalNext n start least most long owes (J (c .at)) (c .at) (g .memories (c .at)) (c .does)
+
+      H′ : OnDisk n (d′ .journal) (J′ .kept)
+      H′ = disk-next n start least most long owes (g .disks (c .at) .journal) (J (c .at)) (K .disks (c .at)) (c .at) (g .memories (c .at)) (K .sound (c .at) h) (c .does)
+
+      s : J′ .safe ≤ length (J′ .kept)
+      s = subst (λ (j : Journal ℤ). j .safe ≤ length (j .kept)) (update-same J (c .at) J′) (I .inv .journals (c .at) .safe)
+
+      by : (b : Bool) → 512 * cond b J′ (J k) .safe ≤ cond b d′ (g .disks k) .floor
+      by true = floor-by n (J (c .at)) (g .disks (c .at) .floor) (d′ .journal) _ (c .does) (did n start g c .answer) (low (c .at)) (safe-bytes n (d′ .journal) J′ H′ s)
+      by false = low k
+
+  pub premise : (cs : List CallAt) (f : Calls n cs) (J : ℕ → Journal ℤ) (g : Group) → Holds J g → Inv J g → ((k : ℕ) → 512 * J k .safe ≤ g .disks k .floor) → PremiseFrom n start g cs
+      → CommandPremise (setup n start) (machine n start least most long owes) (machineOf n start least most long owes J g) (commands n start least most long owes cs f)
+  unfolding CommandPremise commands
+  premise [] f J g K I low A = tt
+  premise (c ∷ cs) f J g K I low A =
+      let h = f c (List·Memᴰ·head refl) in
+      let p = first g c cs A J K low h in
+      let K′ = kept-next n start least most long owes J g K c h in
+      let I′ = inv-next J g c h I p in (
+        p .0,
+        subst (λ (s : MachineSystem (setup n start) (machine n start least most long owes)). CommandPremise (setup n start) (machine n start least most long owes) s (commands n start least most long owes cs (λ d q. f d (List·Memᴰ·tail q))))
+            (sym (one n start least most long owes J g c h))
+            (premise cs (λ d q. f d (List·Memᴰ·tail q)) (journalsNext n start least most long owes J g c) (next n start g c) K′ I′ (floors-next J g c K (h .0) I′ low) (rest g c cs A)),
+      )

@@ -1,0 +1,2 @@
+-- That a host's calls are the engine's.
+pub mod Hosted

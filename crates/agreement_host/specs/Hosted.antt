@@ -1,0 +1,45 @@
+-- A host's calls are the engine's. The contracts of the exported functions that are lent a table have `called`, which puts the test of its length in front of a step (a deliver
+-- is lent none, and has the step itself); on every memory that calls lead to it is the step. So what is proved of lists of calls, the agreement of the copies too, is proved of
+-- what hosts' calls do, one after the other. Restarts are in a group's list as they will be exported: with the same test.
+use Prim.Native.Nat.{ℕ, _≤_, _<_}
+use mathlib.Core.Path.{_≡_}
+use mathlib.Core.List.{List, [], _∷_}
+use lib.IntN.{ℤ}
+use lib.ListN.{length}
+use Rattle.memory.specs.Memory.{Memory}
+use Rattle.engine.specs.Calls.{Outcome}
+use Rattle.engine.specs.Make.{madeMemory, makeStep}
+use Rattle.engine.specs.Step.{Call, step, after}
+use Rattle.call_reply.specs.Called.{called}
+use Rattle.agreement.specs.Group.{performed, Group, CallAt, nextBy, fresh, run, Calls}
+
+-- a host's call at one replica
+abbrev pub hostStep : Memory → Call → Outcome
+hostStep m c = called (λ x. step x c) m
+
+-- what a list of them leaves
+unfoldable pub hostAfter : Memory → List Call → Memory
+hostAfter m [] = m
+hostAfter m (c ∷ cs) = hostAfter (hostStep m c .memory) cs
+
+module _ (n : ℕ) (start : List ℤ) where
+  -- a host's call at a replica of a group
+  abbrev pub hostDid : Group → CallAt → Outcome
+  hostDid g c = called (λ x. performed n start (c .at) x (c .does)) (g .memories (c .at))
+
+  unfoldable pub hostRun : Group → List CallAt → Group
+  hostRun g [] = g
+  hostRun g (c ∷ cs) = hostRun (nextBy n start (hostDid g c) g c) cs
+
+pub record Hosted : Type 0 where
+  -- a make on a table of six rows, whatever else is lent
+  pub makes : (m : Memory) (n own : ℕ) (values : List ℤ) → length (m .txns .table) ≡ 6 → called (λ x. makeStep x n own values) m ≡ makeStep m n own values
+  -- one call
+  pub steps : (n own : ℕ) (values : List ℤ) → 2 ≤ n → n ≤ 6 → own < n → length values ≡ 128 → (cs : List Call) (c : Call)
+      → let m = after (madeMemory n own values) cs in hostStep m c ≡ step m c
+  -- a list of calls
+  pub lists : (n own : ℕ) (values : List ℤ) → 2 ≤ n → n ≤ 6 → own < n → length values ≡ 128 → (cs : List Call)
+      → hostAfter (madeMemory n own values) cs ≡ after (madeMemory n own values) cs
+  -- a group, with any bytes, any journals and no premise
+  pub groups : (n : ℕ) (start : List ℤ) → 2 ≤ n → n ≤ 6 → length start ≡ 128 → (cs : List CallAt) → Calls n cs
+      → hostRun n start (fresh n start) cs ≡ run n start (fresh n start) cs

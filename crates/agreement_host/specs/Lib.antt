@@ -1,0 +1,2 @@
+-- A host's calls are the engine's.
+pub mod Hosted

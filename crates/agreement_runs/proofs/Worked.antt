@@ -1,0 +1,182 @@
+-- The runs, computed from the definitions. Assumes nothing.
+use Prim.Native.Nat.{ℕ}
+use mathlib.Core.Path.{_≡_, refl, sym, ap, _∙_, subst}
+use mathlib.Core.Bool.{Bool, true, false, not, _&&_}
+use mathlib.Core.List.{List, [], _∷_, _++_}
+use lib.Dec.{ltb, leb, eqb}
+use native.Mathlib.Omega.{arith}
+use lib.IntN.{ℤ, pos, negsuc}
+use lib.ListN.{length, getD, set, take, replicate, length-replicate}
+use borrow.Author.Tests.{eqb-true, leb-true, ltb-true, not-false}
+use Rattle.block.specs.Numbers.{bytesOf, numberFrom, valueBytes, valueOf}
+use Rattle.block.specs.Check.{word, sumTo, weightedTo, firstCheck, secondCheck, checkBytes, checkMatches}
+use Rattle.block.specs.Message.{ownerOf, within, kindFits, entriesFit, recordFits, recordsFit, ticketAbsent, ticketsDiffer, valid, signed32}
+use Rattle.block.specs.Bytes.{entryBytes, entriesBytes, recordBytes, recordsBytes, headerFor, headerBytes, bodyBytes, blockOf}
+use Rattle.block.specs.Form.{entryOf, entriesOf, recordOf, recordsOf, messageOf, allZero, entriesPadded, recordPadded, recordsPadded, padded, wellFormed}
+use Rattle.block.specs.Answers.{firstOf, blockRefusal, headerOf, recordAt, entryAt}
+use Rattle.block.specs.Writing.{entriesFrom}
+use Rattle.block.proofs.BoolLaws.{both}
+use Rattle.memory.specs.Memory.{Memory, bump}
+use Rattle.memory.specs.Rows.{openCount, rowFrom, rowOf, freeRow, indexFrom, has, holderFrom, countBelow}
+use Rattle.memory.specs.Turns.{placeStart}
+use Rattle.engine.specs.Calls.{Answer}
+use Rattle.engine.specs.Calls.Answer.{refused, made, began, got, wrote, queued, readOnly, withdrew, reported, sent, kept, worked, restarted}
+use Rattle.engine.specs.Make.{madeMemory, placesFit, partsFit}
+use Rattle.engine.specs.Client.{beginRefusal, beginAt, beginRow, writeRefusal, rewriteAt, insertWrite, staleAt, writeRow, askRefusal, readOnlyAt, queueAt, askRow, reportOf, reportStep}
+use Rattle.engine.specs.Moves.{waiting, writesetOf, messageFor, sendRefusal, sendNow, sendStep, sameBytes, deliverRefusal, deliverNow, deliverStep, entriesFor, applied, stamped, shares, afterAborts, insertRising, hitTickets, without, workRefusal, passNext, commitWriteset, workStep}
+use Rattle.engine.specs.Step.{Call, step}
+use Rattle.engine.specs.Step.Call.{report, send, deliver}
+use Rattle.engine.specs.Restart.{isGood, blocksFrom, firstBlocks, writesetsFrom, commitAll, commitBlocks, highestTicket, highestOwn, ownWritesets, lastOwn, restartedMemory, restartRefusal, restartStep}
+use Rattle.engine.proofs.Tests.{clash}
+use Rattle.protocol.specs.Lists.{Mem, any}
+use Rattle.protocol.specs.Observer.{sequence, applyAll}
+use Rattle.protocol.proofs.ListLaws.{any-true, any-false}
+use Rattle.agreement.specs.Group.{GroupCall, call, restart, argumentsOf, messageIn, heard, Disk, journalAfter, Group, CallAt, fresh, run, did, next, Comes, Calls, Lent, Premise}
+use Rattle.agreement_runs.specs.Worked.{zeros, story, forgery, outages, after, HeldBy, held, holding, storyValues, outageValues, WorkedRuns}
+use Rattle.agreement.proofs.Theorem.{agreement}
+
+-- ---- the premise as a test
+
+same-bytes : (a b : List ℕ) → sameBytes a b ≡ true → a ≡ b
+unfolding sameBytes
+same-bytes [] [] e = refl
+same-bytes [] (y ∷ ys) e = clash {b = false} e refl
+same-bytes (x ∷ xs) [] e = clash {b = false} e refl
+same-bytes (x ∷ xs) (y ∷ ys) e =
+    let h = both (eqb x y) (sameBytes xs ys) e in
+    rw (eqb-true x y (h .left), same-bytes xs ys (h .right))
+
+-- a block that is kept is one of those handed out
+abbrev known : List (List ℕ) → GroupCall → Answer → Bool
+known B c (refused n) = true
+known B c made = true
+known B c (began t) = true
+known B c (got v) = true
+known B c wrote = true
+known B c queued = true
+known B c readOnly = true
+known B c withdrew = true
+known B c (reported r) = true
+known B c (sent b) = true
+known B c kept = any (sameBytes (argumentsOf c .bytes)) B
+known B c (worked s) = true
+known B c (restarted k b) = true
+
+-- for each restart of a list, the call that the cut ended, and how many bytes it left
+record Outage : Type 0 where
+  ended : Call
+  count : ℕ
+
+abbrev outage : Call → ℕ → Outage
+outage c n = record { ended = c; count = n }
+
+abbrev lentAfter : Memory → Disk → List ℕ → Outage → Bool
+lentAfter m d journal h =
+    signed32 (argumentsOf (call (h .ended)) .value)
+    && (sameBytes journal (take (h .count) (journalAfter (d .journal) (call (h .ended)) (step m (h .ended) .answer))) && leb (d .floor) (length journal))
+
+abbrev lentIn : Group → ℕ → GroupCall → List Outage → Bool
+lentIn g k (call c) hs = true
+lentIn g k (restart j l) [] = false
+lentIn g k (restart j l) (h ∷ hs) = lentAfter (g .memories k) (g .disks k) j h
+
+abbrev outagesLeft : GroupCall → List Outage → List Outage
+outagesLeft (call c) hs = hs
+outagesLeft (restart j l) [] = []
+outagesLeft (restart j l) (h ∷ hs) = hs
+
+lent-by : (g : Group) (k : ℕ) (j l : List ℕ) (hs : List Outage) → lentIn g k (restart j l) hs ≡ true → Lent (g .memories k) (g .disks k) j
+lent-by g k j l [] e = clash {b = false} e refl
+lent-by g k j l (h ∷ hs) e =
+    let a = both (signed32 (argumentsOf (call (h .ended)) .value)) _ e in
+    let b = both (sameBytes j _) _ (a .right) in
+    record { ended = h .ended; value = a .left; count = h .count; part = same-bytes _ _ (b .left); enough = leb-true _ _ (b .right) }
+
+module _ (n : ℕ) (start : List ℤ) where
+  unfoldable allowed : Group → List CallAt → List Outage → Bool
+  allowed g [] hs = true
+  allowed g (c ∷ cs) hs = (known (g .blocks) (c .does) (did n start g c .answer) && lentIn g (c .at) (c .does) hs) && allowed (next n start g c) cs (outagesLeft (c .does) hs)
+
+  record AllowedAt (g : Group) (c : CallAt) : Type 0 where
+    delivers : known (g .blocks) (c .does) (did n start g c .answer) ≡ true
+    left : List Outage
+    restarts : lentIn g (c .at) (c .does) left ≡ true
+
+  allowed-at : (before : List CallAt) (c : CallAt) (rest : List CallAt) (g : Group) (hs : List Outage) → allowed g (before ++ (c ∷ rest)) hs ≡ true → AllowedAt (run n start g before) c
+  unfolding allowed run
+  allowed-at [] c rest g hs e = let a = both (known (g .blocks) (c .does) (did n start g c .answer)) _ (both _ _ e .left) in record { delivers = a .left; left = hs; restarts = a .right }
+  allowed-at (b ∷ before) c rest g hs e =
+      allowed-at before c rest (next n start g b) (outagesLeft (b .does) hs) (both (known (g .blocks) (b .does) (did n start g b .answer) && lentIn g (b .at) (b .does) hs) _ e .right)
+
+  premise-met : (cs : List CallAt) (hs : List Outage) → allowed (fresh n start) cs hs ≡ true → Premise n start cs
+  premise-met cs hs e = record {
+    delivered = λ before k bytes h a.
+        let m = any-true (sameBytes bytes) _ (subst (λ (o : Answer). known (run n start (fresh n start) before .blocks) (call (deliver bytes)) o ≡ true) a (at before _ h .delivers)) in
+        subst (λ (b : List ℕ). Mem b (run n start (fresh n start) before .blocks)) (sym (same-bytes bytes (m .0) (m .1 .1))) (m .1 .0);
+    lent = λ before k j l x b h q. let a = at before _ h in lent-by (run n start (fresh n start) before) k j l (a .left) (a .restarts);
+  }
+    where
+      at : (before : List CallAt) (c : CallAt) → Comes cs before c → AllowedAt (run n start (fresh n start) before) c
+      at before c h = allowed-at before c (h .0) (fresh n start) hs (subst (λ (l : List CallAt). allowed (fresh n start) l hs ≡ true) (h .1) e)
+
+abbrev astray : ℕ → CallAt → Bool
+astray n c = not (ltb (c .at) n && signed32 (argumentsOf (c .does) .value))
+
+calls-met : (n : ℕ) (cs : List CallAt) → any (astray n) cs ≡ false → Calls n cs
+calls-met n cs e c m =
+    let h = both (ltb (c .at) n) (signed32 (argumentsOf (c .does) .value)) (not-false _ (any-false (astray n) cs e c m)) in
+    (ltb-true (c .at) n (h .left), h .right)
+
+-- ---- the runs
+
+abbrev absolute : ℤ → ℕ
+absolute (pos n) = n
+absolute (negsuc n) = n
+
+-- two replicas that committed as much hold the same values
+forged-apart : Premise 3 zeros forgery → Calls 3 forgery → held forgery 0 ≡ holding (set zeros 5 (pos 84)) 1 → held forgery 1 ≡ holding (set zeros 5 (pos 86)) 1 → ⊥
+forged-apart p f a b =
+    let A = agreement 3 zeros (omega arith) (omega arith) (length-replicate 128 (pos 0)) forgery f p in
+    let u = A .replicas 0 (omega arith) .values in
+    let v = A .replicas 1 (omega arith) .values in
+    let c : reportOf (after forgery .memories 0) .commits ≡ reportOf (after forgery .memories 1) .commits = ap (λ (h : HeldBy). h .commits) a ∙ sym (ap (λ (h : HeldBy). h .commits) b) in
+    let e : set zeros 5 (pos 84) ≡ set zeros 5 (pos 86) =
+    sym (ap (λ (h : HeldBy). h .values) a) ∙ u ∙ ap (λ (k : ℕ). applyAll zeros (take k (sequence (after forgery .handouts)))) c ∙ sym v ∙ ap (λ (h : HeldBy). h .values) b in
+    let z : _≡_ {A = ℤ} (pos 84) (pos 86) = ap (λ (l : List ℤ). getD l 5 (pos 0)) e in
+    let w : _≡_ {A = ℕ} 84 86 = ap absolute z in
+    omega arith
+
+story-computed : (allowed 3 zeros (fresh 3 zeros) story [] ≡ true) × (held story 0 ≡ holding storyValues 4) × (held story 1 ≡ holding storyValues 4) × (held story 2 ≡ holding storyValues 4)
+unfolding bytesOf numberFrom valueBytes valueOf word sumTo weightedTo firstCheck secondCheck checkBytes checkMatches ownerOf within kindFits entriesFit recordFits recordsFit ticketAbsent ticketsDiffer valid signed32 entryBytes entriesBytes recordBytes recordsBytes headerFor headerBytes bodyBytes blockOf entryOf entriesOf recordOf recordsOf messageOf allZero entriesPadded recordPadded recordsPadded padded wellFormed firstOf headerOf recordAt entryAt entriesFrom bump rowFrom rowOf freeRow indexFrom has holderFrom countBelow placeStart madeMemory beginRefusal beginAt beginRow writeRefusal rewriteAt insertWrite staleAt writeRow askRefusal readOnlyAt queueAt askRow reportOf waiting writesetOf messageFor sendRefusal sendNow sendStep sameBytes deliverRefusal deliverNow deliverStep entriesFor applied stamped shares afterAborts insertRising hitTickets without workRefusal passNext commitWriteset workStep step run any allowed
+story-computed = (refl, refl, refl, refl)
+
+forgery-computed : (held forgery 0 ≡ holding (set zeros 5 (pos 84)) 1) × (held forgery 1 ≡ holding (set zeros 5 (pos 86)) 1)
+unfolding bytesOf numberFrom valueBytes valueOf word sumTo weightedTo firstCheck secondCheck checkBytes checkMatches ownerOf within kindFits entriesFit recordFits recordsFit ticketAbsent ticketsDiffer valid signed32 entryBytes entriesBytes recordBytes recordsBytes headerFor headerBytes bodyBytes blockOf entryOf entriesOf recordOf recordsOf messageOf allZero entriesPadded recordPadded recordsPadded padded wellFormed firstOf headerOf recordAt entryAt entriesFrom bump rowFrom rowOf freeRow indexFrom has holderFrom countBelow placeStart madeMemory beginRefusal beginAt beginRow writeRefusal rewriteAt insertWrite staleAt writeRow askRefusal readOnlyAt queueAt askRow reportOf waiting writesetOf messageFor sendRefusal sendNow sendStep sameBytes deliverRefusal deliverNow deliverStep entriesFor applied stamped shares afterAborts insertRising hitTickets without workRefusal passNext commitWriteset workStep step run any allowed
+forgery-computed = (refl, refl)
+
+-- the first two cuts end a send
+abbrev ends : List Outage
+ends = outage (send (replicate 512 0)) 512 ∷ outage (send (replicate 512 0)) 612 ∷ outage report 1024 ∷ []
+
+outages-computed : (allowed 3 zeros (fresh 3 zeros) outages ends ≡ true) × (held outages 0 ≡ holding outageValues 1) × (held outages 1 ≡ holding outageValues 1) × (held outages 2 ≡ holding outageValues 1)
+unfolding bytesOf numberFrom valueBytes valueOf word sumTo weightedTo firstCheck secondCheck checkBytes checkMatches ownerOf within kindFits entriesFit recordFits recordsFit ticketAbsent ticketsDiffer valid signed32 entryBytes entriesBytes recordBytes recordsBytes headerFor headerBytes bodyBytes blockOf entryOf entriesOf recordOf recordsOf messageOf allZero entriesPadded recordPadded recordsPadded padded wellFormed firstOf headerOf recordAt entryAt entriesFrom bump rowFrom rowOf freeRow indexFrom has holderFrom countBelow placeStart madeMemory beginRefusal beginAt beginRow writeRefusal rewriteAt insertWrite staleAt writeRow askRefusal readOnlyAt queueAt askRow reportOf waiting writesetOf messageFor sendRefusal sendNow sendStep sameBytes deliverRefusal deliverNow deliverStep entriesFor applied stamped shares afterAborts insertRising hitTickets without workRefusal passNext commitWriteset workStep step run any allowed isGood blocksFrom firstBlocks writesetsFrom commitAll commitBlocks highestTicket highestOwn ownWritesets lastOwn restartedMemory restartRefusal restartStep placesFit partsFit openCount messageIn blockRefusal heard reportStep
+outages-computed = (refl, refl, refl, refl)
+
+story-calls : Calls 3 story
+unfolding any signed32
+story-calls = calls-met 3 story refl
+
+forgery-calls : Calls 3 forgery
+unfolding any signed32
+forgery-calls = calls-met 3 forgery refl
+
+outage-calls : Calls 3 outages
+unfolding any signed32
+outage-calls = calls-met 3 outages refl
+
+pub worked-runs : WorkedRuns
+worked-runs = record {
+  story-runs = let c = story-computed in record { calls = story-calls; premise = premise-met 3 zeros story [] (c .0); replica-0 = c .1; replica-1 = c .2; replica-2 = c .3 };
+  forgery-runs = let c = forgery-computed in record { calls = forgery-calls; premise = λ p. forged-apart p forgery-calls (c .0) (c .1); replica-0 = c .0; replica-1 = c .1 };
+  outage-runs = let c = outages-computed in record { calls = outage-calls; premise = premise-met 3 zeros outages ends (c .0); replica-0 = c .1; replica-1 = c .2; replica-2 = c .3 };
+}

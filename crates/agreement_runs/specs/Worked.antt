@@ -1,0 +1,143 @@
+-- Runs of a group of three: one that meets the premise, so that the theorem speaks of something; one with a forged block, so that the premise is seen to be
+-- needed; and one with power cuts and restarts.
+use Prim.Native.Nat.{ℕ}
+use mathlib.Core.Path.{_≡_}
+use mathlib.Core.List.{List, [], _∷_, _++_}
+use lib.IntN.{ℤ, pos}
+use lib.ListN.{replicate, set, take}
+use Rattle.block.specs.Bytes.{blockOf}
+use Rattle.engine.specs.Client.{reportOf}
+use Rattle.engine.specs.Step.{Call}
+use Rattle.engine.specs.Step.Call.{begin, write, ask, send, deliver, work}
+use Rattle.agreement.specs.Group.{Group, call, restart, CallAt, fresh, run, Calls, Premise}
+
+abbrev pub zeros : List ℤ
+zeros = replicate 128 (pos 0)
+
+abbrev pub at : ℕ → Call → CallAt
+at k c = record { at = k; does = call c }
+
+-- the block of slot s, from its owner, with one transaction that wrote one item
+abbrev pub blockCommitting : ℕ → ℕ → ℕ → ℕ → ℤ → List ℕ
+blockCommitting s sender ticket item value =
+    blockOf (record { kind = 2; sender = sender; replicas = 3; slot = s; records = record { ticket = ticket; entries = record { item = item; value = value } ∷ [] } ∷ [] })
+
+-- a transaction begun, written and asked
+abbrev pub asking : ℕ → ℕ → ℕ → ℤ → List CallAt
+asking k ticket item value = at k begin ∷ at k (write ticket item value) ∷ at k (ask ticket) ∷ []
+
+abbrev pub sending : ℕ → CallAt
+sending k = at k (send (replicate 512 0))
+
+abbrev pub taking : ℕ → List ℕ → List CallAt
+taking k block = at k (deliver block) ∷ at k work ∷ []
+
+-- two stems on different letters, items 10 and 20: replica 2 gets slot 1's block before slot 0's
+abbrev pub differentItems : List CallAt
+differentItems =
+    asking 0 1 10 (pos 80) ++ asking 1 1 20 (pos 70)
+    ++ (sending 0 ∷ taking 0 (blockCommitting 0 0 1 10 (pos 80)))
+    ++ taking 1 (blockCommitting 0 0 1 10 (pos 80))
+    ++ (sending 1 ∷ taking 1 (blockCommitting 1 1 1 20 (pos 70)))
+    ++ taking 0 (blockCommitting 1 1 1 20 (pos 70))
+    ++ (at 2 (deliver (blockCommitting 1 1 1 20 (pos 70))) ∷ at 2 (deliver (blockCommitting 0 0 1 10 (pos 80))) ∷ at 2 work ∷ at 2 work ∷ [])
+
+-- the n, item 5, set to 86 by replica 2 and then to 84 by replica 0: the second block comes to replica 1 before its turn
+abbrev pub sameItem : List CallAt
+sameItem =
+    asking 2 1 5 (pos 86)
+    ++ (sending 2 ∷ taking 2 (blockCommitting 2 2 1 5 (pos 86)))
+    ++ taking 0 (blockCommitting 2 2 1 5 (pos 86))
+    ++ asking 0 2 5 (pos 84)
+    ++ (sending 0 ∷ taking 0 (blockCommitting 3 0 2 5 (pos 84)))
+    ++ (at 1 (deliver (blockCommitting 3 0 2 5 (pos 84))) ∷ at 1 (deliver (blockCommitting 2 2 1 5 (pos 86))) ∷ at 1 work ∷ at 1 work ∷ [])
+    ++ taking 2 (blockCommitting 3 0 2 5 (pos 84))
+
+abbrev pub story : List CallAt
+story = differentItems ++ sameItem
+
+-- ---- and a forged block
+
+-- replica 0 hands out 84 for the n, and replica 1 takes another well-formed block of that slot
+abbrev pub forgery : List CallAt
+forgery =
+    asking 0 1 5 (pos 84)
+    ++ (sending 0 ∷ taking 0 (blockCommitting 0 0 1 5 (pos 84)))
+    ++ taking 1 (blockCommitting 0 0 1 5 (pos 86))
+
+-- ---- and power cuts
+
+abbrev pub restarting : ℕ → List ℕ → CallAt
+restarting k journal = record { at = k; does = restart journal (replicate 512 0) }
+
+abbrev pub first : List ℕ
+first = blockCommitting 0 0 1 10 (pos 80)
+
+-- a *next*
+abbrev pub second : List ℕ
+second = blockOf (record { kind = 1; sender = 1; replicas = 3; slot = 1; records = [] })
+
+abbrev pub torn : List ℕ
+torn = first ++ take 100 (blockCommitting 1 1 1 20 (pos 70))
+
+-- replica 0 asks, and a cut ends its send when the block is on its disk: the restart hands the block out. Replica 1 takes it and works; a cut tears the block it
+-- then sends after 100 bytes, so it restarts with slot 0 alone, and sends for slot 1 anew: a *next*, its transaction is gone. Replica 0 loses power once more
+abbrev pub outages : List CallAt
+outages =
+    asking 0 1 10 (pos 80)
+    ++ (restarting 0 first ∷ asking 1 1 20 (pos 70))
+    ++ taking 1 first
+    ++ (restarting 1 torn ∷ sending 1 ∷ taking 1 second)
+    ++ taking 0 second
+    ++ (restarting 0 (first ++ second) ∷ taking 2 first)
+    ++ taking 2 second
+
+-- ---- what the runs leave
+
+abbrev pub after : List CallAt → Group
+after cs = run 3 zeros (fresh 3 zeros) cs
+
+-- what replica k holds after a run: its values and its commit count
+pub record HeldBy : Type 0 where
+  pub values : List ℤ
+  pub commits : ℕ
+
+abbrev pub held : List CallAt → ℕ → HeldBy
+held cs k = record { values = after cs .memories k .store .values; commits = reportOf (after cs .memories k) .commits }
+
+abbrev pub holding : List ℤ → ℕ → HeldBy
+holding values commits = record { values = values; commits = commits }
+
+abbrev pub storyValues : List ℤ
+storyValues = set (set (set zeros 10 (pos 80)) 20 (pos 70)) 5 (pos 84)
+
+abbrev pub outageValues : List ℤ
+outageValues = set zeros 10 (pos 80)
+
+-- the story meets the premise; all three replicas commit its four writesets and hold the same values
+pub record WorkedRun : Type 0 where
+  pub calls : Calls 3 story
+  pub premise : Premise 3 zeros story
+  pub replica-0 : held story 0 ≡ holding storyValues 4
+  pub replica-1 : held story 1 ≡ holding storyValues 4
+  pub replica-2 : held story 2 ≡ holding storyValues 4
+
+-- with the forged block the premise does not hold, and the values differ
+pub record ForgedRun : Type 0 where
+  pub calls : Calls 3 forgery
+  pub premise : Premise 3 zeros forgery → ⊥
+  pub replica-0 : held forgery 0 ≡ holding (set zeros 5 (pos 84)) 1
+  pub replica-1 : held forgery 1 ≡ holding (set zeros 5 (pos 86)) 1
+
+-- the cuts and restarts meet the premise; all three replicas commit the one writeset whose block was on a disk
+pub record OutageRun : Type 0 where
+  pub calls : Calls 3 outages
+  pub premise : Premise 3 zeros outages
+  pub replica-0 : held outages 0 ≡ holding outageValues 1
+  pub replica-1 : held outages 1 ≡ holding outageValues 1
+  pub replica-2 : held outages 2 ≡ holding outageValues 1
+
+pub record WorkedRuns : Type 0 where
+  pub story-runs : WorkedRun
+  pub forgery-runs : ForgedRun
+  pub outage-runs : OutageRun

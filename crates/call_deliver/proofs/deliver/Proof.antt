@@ -1,0 +1,139 @@
+-- `deliver` meets its contract: each answer by its law.
+use Prim.Native.Nat.{_+_, _≤_, _<_}
+use mathlib.Core.Path.{_≡_, sym, _∙_}
+use mathlib.Core.Bool.{true}
+use native.Mathlib.Omega.{arith}
+use borrow.Author.Tests.{not-true, not-false}
+use borrow.Author.Needs.{needs}
+use lib.ListN.{length}
+use Rattle.block.specs.Answers.{blockRefusal, headerOf}
+use Rattle.call_reply.specs.Parts.{deliverParts}
+use Rattle.call_reply.specs.Replies.{number}
+use Rattle.call_reply.proofs.ReplyLaws.{gives}
+use Rattle.call_deliver.specs.Lengths.{lengthsFit}
+use Rattle.call_deliver.proofs.DeliverLaws.{reader-took, deliver-lengths, deliver-unread, deliver-refused, deliver-kept, lengths-long, place-in, part-long, group-some}
+use Rattle.call_deliver.proofs.deliver.Statement.{statement}
+use Rattle.call_deliver.proofs.deliver.Tie as tie
+
+-- past the test the lengths are right
+fit : (c : tie.Else1)
+    → let a = c .before .before .before .before .before .args in
+    lengthsFit (a .counts .replicas) (length (a .places .now)) (length (a .outbox .now)) (length (a .bytes .now)) ≡ true
+fit c = sym (c .before .lengths-fit .ensures) ∙ not-false _ (c .if1 .left)
+
+lengths-fit-requires : tie.Need-lengths-fit-requires
+lengths-fit-requires c κs = search needs
+
+returns : tie.Need-returns
+returns c = λ m. gives number (deliver-lengths _ _ (sym (c .before .lengths-fit .ensures) ∙ not-true _ (c .if1 .taken)))
+
+read-block-requires : tie.Need-read-block-requires
+read-block-requires c κs = search needs
+
+enum-known-read : tie.Need-enum-known-read
+enum-known-read c = search needs
+
+enum-told : tie.Need-enum-told
+enum-told c = search needs
+
+number-requires : tie.Need-number-requires
+number-requires c κs = search needs
+
+returns-2 : tie.Need-returns-2
+returns-2 c = λ m.
+    let t = c .before in
+    let b = t .before .before in
+    gives number
+    (deliver-unread _ _ (fit (b .before)) (b .read-block .result) _ (t .enum-told .given .1) (b .read-block .ensures) (c .number .result) (c .number .ensures))
+
+-- the reader took the bytes, and the header is theirs
+took : (c : tie.After-read)
+    → let a = c .before .before .before .before .before .before .before .before .args in
+    (blockRefusal (a .bytes .now) ≡ 0) × (c .read .given .0 .0 ≡ headerOf (a .bytes .now))
+took c = let b = c .before .before in reader-took _ (b .read-block .result) _ (c .read .given .1) (b .read-block .ensures)
+
+refusal-requires : tie.Need-refusal-requires
+refusal-requires c κs =
+    let r = c .before .before in
+    let k = took r in
+    (fit (r .before .before .before), k .0, k .1)
+
+same-length : tie.Need-same-length
+same-length c = search needs
+
+returns-3 : tie.Need-returns-3
+returns-3 c = λ m. gives number (deliver-refused _ _ (c .before .refusal .result) (c .before .refusal .ensures m) (c .if2 .taken))
+
+-- past the refusals the group has replicas
+some : (c : tie.Else2) → 0 < c .before .before .before .before .before .before .before .before .before .before .before .before .args .counts .replicas
+some c =
+    let a = c .before .before .before .before .before .before .before .before .before .before .before .before .args in
+    group-some (a .turn) (a .counts) (a .places .now) (a .outbox .now) (a .bytes .now) (c .before .refusal .result) (c .before .refusal .ensures) (c .if2 .left)
+
+place-start-requires : tie.Need-place-start-requires
+place-start-requires c κs = search needs
+
+-- the place lies in the places
+inside : (c : tie.After-place-start)
+    → c .place-start .result + 512 ≤ length (c .before .before .before .before .before .before .before .before .before .before .before .before .before .args .places .now)
+inside c =
+    let e = c .before .before .before .before .before .before .before .before in
+    let a = e .before .before .before .before .before .args in
+    place-in _ _ (a .places .now) (a .outbox .now) (a .bytes .now) (fit e) (some (c .before)) (c .place-start .result) (c .place-start .ensures)
+
+add-put-block : tie.Need-add-put-block
+add-put-block c = omega (arith, inside c)
+
+sub-put-block : tie.Need-sub-put-block
+sub-put-block c = search needs
+
+part-put-block-start : tie.Need-part-put-block-start
+part-put-block-start c = search needs
+
+part-put-block-end : tie.Need-part-put-block-end
+part-put-block-end c = inside c
+
+put-block-requires : tie.Need-put-block-requires
+put-block-requires c κs =
+    let p = c .before in
+    let e = p .before .before .before .before .before .before .before .before in
+    let a = e .before .before .before .before .before .args in
+    part-long (p .place-start .result) (a .places .now) (a .bytes .now) (inside p) (lengths-long _ (a .places .now) (a .outbox .now) (a .bytes .now) (fit e) .bytes)
+
+same-length-2 : tie.Need-same-length-2
+same-length-2 c = search needs
+
+returns-4 : tie.Need-returns-4
+returns-4 c = λ m.
+    let w = c .before .before in
+    let p = w .before .before in
+    let f = p .before .before in
+    let r = f .before .before .before in
+    let a = r .before .before .before .before .before .before .before .before .args in
+    gives number
+    (deliver-kept (deliverParts m (a .turn) (a .counts) (a .places .now) (a .outbox .now)) (a .bytes .now)
+    (f .refusal .result) (f .refusal .ensures m) (p .before .if2 .left) (r .read .given .0 .0) (took r .1)
+    (p .place-start .result) (p .place-start .ensures) (w .put-block .last .0) (w .put-block .ensures))
+
+pub deliver-spec : {M : Type 1} → statement M
+deliver-spec =
+    tie.close
+    (tie.spec
+    lengths-fit-requires
+    returns
+    read-block-requires
+    enum-known-read
+    enum-told
+    number-requires
+    returns-2
+    refusal-requires
+    same-length
+    returns-3
+    place-start-requires
+    add-put-block
+    sub-put-block
+    part-put-block-start
+    part-put-block-end
+    put-block-requires
+    same-length-2
+    returns-4)

@@ -1,0 +1,8 @@
+-- The lengths of what a deliver is lent.
+use Prim.Native.Nat.{ℕ, _*_}
+use mathlib.Core.Bool.{Bool, _&&_}
+use lib.Dec.{eqb}
+
+-- N places, the block sent last and the block that arrives, by their lengths
+abbrev pub lengthsFit : ℕ → ℕ → ℕ → ℕ → Bool
+lengthsFit replicas places outbox bytes = eqb places (512 * replicas) && (eqb outbox 512 && eqb bytes 512)

@@ -1,0 +1,162 @@
+-- `make` meets its contract: the refusal's number, or what clearing and copying leave.
+use mathlib.Core.Path.{_≡_, refl, sym, _∙_}
+use native.Mathlib.Omega.{arith}
+use Rattle.memory.specs.Memory.{Memory}
+use Rattle.engine.specs.Make.{placesFit, makeRefusal}
+use Rattle.call_reply.specs.Parts.{allParts}
+use Rattle.call_reply.specs.Replies.{reply}
+use Rattle.call_reply.proofs.ReplyLaws.{gives}
+use Rattle.call_make.proofs.MakeLaws.{Given, given, make-refused, make-taken}
+use borrow.Author.Needs.{needs}
+use Rattle.call_make.proofs.make.Statement.{statement}
+use Rattle.call_make.proofs.make.Tie as tie
+
+-- the memory lent
+abbrev before : tie.Start → Memory
+before s =
+    let a = s .args in
+    allParts (a .turn) (a .counts) (a .rows) (a .queue .now) (a .items .now) (a .writes .now) (a .snapshots .now) (a .values .now) (a .stamps .now) (a .places .now) (a .outbox .now)
+
+-- the number is the refusal's
+said : (c : tie.After-refusal) → let s = c .before .before .before .before .before .before .before .before in c .refusal .result ≡ makeRefusal (before s) (s .args .n) (s .args .own) (s .args .start .now)
+unfolding placesFit
+said c =
+    let f = c .before in
+    let p = f .before in
+    let s = p .before .before .before .before .before .before in
+    c .refusal .ensures (before s) (s .args .start .now) refl (sym (p .parts-fit .ensures)) (sym (f .places-fit .ensures))
+
+parts-fit-requires : tie.Need-parts-fit-requires
+parts-fit-requires c κs = search needs
+
+places-fit-requires : tie.Need-places-fit-requires
+places-fit-requires c κs = search needs
+
+refusal-requires : tie.Need-refusal-requires
+refusal-requires c κs = search needs
+
+refused-requires : tie.Need-refused-requires
+refused-requires c κs = search needs
+
+returns : tie.Need-returns
+returns c =
+    let r = c .before .before in
+    let s = r .before .before .before .before .before .before .before .before in
+    rw (c .refused .ensures)
+    (gives reply (make-refused (before s) (s .args .n) (s .args .own) (s .args .start .now) (r .refusal .result) (said r) (c .before .if1 .taken)))
+
+clear-numbers-requires : tie.Need-clear-numbers-requires
+clear-numbers-requires c κs = search needs
+
+clear-bytes-requires : tie.Need-clear-bytes-requires
+clear-bytes-requires c κs = search needs
+
+clear-values-requires : tie.Need-clear-values-requires
+clear-values-requires c κs = search needs
+
+clear-values-requires-2 : tie.Need-clear-values-requires-2
+clear-values-requires-2 c κs = search needs
+
+copy-values-requires : tie.Need-copy-values-requires
+copy-values-requires c κs = search needs
+
+clear-numbers-requires-2 : tie.Need-clear-numbers-requires-2
+clear-numbers-requires-2 c κs = search needs
+
+clear-bytes-requires-2 : tie.Need-clear-bytes-requires-2
+clear-bytes-requires-2 c κs = search needs
+
+clear-bytes-requires-3 : tie.Need-clear-bytes-requires-3
+clear-bytes-requires-3 c κs = search needs
+
+-- what is known once the make is not refused
+taken : (c : tie.Else1) → let s = c .before .before .before .before .before .before .before .before .before in Given (before s) (s .args .n) (s .args .own) (s .args .start .now)
+taken c =
+    let r = c .before in
+    let s = r .before .before .before .before .before .before .before .before in
+    given (before s) (s .args .n) (s .args .own) (s .args .start .now) (sym (said r) ∙ c .if1 .left)
+
+cast-fresh : tie.Need-cast-fresh
+cast-fresh c = omega (arith, taken (c .before .before .before .before .before .before .before .before .before .before .before .before .before .before .before .before .before .before .before .before .before .before .before .before .before .before .before .before .before) .most)
+
+cast-fresh-2 : tie.Need-cast-fresh-2
+cast-fresh-2 c =
+    let g = taken (c .before .before .before .before .before .before .before .before .before .before .before .before .before .before .before .before .before .before .before .before .before .before .before .before .before .before .before .before .before) in
+    omega (arith, g .most, g .own-low)
+
+fresh-requires : tie.Need-fresh-requires
+fresh-requires c κs = search needs
+
+same-length : tie.Need-same-length
+same-length c = c .before .before .before .before .before .before .before .before .before .before .before .before .before .before .before .before .before .before .before .before .before .before .before .before .before .before .before .before .clear-numbers .kept .0
+
+same-length-2 : tie.Need-same-length-2
+same-length-2 c = c .before .before .before .before .before .before .before .before .before .before .before .before .before .before .before .before .before .before .before .before .before .before .before .before .clear-bytes .kept .0
+
+same-length-3 : tie.Need-same-length-3
+same-length-3 c = search needs
+
+same-length-4 : tie.Need-same-length-4
+same-length-4 c = search needs
+
+same-length-5 : tie.Need-same-length-5
+same-length-5 c = search needs
+
+same-length-6 : tie.Need-same-length-6
+same-length-6 c = search needs
+
+same-length-7 : tie.Need-same-length-7
+same-length-7 c = search needs
+
+same-length-8 : tie.Need-same-length-8
+same-length-8 c = search needs
+
+returns-2 : tie.Need-returns-2
+returns-2 c =
+    let o = c .before .before .before in
+    let pl = o .before .before .before .before in
+    let st = pl .before .before .before .before in
+    let v = st .before .before .before in
+    let n = v .before .before .before in
+    let w = n .before .before .before in
+    let i = w .before .before .before .before in
+    let q = i .before .before .before .before in
+    let e = q .before .before in
+    let r = e .before in
+    let s = r .before .before .before .before .before .before .before .before in
+    rw (c .fresh .ensures)
+    (gives reply
+    (make-taken (before s) (s .args .n) (s .args .own) (s .args .start .now) (r .refusal .result) (said r) (e .if1 .left)
+    (q .clear-numbers .last .0) (i .clear-bytes .last .0) (w .clear-values .last .0) (n .clear-values2 .last .0) (v .copy-values .last .1 .0) (st .clear-numbers2 .last .0)
+    (pl .clear-bytes2 .last .0) (o .clear-bytes3 .last .0) (q .clear-numbers .ensures) (i .clear-bytes .ensures) (w .clear-values .ensures) (n .clear-values2 .ensures)
+    (v .copy-values .ensures) (st .clear-numbers2 .ensures) (pl .clear-bytes2 .ensures) (o .clear-bytes3 .ensures)))
+
+pub make-spec : {M : Type 1} → statement M
+make-spec =
+    tie.close
+    (tie.spec
+    parts-fit-requires
+    places-fit-requires
+    refusal-requires
+    refused-requires
+    returns
+    clear-numbers-requires
+    clear-bytes-requires
+    clear-values-requires
+    clear-values-requires-2
+    copy-values-requires
+    clear-numbers-requires-2
+    clear-bytes-requires-2
+    clear-bytes-requires-3
+    cast-fresh
+    cast-fresh-2
+    fresh-requires
+    same-length
+    same-length-2
+    same-length-3
+    same-length-4
+    same-length-5
+    same-length-6
+    same-length-7
+    same-length-8
+    returns-2)

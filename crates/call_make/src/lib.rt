@@ -1,0 +1,200 @@
+// A replica just made, in the parts lent for it.
+ghost use mathlib.Core.Path.{_≡_};
+ghost use mathlib.Core.Bool.{_&&_, _||_, not};
+ghost use mathlib.Core.List.{List};
+ghost use Prim.Native.Nat.{_*_};
+ghost use lib.Dec.{eqb};
+ghost use lib.IntN.{ℤ};
+ghost use lib.ListN.{length, replicate};
+ghost use Rattle.block.specs.Message.{within};
+ghost use Rattle.memory.specs.Memory.{Memory};
+ghost use Rattle.memory.specs.Rows.{closed};
+ghost use Rattle.engine.specs.Make.{turnZero, countsFor, placesFit, slicesFit, makeRefusal, makeStep};
+ghost use Rattle.call_reply.specs.Parts.{allParts};
+ghost use Rattle.call_reply.specs.Replies.{reply, Gives};
+use call_reply::Made;
+use call_reply::Reply;
+use memory::Counts;
+use memory::Turn;
+use memory::Txn;
+use memory::rows::clear_bytes;
+use memory::rows::clear_numbers;
+use memory::rows::clear_values;
+use memory::rows::copy_values;
+
+// A refused make: turn, counts and rows as they were.
+fn refused(number: u8, turn: Turn, counts: Counts, rows: [Txn; 6]) -> Made
+    ensures { λ r. ⌜ r ≡ record { reply = record { number = number; counts = counts }; turn = turn; rows = rows } ⌝ }
+{
+    Made {
+        reply: Reply {
+            counts: counts,
+            number: number,
+        },
+        turn: turn,
+        rows: rows,
+    }
+}
+
+// The turn, counts and rows of a replica with no call behind it.
+fn fresh(replicas: u8, own: u8) -> Made
+    ensures { λ r. ⌜ r ≡ record { reply = record { number = 0; counts = countsFor replicas own }; turn = turnZero; rows = replicate 6 closed } ⌝ }
+{
+    Made {
+        reply: Reply {
+            counts: Counts {
+                replicas: replicas,
+                own: own,
+                commits: 0,
+                done: 0,
+                tickets: 0,
+                committed: 0,
+                read_only: 0,
+                aborted: 0,
+                withdrawn: 0,
+            },
+            number: 0,
+        },
+        turn: Turn {
+            slot: 0,
+            sent: 0,
+            applying: 0,
+        },
+        rows: [Txn {
+            ticket: 0,
+            stage: 0,
+            snapshot: 0,
+            writes: 0,
+        }; 6],
+    }
+}
+
+// The length of N blocks; an N out of range gives the places no length.
+fn places_fit(places: usize, n: u32) -> bool
+    ensures { λ r. ⌜ r ≡ (not (within 2 6 n) || eqb places (512 * n)) ⌝ }
+{
+    if n < 2 {
+        return true;
+    }
+    if 6 < n {
+        return true;
+    }
+    places == 512 * n as usize
+}
+
+// The lengths of the other parts.
+fn parts_fit(
+    queue: usize,
+    items: usize,
+    writes: usize,
+    snapshots: usize,
+    values: usize,
+    stamps: usize,
+    outbox: usize,
+) -> bool
+    ensures { λ r. ⌜ r
+        ≡ (eqb queue 6
+        && (eqb items 48
+        && (eqb writes 48
+        && (eqb snapshots 768
+        && (eqb values 128
+        && (eqb stamps 128
+        && eqb outbox 512)))))) ⌝ }
+{
+    if queue != 6 {
+        return false;
+    }
+    if items != 48 {
+        return false;
+    }
+    if writes != 48 {
+        return false;
+    }
+    if snapshots != 768 {
+        return false;
+    }
+    if values != 128 {
+        return false;
+    }
+    if stamps != 128 {
+        return false;
+    }
+    outbox == 512
+}
+
+// Why a make is refused, 0 where it is not: by the number of starting values and by whether the parts and the places have their lengths.
+fn refusal(n: u32, own: u32, start: usize, parts: bool, places: bool) -> u8
+    ensures { λ r. ⌜ ((m : Memory) (values : List ℤ) → length values ≡ start → slicesFit m ≡ parts → placesFit (m .blocks .places) n ≡ places →
+        r ≡ makeRefusal m n own values) ⌝ }
+{
+    if start != 128 {
+        return 1;
+    }
+    if !parts {
+        return 1;
+    }
+    if !places {
+        return 1;
+    }
+    if n < 2 {
+        return 2;
+    }
+    if 6 < n {
+        return 2;
+    }
+    if n <= own {
+        return 2;
+    }
+    0
+}
+
+// N, the replica's own number and 128 starting values; the slices lent become its parts.
+pub fn make(
+    rows: [Txn; 6],
+    turn: Turn,
+    counts: Counts,
+    n: u32,
+    own: u32,
+    start: &[i32],
+    queue: &mut [u32],
+    items: &mut [u8],
+    writes: &mut [i32],
+    snapshots: &mut [i32],
+    values: &mut [i32],
+    stamps: &mut [u32],
+    places: &mut [u8],
+    outbox: &mut [u8],
+) -> Made
+    ensures { λ r. ⌜ Gives reply
+        (makeStep
+        (allParts turn counts rows (now (queue .entry)) (now (items .entry)) (now (writes .entry)) (now (snapshots .entry))
+        (now (values .entry)) (now (stamps .entry)) (now (places .entry)) (now (outbox .entry)))
+        n own (now (start .entry)))
+        (r .reply)
+        (allParts (r .turn) (r .reply .counts) (r .rows) (now (queue .exit)) (now (items .exit)) (now (writes .exit)) (now (snapshots .exit))
+        (now (values .exit)) (now (stamps .exit)) (now (places .exit)) (now (outbox .exit))) ⌝ }
+{
+    let parts = parts_fit(
+        queue.len(),
+        items.len(),
+        writes.len(),
+        snapshots.len(),
+        values.len(),
+        stamps.len(),
+        outbox.len(),
+    );
+    let room = places_fit(places.len(), n);
+    let number = refusal(n, own, start.len(), parts, room);
+    if number != 0 {
+        return refused(number, turn, counts, rows);
+    }
+    clear_numbers(&mut *queue);
+    clear_bytes(&mut *items);
+    clear_values(&mut *writes);
+    clear_values(&mut *snapshots);
+    copy_values(start, &mut *values);
+    clear_numbers(&mut *stamps);
+    clear_bytes(&mut *places);
+    clear_bytes(&mut *outbox);
+    fresh(n as u8, own as u8)
+}

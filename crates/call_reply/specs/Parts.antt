@@ -1,0 +1,93 @@
+-- Which parts of a replica's memory each call is lent: the memory m with those in place of its own. A contract speaks of every m.
+use Prim.Native.Nat.{ℕ}
+use mathlib.Core.List.{List}
+use lib.IntN.{ℤ}
+use Rattle.memory.specs.declared.Counts.{Counts}
+use Rattle.memory.specs.declared.Turn.{Turn}
+use Rattle.memory.specs.declared.Txn.{Txn}
+use Rattle.memory.specs.Memory.{Memory}
+
+-- all of them: what a make is lent
+abbrev pub allParts : Turn → Counts → List Txn → List ℕ → List ℕ → List ℤ → List ℤ → List ℤ → List ℕ → List ℕ → List ℕ → Memory
+allParts turn counts table queue items writes snapshots values stamps places outbox = record {
+  turn = turn;
+  counts = counts;
+  txns = record { table = table; queue = queue; items = items; writes = writes; snapshots = snapshots };
+  store = record { values = values; stamps = stamps };
+  blocks = record { places = places; outbox = outbox };
+}
+
+abbrev pub beginParts : Memory → List Txn → Counts → List ℤ → List ℤ → Memory
+beginParts m table counts values snapshots = record {
+  turn = m .turn;
+  counts = counts;
+  txns = record { table = table; queue = m .txns .queue; items = m .txns .items; writes = m .txns .writes; snapshots = snapshots };
+  store = record { values = values; stamps = m .store .stamps };
+  blocks = m .blocks;
+}
+
+abbrev pub readParts : Memory → List Txn → List ℕ → List ℤ → List ℤ → Memory
+readParts m table items writes snapshots = record {
+  turn = m .turn;
+  counts = m .counts;
+  txns = record { table = table; queue = m .txns .queue; items = items; writes = writes; snapshots = snapshots };
+  store = m .store;
+  blocks = m .blocks;
+}
+
+abbrev pub writeParts : Memory → Turn → Counts → List Txn → List ℕ → List ℤ → List ℕ → Memory
+writeParts m turn counts table items writes stamps = record {
+  turn = turn;
+  counts = counts;
+  txns = record { table = table; queue = m .txns .queue; items = items; writes = writes; snapshots = m .txns .snapshots };
+  store = record { values = m .store .values; stamps = stamps };
+  blocks = m .blocks;
+}
+
+abbrev pub askParts : Memory → Counts → List Txn → List ℕ → Memory
+askParts m counts table queue = record {
+  turn = m .turn;
+  counts = counts;
+  txns = record { table = table; queue = queue; items = m .txns .items; writes = m .txns .writes; snapshots = m .txns .snapshots };
+  store = m .store;
+  blocks = m .blocks;
+}
+
+abbrev pub withdrawParts : Memory → Counts → List Txn → Memory
+withdrawParts m counts table = askParts m counts table (m .txns .queue)
+
+abbrev pub reportParts : Memory → Turn → Counts → List Txn → Memory
+reportParts m turn counts table = record {
+  turn = turn;
+  counts = counts;
+  txns = record { table = table; queue = m .txns .queue; items = m .txns .items; writes = m .txns .writes; snapshots = m .txns .snapshots };
+  store = m .store;
+  blocks = m .blocks;
+}
+
+abbrev pub sendParts : Memory → Turn → Counts → List Txn → List ℕ → List ℕ → List ℤ → List ℕ → Memory
+sendParts m turn counts table queue items writes outbox = record {
+  turn = turn;
+  counts = counts;
+  txns = record { table = table; queue = queue; items = items; writes = writes; snapshots = m .txns .snapshots };
+  store = m .store;
+  blocks = record { places = m .blocks .places; outbox = outbox };
+}
+
+abbrev pub deliverParts : Memory → Turn → Counts → List ℕ → List ℕ → Memory
+deliverParts m turn counts places outbox = record {
+  turn = turn;
+  counts = counts;
+  txns = m .txns;
+  store = m .store;
+  blocks = record { places = places; outbox = outbox };
+}
+
+abbrev pub workParts : Memory → Turn → Counts → List Txn → List ℕ → List ℕ → List ℤ → List ℕ → List ℕ → Memory
+workParts m turn counts table queue items values stamps places = record {
+  turn = turn;
+  counts = counts;
+  txns = record { table = table; queue = queue; items = items; writes = m .txns .writes; snapshots = m .txns .snapshots };
+  store = record { values = values; stamps = stamps };
+  blocks = record { places = places; outbox = m .blocks .outbox };
+}

@@ -1,0 +1,84 @@
+// What a refused call is answered; and the reply of a call that gives nothing.
+ghost use mathlib.Core.Path.{_≡_};
+ghost use mathlib.Core.Bool.{false};
+ghost use lib.IntN.{pos};
+ghost use lib.ListN.{replicate};
+ghost use Rattle.call_reply.specs.Replies.{noReport};
+use super::AskReply;
+use super::BeginReply;
+use super::ReadReply;
+use super::Reply;
+use super::ReportReply;
+use super::WorkReply;
+use engine::Report;
+use memory::Counts;
+
+pub fn replied(number: u8, counts: Counts) -> Reply
+    ensures { λ r. ⌜ r ≡ record { number = number; counts = counts } ⌝ }
+{
+    Reply {
+        number: number,
+        counts: counts,
+    }
+}
+
+pub fn no_begin(number: u8, counts: Counts) -> BeginReply
+    ensures { λ r. ⌜ r ≡ record { number = number; ticket = 0; counts = counts } ⌝ }
+{
+    BeginReply {
+        number: number,
+        ticket: 0,
+        counts: counts,
+    }
+}
+
+pub fn no_read(number: u8) -> ReadReply
+    ensures { λ r. ⌜ r ≡ record { number = number; value = pos 0 } ⌝ }
+{
+    ReadReply {
+        number: number,
+        value: 0,
+    }
+}
+
+pub fn no_ask(number: u8, counts: Counts) -> AskReply
+    ensures { λ r. ⌜ r ≡ record { number = number; «read_only» = false; counts = counts } ⌝ }
+{
+    AskReply {
+        number: number,
+        read_only: false,
+        counts: counts,
+    }
+}
+
+pub fn no_report(number: u8) -> ReportReply
+    ensures { λ r. ⌜ r ≡ record { number = number; report = noReport } ⌝ }
+{
+    ReportReply {
+        number: number,
+        report: Report {
+            turn: 0,
+            commits: 0,
+            tickets: 0,
+            open_count: 0,
+            committed: 0,
+            read_only: 0,
+            aborted: 0,
+            withdrawn: 0,
+        },
+    }
+}
+
+pub fn no_work(number: u8, counts: Counts) -> WorkReply
+    ensures { λ r. ⌜ r ≡ record { number = number; sender = 0; moved = false; count = 0; ticket = 0; aborted = replicate 6 0; counts = counts } ⌝ }
+{
+    WorkReply {
+        number: number,
+        sender: 0,
+        moved: false,
+        count: 0,
+        ticket: 0,
+        aborted: [0; 6],
+        counts: counts,
+    }
+}

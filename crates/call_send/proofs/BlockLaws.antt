@@ -1,0 +1,185 @@
+-- Lists filled from the front, and the block that a send writes: the tickets that wait, the part of the items that a row has, a turn of the loop over
+-- the tickets, and the whole. Assumes nothing.
+use Prim.Native.Nat.{ℕ, suc, _+_, _*_, _-_, _≤_, _<_}
+use mathlib.Core.Path.{_≡_, refl, sym, ap, _∙_}
+use mathlib.Core.Bool.{Bool, true, false, cond}
+use mathlib.Core.List.{List, [], _∷_, _++_, map, append-assoc, append-nil}
+use native.Mathlib.Nat.{add-zero}
+use native.Mathlib.Numerals.{add-one}
+use native.Mathlib.Omega.{arith}
+use borrow.Author.Tests.{eq-eqb}
+use borrow.Rule.Slice.PartMut.{putMid}
+use lib.Dec.{eqb}
+use lib.IntN.{ℤ}
+use lib.ListN.{length, getD, set, take, drop, replicate, length-append, length-map, replicate-append-replicate, take-append-drop, drop-of-length-le, List·getD-eq-default}
+use lib.Seq.{slice, length-slice, length-take-le, take-suc, take-at, take-all, drop-cons, drop-at, drop-drop, set-at}
+use Rattle.block.specs.Bytes.{recordBytes, recordsBytes, headerFor, headerBytes, bodyBytes, blockOf}
+use Rattle.block.specs.Check.{checkBytes}
+use Rattle.block.specs.Message.{Message}
+use Rattle.block.specs.Writing.{Written, written, headerStep, recordStep, checkedStep}
+use Rattle.block.proofs.CheckLaws.{check-take}
+use Rattle.block.proofs.ListLaws.{lent-slice}
+use Rattle.block.proofs.WriteLaws.{Filled, filled-part, record-done, records-append, drop-zeros, header-done}
+use Rattle.memory.specs.declared.Txn.{Txn}
+use Rattle.memory.specs.Memory.{Memory}
+use Rattle.memory.specs.Rows.{closed, rowOf, rowAt, writeCount, indexFrom, indexOf}
+use Rattle.memory.proofs.RowLaws.{row-within}
+use Rattle.engine.specs.Moves.{waiting, writesetOf, messageFor}
+use Rattle.engine.proofs.Tests.{cond-by, less-by}
+use Rattle.call_send.specs.Writing.{writesetIn, headerWith}
+
+-- ---- a list filled from the front
+
+map-snoc : {A B : Type 0} (f : A → B) (l : List A) (x : A) → map f (l ++ (x ∷ [])) ≡ map f l ++ (f x ∷ [])
+map-snoc f [] x = refl
+map-snoc f (y ∷ l) x = ap (λ z. f y ∷ z) (map-snoc f l x)
+
+module _ {A : Type 0} (d : A) (l : List A) (i : ℕ) (h : i < length l) where
+  map-next : {B : Type 0} (f : A → B) → map f (take (i + 1) l) ≡ map f (take i l) ++ (f (getD l i d) ∷ [])
+  map-next f = rw (add-one i, take-suc l i d h) (map-snoc f (take i l) (getD l i d))
+
+  -- x behind p
+  put-next : (p : List A) (x : A) → length p ≡ i → set (p ++ drop i l) i x ≡ (p ++ (x ∷ [])) ++ drop (i + 1) l
+  put-next p x e = rw (drop-cons l i d h, add-one i) (set-at p (getD l i d) (drop (suc i) l) x i e ∙ sym (append-assoc p (x ∷ []) (drop (suc i) l)))
+
+  -- each element in its place, by f
+  pub map-turn : (f : A → A) → set (map f (take i l) ++ drop i l) i (f (getD l i d)) ≡ map f (take (i + 1) l) ++ drop (i + 1) l
+  map-turn f = rw (map-next f) (put-next (map f (take i l)) (f (getD l i d)) (length-map (take i l) f ∙ length-take-le i l (omega arith)))
+
+  -- each from another list
+  pub copy-turn : (s : List A) → i < length s → set (take i s ++ drop i l) i (getD s i d) ≡ take (i + 1) s ++ drop (i + 1) l
+  copy-turn s k =
+      let e : take (i + 1) s ≡ take i s ++ (getD s i d ∷ []) = rw (add-one i) (take-suc s i d k) in
+      rw e (put-next (take i s) (getD s i d) (length-take-le i s (omega arith)))
+
+module _ {A : Type 0} (n : ℕ) (l : List A) (h : length l ≡ n) where
+  pub copy-end : (s : List A) → length s ≡ n → take n s ++ drop n l ≡ s
+  copy-end s k = rw (take-all n s (omega arith), drop-of-length-le l {i = n} (omega arith)) (append-nil s)
+
+  pub map-end : (f : A → A) → map f (take n l) ++ drop n l ≡ map f l
+  map-end f = rw (take-all n l (omega arith), drop-of-length-le l {i = n} (omega arith)) (append-nil (map f l))
+
+-- ---- the tickets that wait are those before the queue's first 0
+
+waiting-front : (q : List ℕ) → take (length (waiting q)) q ≡ waiting q
+unfolding waiting
+waiting-front [] = refl
+waiting-front (t ∷ ts) = cond-by (λ (l : List ℕ). take (length l) (t ∷ ts) ≡ l) (eqb t 0) (λ e. refl) (λ e. ap (λ (l : List ℕ). t ∷ l) (waiting-front ts))
+
+waiting-end : (q : List ℕ) (i : ℕ) → indexFrom 0 q i ≡ i + length (waiting q)
+unfolding waiting indexFrom
+waiting-end [] i = sym (add-zero i)
+waiting-end (t ∷ ts) i = go (eqb t 0) (waiting-end ts (suc i))
+  where
+    go : (b : Bool) → indexFrom 0 ts (suc i) ≡ suc i + length (waiting ts) → cond b i (indexFrom 0 ts (suc i)) ≡ i + length (cond b [] (t ∷ waiting ts))
+    go true h = sym (add-zero i)
+    go false h = h ∙ omega arith
+
+module _ (q : List ℕ) (n : ℕ) (end : n ≡ indexOf 0 q) where
+  length-waiting : n ≡ length (waiting q)
+  length-waiting = end ∙ waiting-end q 0 ∙ omega arith
+
+  waiting-is : take n q ≡ waiting q
+  waiting-is = rw length-waiting (waiting-front q)
+
+-- ---- the writes of a row: none where there is no row
+
+module _ (table : List Txn) (six : length table ≡ 6) where
+  pub row-of-within : (t : ℕ) → rowOf t table ≤ 6
+  unfolding rowOf
+  row-of-within t = cond-by (λ (r : ℕ). r ≤ 6) (eqb t 0) (λ e. omega arith) (λ e. omega (arith, row-within t table 0))
+
+  pub no-row : (d : Txn) (r : ℕ) → 6 ≤ r → getD table r d ≡ d
+  no-row d r h = List·getD-eq-default table d (omega arith)
+
+  -- they stand within the 48
+  pub writes-within : (r n : ℕ) → r ≤ 6 → n ≡ writeCount (rowAt table r) → 8 * r + n ≤ 48
+  writes-within r n h e =
+      less-by r 6 (λ u. omega arith)
+      (λ u. let z : n ≡ 0 = e ∙ rw (no-row closed r u) in omega arith)
+
+-- ---- the writesets
+
+module _ (table : List Txn) (is : List ℕ) (vs : List ℤ) (long : (length is ≡ 48) × (length vs ≡ 48)) where
+  -- the record writer's call for a ticket writes its writeset: row r, of n writes
+  pub writeset-written : (t r n a : ℕ) (part ys : List ℕ) → r ≡ rowOf t table → n ≡ writeCount (rowAt table r) → 8 * r + n ≤ 48 → length part ≡ 72
+      → written a ys ≡ recordStep part t (take (8 * r + n - 8 * r) (drop (8 * r) is)) (take (8 * r + n - 8 * r) (drop (8 * r) vs))
+      → ys ≡ recordBytes (writesetIn table is vs t)
+  unfolding writesetOf
+  writeset-written t r n a part ys row count fits h q =
+      let i = length-slice (8 * r) (8 * r + n) is (omega arith) in
+      let v = length-slice (8 * r) (8 * r + n) vs (omega arith) in
+      let d = record-done part t (slice (8 * r) (8 * r + n) is) (slice (8 * r) (8 * r + n) vs) h (omega arith) (v ∙ sym i) in
+      rw (← row, ← count) (ap (λ (w : Written). w .bytes) (rw (lent-slice (8 * r) (8 * r + n) is (omega arith), lent-slice (8 * r) (8 * r + n) vs (omega arith)) at q ∙ d))
+
+-- the block with the first j of them
+abbrev pub blockTo : List ℕ → List Txn → List ℕ → List ℕ → List ℤ → ℕ → List ℕ
+blockTo l₀ table q is vs j = take 16 l₀ ++ recordsBytes (map (writesetIn table is vs) (take j q))
+
+module _ (l₀ : List ℕ) (table : List Txn) (q is : List ℕ) (vs : List ℤ) where
+  pub writesets-none : length l₀ ≡ 512 → Filled l₀ 16 (blockTo l₀ table q is vs 0) l₀
+  unfolding recordsBytes
+  writesets-none h = rw (append-nil (take 16 l₀)) (record { size = length-take-le 16 l₀ (omega arith); is = sym (take-append-drop 16 l₀) })
+
+  -- a turn of the loop: the writeset of ticket j, on its part
+  pub writesets-put : (j : ℕ) (l ys : List ℕ) → j < length q → length ys ≡ 16 + 72 * j + 72 - (16 + 72 * j)
+      → ys ≡ recordBytes (writesetIn table is vs (getD q j 0))
+      → Filled l₀ (16 + 72 * j) (blockTo l₀ table q is vs j) l
+      → Filled l₀ (16 + 72 * (j + 1)) (blockTo l₀ table q is vs (j + 1)) (putMid (16 + 72 * j) (16 + 72 * j + 72 - (16 + 72 * j)) l ys)
+  writesets-put j l ys h p d f =
+      let k : 16 + 72 * j + 72 - (16 + 72 * j) ≡ 72 = omega arith in
+      let e : 16 + 72 * (j + 1) ≡ 16 + 72 * j + 72 = omega arith in
+      let s : recordsBytes (map (writesetIn table is vs) (take (j + 1) q)) ≡ recordsBytes (map (writesetIn table is vs) (take j q)) ++ ys =
+      rw (map-next 0 q j h (writesetIn table is vs), records-append, ← d) in
+      rw (k, e, s, ← append-assoc (take 16 l₀) (recordsBytes (map (writesetIn table is vs) (take j q))) ys) (filled-part f 72 ys (p ∙ k))
+
+  pub writesets-end : (n : ℕ) (l : List ℕ) → Filled l₀ (16 + 72 * n) (blockTo l₀ table q is vs n) l
+      → l ≡ take 16 l₀ ++ (recordsBytes (map (writesetIn table is vs) (take n q)) ++ drop (16 + 72 * n) l₀)
+  writesets-end n l f = f .is ∙ append-assoc (take 16 l₀) (recordsBytes (map (writesetIn table is vs) (take n q))) (drop (16 + 72 * n) l₀)
+
+-- ---- a whole block
+
+module _ (m : Message) (n : ℕ) (count : n ≡ length (m .records)) (few : n ≤ 6) where
+  -- z zeros, then the header in their first 16, then the records: the body, and the check's four bytes still zero
+  body-put : (z : ℕ) (l hs b : List ℕ) → z ≡ 512 → l ≡ replicate z 0 → length hs ≡ 16 → hs ≡ headerBytes (headerFor m)
+      → b ≡ take 16 (putMid 0 16 l hs) ++ (recordsBytes (m .records) ++ drop (16 + 72 * n) (putMid 0 16 l hs))
+      → b ≡ bodyBytes m ++ replicate 4 0
+  unfolding bodyBytes
+  body-put z l hs b e q s p r =
+      let k : z - (16 + 72 * n) ≡ 492 - 72 * n + 4 = omega arith in
+      let d : drop (16 + 72 * n) (putMid 0 16 l hs) ≡ replicate (492 - 72 * n) 0 ++ replicate 4 0 =
+      sym (drop-drop (72 * n) 16 (putMid 0 16 l hs)) ∙ rw (drop-at hs (drop 16 l) 16 s, drop-drop (72 * n) 16 l, q, drop-zeros (16 + 72 * n) z, k) (sym (replicate-append-replicate (492 - 72 * n) 4 0)) in
+      r ∙ rw (d, take-at hs (drop 16 l) 16 s, ← count, ← p) (simp append-assoc)
+
+  -- and the check into those: l, hs, b and c are what clearing, `write_header`, `put_writesets` and `write_check` leave, a and r two answers
+  block-put : (z a r : ℕ) (l part hs b c : List ℕ) → z ≡ 512 → l ≡ replicate z 0 → length part ≡ 16 → length hs ≡ length part
+      → written a hs ≡ headerStep part (headerFor m)
+      → b ≡ take 16 (putMid 0 16 l hs) ++ (recordsBytes (m .records) ++ drop (16 + 72 * n) (putMid 0 16 l hs))
+      → length b ≡ 512 → written r c ≡ checkedStep b → c ≡ blockOf m
+  unfolding checkedStep blockOf
+  block-put z a r l part hs b c e q s t p u w y =
+      let f = body-put z l hs b e q (t ∙ s) (ap (λ (x : Written). x .bytes) (p ∙ header-done part (headerFor m) s)) u in
+      let g : length (bodyBytes m) ≡ 508 = omega (arith, ap length f, length-append (bodyBytes m) (replicate 4 0)) in
+      let x : take 508 b ≡ bodyBytes m = ap (take 508) f ∙ take-at (bodyBytes m) (replicate 4 0) 508 g in
+      let d : checkedStep b ≡ written 0 (bodyBytes m ++ checkBytes (bodyBytes m)) = rw (eq-eqb _ 512 w, ← check-take b (omega arith), x) in
+      ap (λ (v : Written). v .bytes) (y ∙ d)
+
+module _ (m : Memory) (n : ℕ) (end : n ≡ indexOf 0 (m .txns .queue)) where
+  records-are : messageFor m .records ≡ map (writesetIn (m .txns .table) (m .txns .items) (m .txns .writes)) (take n (m .txns .queue))
+  unfolding messageFor writesetOf
+  records-are = rw (waiting-is (m .txns .queue) n end)
+
+  count-is : n ≡ length (messageFor m .records)
+  unfolding messageFor
+  count-is = length-waiting (m .txns .queue) n end ∙ sym (length-map (waiting (m .txns .queue)) (writesetOf (m .txns)))
+
+  header-is : headerFor (messageFor m) ≡ headerWith (m .turn) (m .counts) n
+  unfolding headerFor messageFor
+  header-is = rw (length-map, ← length-waiting (m .txns .queue) n end)
+
+  pub message-put : n ≤ 6 → (z a r : ℕ) (l part hs b c : List ℕ) → z ≡ 512 → l ≡ replicate z 0 → length part ≡ 16 → length hs ≡ length part
+      → written a hs ≡ headerStep part (headerWith (m .turn) (m .counts) n)
+      → b ≡ take 16 (putMid 0 16 l hs) ++ (recordsBytes (map (writesetIn (m .txns .table) (m .txns .items) (m .txns .writes)) (take n (m .txns .queue))) ++ drop (16 + 72 * n) (putMid 0 16 l hs))
+      → length b ≡ 512 → written r c ≡ checkedStep b → c ≡ blockOf (messageFor m)
+  message-put few z a r l part hs b c e q s t p u w y =
+      block-put (messageFor m) n count-is few z a r l part hs b c e q s t (rw header-is p) (rw records-are u) w y

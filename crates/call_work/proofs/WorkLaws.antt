@@ -1,0 +1,200 @@
+-- Each refusal of a work, from the tests that lead to it; what a work does where it is not refused; and a writeset's end from its parts. Assumes nothing.
+use Prim.Native.Nat.{ℕ, _+_, _*_, _-_, _≤_, _<_, min}
+use mathlib.Core.Path.{_≡_, refl, sym, ap, _∙_}
+use mathlib.Core.Bool.{Bool, true, false, cond, not, _&&_}
+use mathlib.Core.List.{List, [], _++_}
+use native.Mathlib.Nat.{add-zero}
+use native.Mathlib.Omega.{arith}
+use borrow.Author.Tests.{eq-eqb, ne-eqb, eqb-true, eqb-false, not-false}
+use lib.Dec.{eqb, leb}
+use lib.IntN.{ℤ}
+use lib.ListN.{length, getD, set, take, drop, replicate, take-append-drop, List·getD-eq-default}
+use lib.Seq.{slice, length-take-le}
+use Rattle.block.specs.Answers.{firstOf, recordAt}
+use Rattle.block.specs.Message.{Record}
+use Rattle.block.proofs.BoolLaws.{both}
+use Rattle.block.proofs.ListLaws.{getD-slice}
+use Rattle.memory.specs.declared.Counts.{Counts}
+use Rattle.memory.specs.declared.Turn.{Turn}
+use Rattle.memory.specs.declared.Txn.{Txn}
+use Rattle.memory.specs.Memory.{Memory, bump, withDone, withCommit, withTurn}
+use Rattle.memory.specs.Rows.{closed, rowOf}
+use Rattle.memory.specs.Turns.{markApplying, advance, placeStart}
+use Rattle.engine.proofs.Passed.{work-passed}
+use Rattle.engine.proofs.PlaceLaws.{place-fits}
+use Rattle.engine.proofs.ShapeWriteset.{committed}
+use Rattle.engine.proofs.Tests.{less-by, passes}
+use Rattle.engine.specs.Calls.{Outcome, outcome}
+use Rattle.engine.specs.Calls.Outcome.{memory}
+use Rattle.engine.specs.Calls.Answer.{refused, worked}
+use Rattle.engine.specs.Moves.{workLent, workRefusal, isSent, blockAtTurn, writesetAt, applied, stamped, afterAborts, hitTickets, queueWithout, isLast, appending, passNext, commitWriteset, workStep}
+use Rattle.call_reply.specs.Parts.{workParts}
+use Rattle.call_reply.specs.Replies.{workReply, Gives}
+use Rattle.call_work.specs.declared.Ended.{Ended}
+use Rattle.call_work.specs.Writesets.{endedOf, queueLeft}
+
+-- what an outcome gives, the same outcome by another name gives
+pub same-gives : {R : Type 0} (of : Outcome → R) {p o : Outcome} → p ≡ o → {r : R} {left : Memory} → Gives of p r left → Gives of o r left
+same-gives of e g = (g .0 ∙ ap of e, g .1 ∙ ap memory e)
+
+-- ---- lengths
+
+pub places-long : (n p i q v s : ℕ) → (eqb p (512 * n) && (eqb i 48 && (eqb q 6 && (eqb v 128 && eqb s 128)))) ≡ true → p ≡ 512 * n
+places-long n p i q v s h = eqb-true p (512 * n) (both _ _ h .left)
+
+-- a place with a first byte is one of the N; of no replica there is no byte
+pub place-within : (n slot : ℕ) (places : List ℕ) → length places ≡ 512 * n → (at : ℕ) → at ≡ placeStart n slot → (k : ℕ) → k ≡ getD places at 0 → (k ≡ 0 → ⊥)
+    → at + 512 ≤ length places
+place-within n slot places long at start k kind full =
+    less-by 0 n (λ h. let f = place-fits n slot h in omega arith)
+    (λ h. absurd (full (kind ∙ List·getD-eq-default places 0 (let z : length places ≡ 0 = omega arith in omega arith))))
+
+-- byte i of the block at a place
+at-place : (places : List ℕ) (at i : ℕ) → i < 512 → getD (slice at (at + 512) places) i 0 ≡ getD places (at + i) 0
+at-place places at i h = getD-slice places 0 at (at + 512) i (at + i) refl (omega arith)
+
+first-byte : (places : List ℕ) (at : ℕ) → getD (slice at (at + 512) places) 0 0 ≡ getD places at 0
+first-byte places at = at-place places at 0 (omega arith) ∙ rw (add-zero at)
+
+-- ---- the refusals
+
+module _ (m : Memory) where
+  pub refused-lengths : workLent m ≡ false → 1 ≡ workRefusal m
+  unfolding workRefusal firstOf
+  refused-lengths h = rw h
+
+  module _ (long : workLent m ≡ true) (at : ℕ) (start : at ≡ placeStart (m .counts .replicas) (m .turn .slot)) (k : ℕ) (kind : k ≡ getD (m .blocks .places) at 0) where
+    pub refused-empty : k ≡ 0 → 21 ≡ workRefusal m
+    unfolding workRefusal firstOf
+    refused-empty h = rw (long, ← start, ← kind, eq-eqb k 0 h)
+
+    module _ (full : k ≡ 0 → ⊥) where
+      pub refused-next : k ≡ 1 → 0 ≡ workRefusal m
+      unfolding workRefusal firstOf
+      refused-next h = rw (long, ← start, first-byte (m .blocks .places) at, ← kind, ne-eqb k 0 full, eq-eqb k 1 h)
+
+      module _ (other : k ≡ 1 → ⊥) (sender : ℕ) (from : sender ≡ getD (m .blocks .places) (at + 1) 0)
+          (ticket : ℕ) (of : ticket ≡ recordAt (slice at (at + 512) (m .blocks .places)) (m .counts .done) .ticket)
+          (u : Bool) (unsent : u ≡ (eqb sender (m .counts .own) && not (isSent m ticket))) where
+        second : getD (slice at (at + 512) (m .blocks .places)) 1 0 ≡ sender
+        second = at-place (m .blocks .places) at 1 (omega arith) ∙ sym from
+
+        pub refused-unsent : u ≡ true → 22 ≡ workRefusal m
+        unfolding workRefusal firstOf
+        refused-unsent h = rw (long, ← start, first-byte (m .blocks .places) at, ← kind, ne-eqb k 0 full, second, ne-eqb k 1 other, ← of, ← unsent, h)
+
+        pub refused-not : u ≡ false → 0 ≡ workRefusal m
+        unfolding workRefusal firstOf
+        refused-not h = rw (long, ← start, first-byte (m .blocks .places) at, ← kind, ne-eqb k 0 full, second, ne-eqb k 1 other, ← of, ← unsent, h)
+
+  -- ---- the answers
+
+  module _ (n : ℕ) (number : n ≡ workRefusal m) where
+    pub work-refused : (n ≡ 0 → ⊥) → outcome (refused n) m ≡ workStep m
+    unfolding workStep
+    work-refused h = rw (← number, ne-eqb n 0 h)
+
+    module _ (none : n ≡ 0) (at : ℕ) (start : at ≡ placeStart (m .counts .replicas) (m .turn .slot)) where
+      -- the block at the turn lies in the places
+      pub work-room : at + 512 ≤ length (m .blocks .places)
+      unfolding workRefusal
+      work-room =
+          let l = both _ _ (not-false _ (passes _ _ refl (sym number ∙ none) .0)) in
+          place-within (m .counts .replicas) (m .turn .slot) (m .blocks .places) (eqb-true _ _ (l .left)) at start (getD (m .blocks .places) at 0) refl
+          (λ e. eqb-false (getD (m .blocks .places) (placeStart (m .counts .replicas) (m .turn .slot)) 0) 0 (work-passed m (sym number ∙ none) .waits) (rw (← start) e))
+
+      pub work-next : getD (m .blocks .places) at 0 ≡ 1 → passNext m ≡ workStep m
+      unfolding workStep
+      work-next h = rw (← number, none, ← start, first-byte (m .blocks .places) at, eq-eqb (getD (m .blocks .places) at 0) 1 h)
+
+      pub work-writeset : (getD (m .blocks .places) at 0 ≡ 1 → ⊥)
+          → commitWriteset m (eqb (getD (blockAtTurn m) 1 0) (m .counts .own)) (writesetAt (blockAtTurn m) (m .counts .done)) ≡ workStep m
+      unfolding workStep
+      work-writeset h = rw (← number, none, ← start, first-byte (m .blocks .places) at, ne-eqb (getD (m .blocks .places) at 0) 1 h)
+
+-- a *next*: t is the turn after it
+pub next-passed : (m : Memory) (at : ℕ) → at ≡ placeStart (m .counts .replicas) (m .turn .slot) → (t : Turn) → t ≡ advance (m .turn)
+    → outcome (worked (record { sender = getD (m .blocks .places) (at + 1) 0; ticket = 0; moved = true; aborted = []; append = appending m true }))
+    (withTurn m t (withDone (m .counts) 0) (record { places = set (m .blocks .places) at 0; outbox = m .blocks .outbox }))
+    ≡ passNext m
+unfolding passNext
+next-passed m at start t e = rw (e, ← at-place (m .blocks .places) at 1 (omega arith), start)
+
+-- ---- a writeset
+
+module _ (w : Record) (turn : Turn) (counts : Counts) (rows : List Txn) (items : List ℕ) where
+  pub own-ended : counts .aborted ≤ 4_294_967_295
+      → _≡_ {A = Ended}
+      (record {
+        ticket = w .ticket;
+        turn = turn;
+        counts = withCommit counts (bump (counts .commits)) (bump (counts .committed)) (counts .aborted);
+        rows = set rows (rowOf (w .ticket) rows) closed;
+        aborted = replicate 6 0;
+        count = 0;
+      })
+      (endedOf true w turn counts rows items)
+  unfolding endedOf
+  own-ended h = let e : min (counts .aborted + 0) 4_294_967_295 ≡ counts .aborted = omega arith in rw e
+
+  -- the first n of the tickets are those of the rows hit
+  module _ (tickets : List ℕ) (n : ℕ) (few : n ≤ 6) (hit : take n tickets ≡ hitTickets (w .entries) items 0 rows) where
+    pub other-ended : length tickets ≡ 6 → drop n tickets ≡ replicate (6 - n) 0
+        → (t : List Txn) (commits aborted : ℕ) → t ≡ afterAborts (w .entries) items 0 rows → commits ≡ bump (counts .commits) → aborted ≡ min (counts .aborted + n) 4_294_967_295
+        → _≡_ {A = Ended}
+        (record { ticket = w .ticket; turn = markApplying turn; counts = withCommit counts commits (counts .committed) aborted; rows = t; aborted = tickets; count = n })
+        (endedOf false w turn counts rows items)
+    unfolding endedOf
+    other-ended six zeros t commits aborted et ec ea =
+        let l : length (hitTickets (w .entries) items 0 rows) ≡ n = ap length (sym hit) ∙ length-take-le n tickets (omega arith) in
+        let s : hitTickets (w .entries) items 0 rows ++ replicate (6 - n) 0 ≡ tickets = rw (← hit, ← zeros) (take-append-drop n tickets) in
+        rw (et, ec, ea, l, s)
+
+    pub other-queue : (q queue : List ℕ) → q ≡ queueWithout (take (min n 6) tickets) queue → q ≡ queueLeft false w rows items queue
+    other-queue q queue e =
+        let k : min n 6 ≡ n = omega arith in
+        e ∙ rw (k, hit)
+
+module _ (m : Memory) (turn : Turn) (counts : Counts) (rows : List Txn) (queue items : List ℕ) (values : List ℤ) (stamps places : List ℕ) where
+  abbrev before : Memory
+  before = workParts m turn counts rows queue items values stamps places
+
+  -- what is answered and left, by the writeset's end e and its place in the block
+  abbrev Left : Outcome → Ended → Bool → ℕ → List ℕ → List ℤ → List ℕ → Turn → Counts → List ℕ → Type 0
+  Left o e last sender q v s t c p =
+      Gives workReply o
+      (record { number = 0; sender = sender; moved = last; count = e .count; ticket = e .ticket; aborted = e .aborted; counts = c })
+      (workParts m t c (e .rows) q items v s p)
+
+  by-cases : (mine last : Bool) (w : Record) →
+      let e = endedOf mine w turn counts rows items in
+      let sender = getD (blockAtTurn before) 1 0 in
+      Left
+      (outcome (worked (record { sender = sender; ticket = w .ticket; moved = last; aborted = cond mine [] (hitTickets (w .entries) items 0 rows); append = appending before last }))
+      (committed before mine last w))
+      e last sender (queueLeft mine w rows items queue) (applied (w .entries) values) (stamped (e .counts .commits) (w .entries) stamps)
+      (cond last (advance (e .turn)) (e .turn)) (withDone (e .counts) (cond last 0 (e .counts .done + 1)))
+      (cond last (set places (placeStart (counts .replicas) (turn .slot)) 0) places)
+  unfolding endedOf
+  by-cases true true w = (refl, refl)
+  by-cases true false w = (refl, refl)
+  by-cases false true w = (refl, refl)
+  by-cases false false w = (refl, refl)
+
+  -- e, q, v, s, p: the writeset's end, and what queue, values, stamps and places became
+  pub writeset-committed : (at : ℕ) → at ≡ placeStart (counts .replicas) (turn .slot) →
+      let block = slice at (at + 512) places in
+      let mine = eqb (getD block 1 0) (counts .own) in
+      let w = writesetAt block (counts .done) in
+      (e : Ended) → e ≡ endedOf mine w turn counts rows items
+      → (q : List ℕ) (v : List ℤ) (s : List ℕ) → q ≡ queueLeft mine w rows items queue → v ≡ applied (w .entries) values → s ≡ stamped (e .counts .commits) (w .entries) stamps
+      → let last = leb (getD places (at + 3) 0) (e .counts .done + 1) in
+      (p : List ℕ) → p ≡ cond last (set places at 0) places
+      → Left (commitWriteset before (eqb (getD (blockAtTurn before) 1 0) (counts .own)) (writesetAt (blockAtTurn before) (counts .done)))
+      e last (getD places (at + 1) 0) q v s (cond last (advance (e .turn)) (e .turn)) (withDone (e .counts) (cond last 0 (e .counts .done + 1))) p
+  unfolding commitWriteset endedOf
+  writeset-committed at start e ee q v s eq ev eS p ep =
+      let second = at-place places at 1 (omega arith) in
+      let fourth = at-place places at 3 (omega arith) in
+      rw (eq, ev, eS, ep, ee, ← second, ← fourth, start)
+      (by-cases (eqb (getD (blockAtTurn before) 1 0) (counts .own)) (isLast before) (writesetAt (blockAtTurn before) (counts .done)))

@@ -1,0 +1,61 @@
+-- `ending::end_other` meets its contract: what the rows hit leave.
+use mathlib.Core.Path.{_≡_}
+use lib.ListN.{length}
+use Rattle.engine.specs.Moves.{writesetAt}
+use Rattle.call_work.proofs.WorkLaws.{other-ended, other-queue}
+use borrow.Author.Needs.{needs}
+use Rattle.call_work.proofs.ending.end_other.Statement.{statement}
+use Rattle.call_work.proofs.ending.end_other.Tie as tie
+
+abort-rows-requires : tie.Need-abort-rows-requires
+abort-rows-requires c κs = search needs
+
+queue-without-requires : tie.Need-queue-without-requires
+queue-without-requires c κs = search needs
+
+bump-requires : tie.Need-bump-requires
+bump-requires c κs = search needs
+
+cast-add : tie.Need-cast-add
+cast-add c = search needs
+
+add-requires : tie.Need-add-requires
+add-requires c κs = search needs
+
+cast-t19 : tie.Need-cast-t19
+cast-t19 c = search needs
+
+same-length : tie.Need-same-length
+same-length c = search needs
+
+six : (c : tie.After-abort-rows) → length (c .abort-rows .result .tickets) ≡ 6
+six c = search needs
+
+returns : tie.Need-returns
+returns c =
+    let b = c .before in
+    let q = b .before .before .before in
+    let h = q .before .before .before .before in
+    let s = h .before .before .before .before in
+    let a = s .args in
+    let o = h .abort-rows .result in
+    let hit = h .abort-rows .ensures in (
+      rw (s .pre)
+          (other-ended (writesetAt (a .block .now) (a .j)) (a .turn) (a .counts) (a .rows) (a .items .now) (o .tickets) (o .count) (hit .2) (hit .1)
+          (six h) (hit .3) (o .table) (b .bump .result) (c .add .result) (hit .0) (b .bump .ensures) (c .add .ensures)),
+      other-queue (writesetAt (a .block .now) (a .j)) (a .turn) (a .counts) (a .rows) (a .items .now) (o .tickets) (o .count) (hit .2) (hit .1)
+          (q .queue-without .last .0) (a .queue .now) (q .queue-without .ensures),
+    )
+
+pub end-other-spec : {M : Type 1} → statement M
+end-other-spec =
+    tie.close
+    (tie.spec
+    abort-rows-requires
+    queue-without-requires
+    bump-requires
+    cast-add
+    add-requires
+    cast-t19
+    same-length
+    returns)

@@ -1,0 +1,53 @@
+-- `ending::end_writeset` meets its contract: what its calls leave.
+use borrow.Author.Needs.{needs}
+use Rattle.call_work.proofs.ending.end_writeset.Statement.{statement}
+use Rattle.call_work.proofs.ending.end_writeset.Tie as tie
+
+cast-j : tie.Need-cast-j
+cast-j c = search needs
+
+byte-at-requires : tie.Need-byte-at-requires
+byte-at-requires c κs = search needs
+
+record-at-requires : tie.Need-record-at-requires
+record-at-requires c κs = search needs
+
+end-rows-requires : tie.Need-end-rows-requires
+end-rows-requires c κs = rw (c .before .record-at .ensures)
+
+apply-values-requires : tie.Need-apply-values-requires
+apply-values-requires c κs = search needs
+
+apply-stamps-requires : tie.Need-apply-stamps-requires
+apply-stamps-requires c κs = search needs
+
+same-length : tie.Need-same-length
+same-length c = search needs
+
+same-length-2 : tie.Need-same-length-2
+same-length-2 c = search needs
+
+same-length-3 : tie.Need-same-length-3
+same-length-3 c = search needs
+
+returns : tie.Need-returns
+returns c =
+    let t = c .before .before in
+    let v = t .before .before .before in
+    let e = v .before .before .before .before .before in
+    rw (← e .before .before .before .before .byte-at .ensures) (e .end-rows .ensures .0, e .end-rows .ensures .1, v .apply-values .ensures, t .apply-stamps .ensures)
+
+pub end-writeset-spec : {M : Type 1} → statement M
+end-writeset-spec =
+    tie.close
+    (tie.spec
+    cast-j
+    byte-at-requires
+    record-at-requires
+    end-rows-requires
+    apply-values-requires
+    apply-stamps-requires
+    same-length
+    same-length-2
+    same-length-3
+    returns)

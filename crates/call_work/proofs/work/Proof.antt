@@ -1,0 +1,153 @@
+-- `work` meets its contract: the refusal's number, a *next*, or a writeset.
+use Prim.Native.Nat.{_+_, _≤_}
+use mathlib.Core.Path.{_≡_, sym, _∙_}
+use mathlib.Core.List.{[]}
+use native.Mathlib.Omega.{arith}
+use lib.ListN.{length}
+use Rattle.block.proofs.ListLaws.{lent-slice}
+use Rattle.memory.specs.Memory.{Memory}
+use Rattle.engine.specs.Make.{madeMemory}
+use Rattle.engine.specs.Moves.{workRefusal}
+use Rattle.call_reply.specs.Parts.{workParts}
+use Rattle.call_reply.specs.Replies.{workReply}
+use Rattle.call_reply.proofs.ReplyLaws.{gives}
+use Rattle.call_work.proofs.WorkLaws.{same-gives, places-long, work-refused, work-room, work-next, work-writeset, writeset-committed}
+use borrow.Author.Needs.{needs}
+use Rattle.call_work.proofs.work.Statement.{statement}
+use Rattle.call_work.proofs.work.Tie as tie
+
+-- the memory lent
+abbrev before : tie.Start → Memory → Memory
+before s m =
+    let a = s .args in
+    workParts m (a .turn) (a .counts) (a .rows) (a .queue .now) (a .items .now) (a .values .now) (a .stamps .now) (a .places .now)
+
+-- the number is the refusal's
+said : (c : tie.After-refusal) (m : Memory) → c .refusal .result ≡ workRefusal (before (c .before .before .before .before .before .before .before) m)
+said c m = c .refusal .ensures (before (c .before .before .before .before .before .before .before) m) (sym (c .before .before .lengths-fit .ensures))
+
+lengths-fit-requires : tie.Need-lengths-fit-requires
+lengths-fit-requires c κs = search needs
+
+refusal-requires : tie.Need-refusal-requires
+refusal-requires c κs = λ h.
+    let f = c .before in
+    let a = f .before .before .before .before .before .args in
+    places-long (a .counts .replicas) (length (a .places .now)) (length (a .items .now)) (length (a .queue .now)) (length (a .values .now)) (length (a .stamps .now)) (sym (f .lengths-fit .ensures) ∙ h)
+
+unchanged-requires : tie.Need-unchanged-requires
+unchanged-requires c κs = search needs
+
+same-length : tie.Need-same-length
+same-length c = search needs
+
+returns : tie.Need-returns
+returns c = λ m.
+    let r = c .before .before in
+    rw (c .unchanged .ensures) (gives workReply (work-refused (before (r .before .before .before .before .before .before .before) m) (r .refusal .result) (said r m) (c .before .if1 .taken)))
+
+place-start-requires : tie.Need-place-start-requires
+place-start-requires c κs = search needs
+
+-- past the refusals the block at the turn lies in the places
+room : (c : tie.After-place-start) → c .place-start .result + 512 ≤ length (c .before .before .before .before .before .before .before .before .before .args .places .now)
+room c =
+    let e = c .before in
+    let r = e .before in
+    let m : Memory = madeMemory 0 0 [] in
+    work-room (before (r .before .before .before .before .before .before .before) m) (r .refusal .result) (said r m) (e .if1 .left) (c .place-start .result) (c .place-start .ensures)
+
+slice-read-if2 : tie.Need-slice-read-if2
+slice-read-if2 c = omega (arith, room (c .before))
+
+pass-next-requires : tie.Need-pass-next-requires
+pass-next-requires c κs = let p = c .before .before .before in (p .place-start .ensures, room p)
+
+same-length-2 : tie.Need-same-length-2
+same-length-2 c = search needs
+
+returns-2 : tie.Need-returns-2
+returns-2 c = λ m.
+    let n = c .before .before in
+    let t = n .before .before in
+    let p = t .before .before in
+    let e = p .before in
+    let r = e .before in
+    let b = before (r .before .before .before .before .before .before .before) m in
+    same-gives workReply (work-next b (r .refusal .result) (said r m) (e .if1 .left) (p .place-start .result) (p .place-start .ensures) (t .if2 .taken)) (n .pass-next .ensures b)
+
+add-end : tie.Need-add-end
+add-end c = omega (arith, room (c .before .before))
+
+sub-end-writeset : tie.Need-sub-end-writeset
+sub-end-writeset c = search needs
+
+part-end-writeset-start : tie.Need-part-end-writeset-start
+part-end-writeset-start c = search needs
+
+part-end-writeset-end : tie.Need-part-end-writeset-end
+part-end-writeset-end c = room (c .before .before .before .before .before .before)
+
+end-writeset-requires : tie.Need-end-writeset-requires
+end-writeset-requires c κs = search needs
+
+pass-writeset-requires : tie.Need-pass-writeset-requires
+pass-writeset-requires c κs = room (c .before .before .before .before .before .before .before .before .before .before .before .before .before .before)
+
+same-length-3 : tie.Need-same-length-3
+same-length-3 c = search needs
+
+same-length-4 : tie.Need-same-length-4
+same-length-4 c = search needs
+
+same-length-5 : tie.Need-same-length-5
+same-length-5 c = search needs
+
+same-length-6 : tie.Need-same-length-6
+same-length-6 c = search needs
+
+returns-3 : tie.Need-returns-3
+returns-3 c = λ m.
+    let d = c .before .before in
+    let w = d .before .before .before .before .before .before .before in
+    let o = w .before .before .before .before .before .before in
+    let p = o .before .before in
+    let e = p .before in
+    let r = e .before in
+    let s = r .before .before .before .before .before .before .before in
+    let a = s .args in
+    let at = p .place-start .result in
+    let block = lent-slice at (at + 512) (a .places .now) (omega (arith, room p)) in
+    rw (d .pass-writeset .ensures .0)
+    (same-gives workReply (work-writeset (before s m) (r .refusal .result) (said r m) (e .if1 .left) at (p .place-start .ensures) (o .if2 .left))
+    (writeset-committed m (a .turn) (a .counts) (a .rows) (a .queue .now) (a .items .now) (a .values .now) (a .stamps .now) (a .places .now) at (p .place-start .ensures)
+    (w .end-writeset .result) (rw block at (w .end-writeset .ensures .0))
+    (w .end-writeset .last .1 .1 .1 .0) (w .end-writeset .last .1 .1 .1 .1 .1 .0) (w .end-writeset .last .1 .1 .1 .1 .1 .1 .0)
+    (rw block at (w .end-writeset .ensures .1)) (rw block at (w .end-writeset .ensures .2)) (rw block at (w .end-writeset .ensures .3))
+    (d .pass-writeset .last .1 .0) (d .pass-writeset .ensures .1)))
+
+pub work-spec : {M : Type 1} → statement M
+work-spec =
+    tie.close
+    (tie.spec
+    lengths-fit-requires
+    refusal-requires
+    unchanged-requires
+    same-length
+    returns
+    place-start-requires
+    slice-read-if2
+    pass-next-requires
+    same-length-2
+    returns-2
+    add-end
+    sub-end-writeset
+    part-end-writeset-start
+    part-end-writeset-end
+    end-writeset-requires
+    pass-writeset-requires
+    same-length-3
+    same-length-4
+    same-length-5
+    same-length-6
+    returns-3)

@@ -1,0 +1,174 @@
+// A writeset's end: the transactions that it ends, its values and its stamps.
+ghost use mathlib.Core.Path.{_≡_};
+ghost use mathlib.Core.Bool.{false};
+ghost use Prim.Native.Nat.{_+_, min};
+ghost use lib.Dec.{eqb};
+ghost use lib.ListN.{getD, set, replicate};
+ghost use Rattle.block.specs.Answers.{recordAt};
+ghost use Rattle.memory.specs.Memory.{bump, withCommit};
+ghost use Rattle.memory.specs.Rows.{closed, rowOf};
+ghost use Rattle.engine.specs.Moves.{writesetAt, applied, stamped};
+ghost use Rattle.call_work.specs.Writesets.{endedOf, queueLeft};
+use super::Ended;
+use super::byte_at;
+use block_reader::record_at;
+use call_commit::abort_rows;
+use call_commit::apply_stamps;
+use call_commit::apply_values;
+use call_commit::queue_without;
+use memory::Counts;
+use memory::Turn;
+use memory::Txn;
+use memory::rows::bump;
+use memory::rows::row_of;
+
+// The rows with the ticket's row free.
+fn without_ticket(rows: [Txn; 6], ticket: u32) -> [Txn; 6]
+    ensures { λ r. ⌜ r ≡ set rows (rowOf ticket rows) closed ⌝ }
+{
+    let row = row_of(rows, ticket);
+    if 6 <= row {
+        return rows;
+    }
+    let mut after = rows;
+    after[row] = Txn {
+        ticket: 0,
+        stage: 0,
+        snapshot: 0,
+        writes: 0,
+    };
+    after
+}
+
+// The sum, or the type's limit.
+fn add(n: u32, more: u32) -> u32
+    ensures { λ r. ⌜ r ≡ min (n + more) 4294967295 ⌝ }
+{
+    if n < 4294967295 - more {
+        return n + more;
+    }
+    4294967295
+}
+
+// The replica's own writeset: its transaction ends as committed.
+fn end_own(ticket: u32, rows: [Txn; 6], turn: Turn, counts: Counts) -> Ended
+    ensures { λ r. ⌜ r
+        ≡ record {
+          ticket = ticket;
+          turn = turn;
+          counts = withCommit counts (bump (counts .commits)) (bump (counts .committed)) (counts .aborted);
+          rows = set rows (rowOf ticket rows) closed;
+          aborted = replicate 6 0;
+          count = 0;
+        } ⌝ }
+{
+    let mut after = counts;
+    after.commits = bump(counts.commits);
+    after.committed = bump(counts.committed);
+    Ended {
+        ticket: ticket,
+        turn: turn,
+        counts: after,
+        rows: without_ticket(rows, ticket),
+        aborted: [0; 6],
+        count: 0,
+    }
+}
+
+// Another's writeset: the transactions with one of its items, active or asked, are aborted.
+fn end_other(
+    ticket: u32,
+    rows: [Txn; 6],
+    turn: Turn,
+    counts: Counts,
+    queue: &mut [u32],
+    items: &[u8],
+    block: &[u8],
+    j: usize,
+) -> Ended
+    requires { ⌜ ticket ≡ recordAt (now block) j .ticket ⌝ }
+    ensures { λ r. ⌜ (r ≡ endedOf false (writesetAt (now (block .entry)) j) turn counts rows (now (items .entry)))
+        × (now (queue .exit) ≡ queueLeft false (writesetAt (now (block .entry)) j) rows (now (items .entry)) (now (queue .entry))) ⌝ }
+{
+    let hit = abort_rows(rows, items, block, j);
+    let tickets = hit.tickets;
+    let left = hit.table;
+    let n = hit.count;
+    queue_without(&mut *queue, tickets, n);
+    let mut after = counts;
+    after.commits = bump(counts.commits);
+    after.aborted = add(counts.aborted, n as u32);
+    Ended {
+        ticket: ticket,
+        turn: Turn {
+            slot: turn.slot,
+            sent: turn.sent,
+            applying: 1,
+        },
+        counts: after,
+        rows: left,
+        aborted: tickets,
+        count: n as u8,
+    }
+}
+
+// What a writeset ends among the transactions, by its sender.
+fn end_rows(
+    mine: bool,
+    ticket: u32,
+    rows: [Txn; 6],
+    turn: Turn,
+    counts: Counts,
+    queue: &mut [u32],
+    items: &[u8],
+    block: &[u8],
+    j: usize,
+) -> Ended
+    requires { ⌜ ticket ≡ recordAt (now block) j .ticket ⌝ }
+    ensures { λ r. ⌜ (r ≡ endedOf mine (writesetAt (now (block .entry)) j) turn counts rows (now (items .entry)))
+        × (now (queue .exit) ≡ queueLeft mine (writesetAt (now (block .entry)) j) rows (now (items .entry)) (now (queue .entry))) ⌝ }
+{
+    if mine {
+        return end_own(ticket, rows, turn, counts);
+    }
+    end_other(ticket, rows, turn, counts, &mut *queue, items, block, j)
+}
+
+// The writeset that is next in the block: what it ends, and its values and stamps.
+pub fn end_writeset(
+    rows: [Txn; 6],
+    turn: Turn,
+    counts: Counts,
+    queue: &mut [u32],
+    items: &[u8],
+    values: &mut [i32],
+    stamps: &mut [u32],
+    block: &[u8],
+) -> Ended
+    ensures { λ r. ⌜ (let mine = eqb (getD (now (block .entry)) 1 0) (counts .own) in
+        let w = writesetAt (now (block .entry)) (counts .done) in
+        (r ≡ endedOf mine w turn counts rows (now (items .entry)))
+        × (now (queue .exit) ≡ queueLeft mine w rows (now (items .entry)) (now (queue .entry)))
+        × (now (values .exit) ≡ applied (w .entries) (now (values .entry)))
+        × (now (stamps .exit) ≡ stamped (r .counts .commits) (w .entries) (now (stamps .entry)))) ⌝ }
+{
+    let j = counts.done as usize;
+    let sender = byte_at(block, 1);
+    let mine = sender == counts.own;
+    let ticket = record_at(block, j).ticket;
+    let ended = end_rows(
+        mine,
+        ticket,
+        rows,
+        turn,
+        counts,
+        &mut *queue,
+        items,
+        block,
+        j,
+    );
+    let after = ended.counts;
+    apply_values(&mut *values, block, j);
+    apply_stamps(&mut *stamps, block, j, after.commits);
+    ended
+}

@@ -1,0 +1,274 @@
+// The call work: what waits at the turn's place, one writeset a call, over numbers and slices.
+ghost use mathlib.Core.Path.{_≡_};
+ghost use mathlib.Core.Bool.{true, false, cond, not, _&&_};
+ghost use Prim.Native.Nat.{_+_, _*_, _≤_};
+ghost use lib.Dec.{eqb, ltb, leb};
+ghost use lib.ListN.{length, getD, set, replicate};
+ghost use Rattle.memory.specs.Memory.{Memory, withDone};
+ghost use Rattle.memory.specs.Rows.{rowOf, rowAt};
+ghost use Rattle.memory.specs.Turns.{advance, placeStart};
+ghost use Rattle.engine.specs.Moves.{workLent, workRefusal, passNext, workStep};
+ghost use Rattle.call_reply.specs.Parts.{workParts};
+ghost use Rattle.call_reply.specs.Replies.{workReply, Gives};
+ghost use Rattle.call_work.specs.Writesets.{turnParts};
+use block_reader::record_at;
+use call_reply::WorkReply;
+use call_reply::Worked;
+use call_reply::replies::no_work;
+use ending::end_writeset;
+use memory::Counts;
+use memory::Turn;
+use memory::Txn;
+use memory::cursor::place_start;
+use memory::rows::row_of;
+
+mod ending;
+
+// What a writeset leaves of turn, counts and rows; its ticket, and the tickets that it aborted.
+struct Ended {
+    ticket: u32,
+    turn: Turn,
+    counts: Counts,
+    rows: [Txn; 6],
+    aborted: [u32; 6],
+    count: u8,
+}
+
+// Whether the slices lent have their lengths.
+fn lengths_fit(
+    replicas: u8,
+    queue: usize,
+    items: usize,
+    values: usize,
+    stamps: usize,
+    places: usize,
+) -> bool
+    ensures { λ r. ⌜ r ≡ (eqb places (512 * replicas) && (eqb items 48 && (eqb queue 6 && (eqb values 128 && eqb stamps 128)))) ⌝ }
+{
+    if places != 512 * replicas as usize {
+        return false;
+    }
+    if items != 48 {
+        return false;
+    }
+    if queue != 6 {
+        return false;
+    }
+    if values != 128 {
+        return false;
+    }
+    stamps == 128
+}
+
+// A byte, 0 past the end.
+fn byte_at(bytes: &[u8], at: usize) -> u8
+    ensures { λ r. ⌜ r ≡ getD (now (bytes .entry)) at 0 ⌝ }
+{
+    if at < bytes.len() {
+        return bytes[at];
+    }
+    0
+}
+
+// Whether the writeset is the replica's own and its transaction is not open as sent.
+fn own_unsent(sender: u8, own: u8, rows: [Txn; 6], ticket: u32) -> bool
+    ensures { λ r. ⌜ r ≡ (eqb sender own && not (ltb (rowOf ticket rows) 6 && eqb (rowAt rows (rowOf ticket rows) .stage) 2)) ⌝ }
+{
+    if sender != own {
+        return false;
+    }
+    let row = row_of(rows, ticket);
+    if 6 <= row {
+        return true;
+    }
+    let t = rows[row];
+    t.stage != 2
+}
+
+// Why a work is refused, 0 where it is not; `fits` where what it is lent has its lengths.
+fn refusal(fits: bool, rows: [Txn; 6], turn: Turn, counts: Counts, places: &[u8]) -> u8
+    requires { ⌜ (fits ≡ true → length (now places) ≡ 512 * counts .replicas) ⌝ }
+    ensures { λ r. ⌜ ((m : Memory) →
+        let before = turnParts m turn counts rows (now (places .entry)) in
+        workLent before ≡ fits → r ≡ workRefusal before) ⌝ }
+{
+    if !fits {
+        return 1;
+    }
+    let at = place_start(counts.replicas, turn.slot);
+    let kind = byte_at(places, at);
+    if kind == 0 {
+        return 21;
+    }
+    if kind == 1 {
+        return 0;
+    }
+    let sender = places[at + 1];
+    let end = at + 512;
+    let ticket = record_at(&places[at..end], counts.done as usize).ticket;
+    if own_unsent(sender, counts.own, rows, ticket) {
+        return 22;
+    }
+    0
+}
+
+// A refused work: nothing changes.
+fn unchanged(number: u8, rows: [Txn; 6], turn: Turn, counts: Counts) -> Worked
+    ensures { λ r. ⌜ r
+        ≡ record {
+          reply = record { number = number; sender = 0; moved = false; count = 0; ticket = 0; aborted = replicate 6 0; counts = counts };
+          turn = turn;
+          rows = rows;
+        } ⌝ }
+{
+    Worked {
+        reply: no_work(number, counts),
+        turn: turn,
+        rows: rows,
+    }
+}
+
+// A *next* passed: the place empties, and the turn advances.
+fn pass_next(rows: [Txn; 6], turn: Turn, counts: Counts, places: &mut [u8], at: usize) -> Worked
+    requires { ⌜ (at ≡ placeStart (counts .replicas) (turn .slot)) × (at + 512 ≤ length (now places)) ⌝ }
+    ensures { λ r. ⌜ ((m : Memory) →
+        Gives workReply
+        (passNext (turnParts m turn counts rows (now (places .entry))))
+        (r .reply)
+        (turnParts m (r .turn) (r .reply .counts) (r .rows) (now (places .exit)))) ⌝ }
+{
+    let sender = places[at + 1];
+    places[at] = 0;
+    let mut after = counts;
+    after.done = 0;
+    Worked {
+        reply: WorkReply {
+            number: 0,
+            sender: sender,
+            moved: true,
+            count: 0,
+            ticket: 0,
+            aborted: [0; 6],
+            counts: after,
+        },
+        turn: turn.advance(),
+        rows: rows,
+    }
+}
+
+// The answer to a writeset committed.
+fn answered(sender: u8, moved: bool, turn: Turn, counts: Counts, ended: Ended) -> Worked
+    ensures { λ r. ⌜ r
+        ≡ record {
+          reply = record {
+            number = 0;
+            sender = sender;
+            moved = moved;
+            count = ended .count;
+            ticket = ended .ticket;
+            aborted = ended .aborted;
+            counts = counts;
+          };
+          turn = turn;
+          rows = ended .rows;
+        } ⌝ }
+{
+    let rows = ended.rows;
+    let aborted = ended.aborted;
+    Worked {
+        reply: WorkReply {
+            number: 0,
+            sender: sender,
+            moved: moved,
+            count: ended.count,
+            ticket: ended.ticket,
+            aborted: aborted,
+            counts: counts,
+        },
+        turn: turn,
+        rows: rows,
+    }
+}
+
+// After a writeset: with its block's last one the place empties and the turn advances.
+fn pass_writeset(ended: Ended, places: &mut [u8], at: usize) -> Worked
+    requires { ⌜ at + 512 ≤ length (now places) ⌝ }
+    ensures { λ r. ⌜ (let last = leb (getD (now (places .entry)) (at + 3) 0) (ended .counts .done + 1) in
+        (r
+        ≡ record {
+          reply = record {
+            number = 0;
+            sender = getD (now (places .entry)) (at + 1) 0;
+            moved = last;
+            count = ended .count;
+            ticket = ended .ticket;
+            aborted = ended .aborted;
+            counts = withDone (ended .counts) (cond last 0 (ended .counts .done + 1));
+          };
+          turn = cond last (advance (ended .turn)) (ended .turn);
+          rows = ended .rows;
+        })
+        × (now (places .exit) ≡ cond last (set (now (places .entry)) at 0) (now (places .entry)))) ⌝ }
+{
+    let sender = places[at + 1];
+    let count = places[at + 3];
+    let turn = ended.turn;
+    let mut counts = ended.counts;
+    let next = counts.done as u32 + 1;
+    if count as u32 <= next {
+        places[at] = 0;
+        counts.done = 0;
+        let advanced = turn.advance();
+        return answered(sender, true, advanced, counts, ended);
+    }
+    counts.done = next as u8;
+    answered(sender, false, turn, counts, ended)
+}
+
+// Processes the next step at the turn: a *next*, or one writeset.
+pub fn work(
+    rows: [Txn; 6],
+    turn: Turn,
+    counts: Counts,
+    queue: &mut [u32],
+    items: &[u8],
+    values: &mut [i32],
+    stamps: &mut [u32],
+    places: &mut [u8],
+) -> Worked
+    ensures { λ r. ⌜ ((m : Memory) →
+        Gives workReply
+        (workStep
+        (workParts m turn counts rows (now (queue .entry)) (now (items .entry)) (now (values .entry)) (now (stamps .entry)) (now (places .entry))))
+        (r .reply)
+        (workParts m (r .turn) (r .reply .counts) (r .rows) (now (queue .exit)) (now (items .entry)) (now (values .exit)) (now (stamps .exit)) (now (places .exit)))) ⌝ }
+{
+    let fits = lengths_fit(
+        counts.replicas,
+        queue.len(),
+        items.len(),
+        values.len(),
+        stamps.len(),
+        places.len(),
+    );
+    let number = refusal(fits, rows, turn, counts, &*places);
+    if number != 0 {
+        return unchanged(number, rows, turn, counts);
+    }
+    let at = place_start(counts.replicas, turn.slot);
+    if places[at] == 1 {
+        return pass_next(rows, turn, counts, &mut *places, at);
+    }
+    let end = at + 512;
+    let ended = end_writeset(
+        rows,
+        turn,
+        counts,
+        &mut *queue,
+        items,
+        &mut *values,
+        &mut *stamps,
+        &places[at..end],
+    );
+    pass_writeset(ended, &mut *places, at)
+}

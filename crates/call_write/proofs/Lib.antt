@@ -1,0 +1,2 @@
+-- The laws of a write, over plain variables.
+pub mod WriteLaws

@@ -1,0 +1,195 @@
+// A write, at a row: `at` is any number. Its contract gives the reply and the memory after by `writeRow` of engine's `specs/Client.antt`, on every memory that has the parts
+// lent.
+ghost use Prim.Native.Nat.{_≤_, _<_};
+ghost use mathlib.Core.Path.{_≡_};
+ghost use mathlib.Core.List.{List};
+ghost use lib.IntN.{ℤ};
+ghost use lib.ListN.{length, set};
+ghost use Rattle.memory.specs.declared.Txn.{Txn};
+ghost use Rattle.memory.specs.Memory.{Memory, bump, withAborted};
+ghost use Rattle.memory.specs.Rows.{closed, rowAt, writeCount};
+ghost use Rattle.engine.specs.Calls.{unless};
+ghost use Rattle.engine.specs.Client.{writeRow};
+ghost use Rattle.call_reply.specs.Parts.{writeParts};
+ghost use Rattle.call_reply.specs.Replies.{Gives, reply};
+ghost use Rattle.call_write.specs.Parts.{inserted, insertIn, writeActive};
+use call_client::rows::free;
+use call_client::rows::row_at;
+use call_reply::Changed;
+use call_reply::Reply;
+use memory::Counts;
+use memory::Held;
+use memory::Turn;
+use memory::Txn;
+use memory::rows::bump;
+use memory::rows::count_below;
+use memory::rows::holder;
+use memory::rows::index_of;
+use memory::rows::insert_item;
+use memory::rows::insert_value;
+use memory::rows::write_count;
+
+fn changed(number: u8, row: Txn, counts: Counts) -> Changed
+    ensures { λ r. ⌜ r ≡ record { reply = record { number = number; counts = counts }; row = row } ⌝ }
+{
+    Changed {
+        reply: Reply {
+            counts: counts,
+            number: number,
+        },
+        row: row,
+    }
+}
+
+// The row's transaction ends as aborted, and the write is answered 9.
+fn stale(counts: Counts) -> Changed
+    ensures { λ r. ⌜ r ≡ record { reply = record { number = 9; counts = withAborted counts (bump (counts .aborted)) }; row = closed } ⌝ }
+{
+    let mut after = counts;
+    after.aborted = bump(counts.aborted);
+    changed(9, free(), after)
+}
+
+// A new item, in its place among the row's items.
+fn insert(t: Txn, items: &mut [u8], writes: &mut [i32], at: usize, item: u8, value: i32) -> Txn
+    requires { ⌜ (length (now items) ≡ 48) × (length (now writes) ≡ 48) × (at < 6) × (writeCount t < 8) ⌝ }
+    ensures { λ r. ⌜ ((table : List Txn) → t ≡ rowAt table at →
+        inserted (set table at r) (now (items .exit)) (now (writes .exit))
+        ≡ insertIn table (now (items .entry)) (now (writes .entry)) at item value) ⌝ }
+{
+    let n = write_count(t.writes);
+    let from = 8 * at;
+    let end = from + n;
+    let place = from + count_below(&items[from..end], item);
+    insert_item(&mut items[place..end + 1], item);
+    insert_value(&mut writes[place..end + 1], value);
+    Txn {
+        ticket: t.ticket,
+        stage: t.stage,
+        snapshot: t.snapshot,
+        writes: n as u32 + 1,
+    }
+}
+
+// A write by the active transaction of a row.
+fn write_at(
+    at: usize,
+    rows: [Txn; 6],
+    t: Txn,
+    counts: Counts,
+    items: &mut [u8],
+    writes: &mut [i32],
+    stamps: &[u32],
+    item: u8,
+    value: i32,
+) -> Changed
+    requires { ⌜ (length (now items) ≡ 48) × (length (now writes) ≡ 48) × (length (now stamps) ≡ 128) × (at < 6) × (item < 128) ⌝ }
+    ensures { λ r. ⌜ ((m : Memory) → t ≡ rowAt rows at →
+        Gives reply
+        (writeActive (writeParts m (m .turn) counts rows (now (items .entry)) (now (writes .entry)) (now (stamps .entry))) at item value)
+        (r .reply)
+        (writeParts m (m .turn) (r .reply .counts) (set rows at (r .row)) (now (items .exit)) (now (writes .exit)) (now (stamps .entry)))) ⌝ }
+{
+    let n = write_count(t.writes);
+    let from = 8 * at;
+    let k = index_of(&items[from..from + n], item);
+    if k < n {
+        writes[from + k] = value;
+        return changed(0, t, counts);
+    }
+    if let Held::By(_) = holder(rows, &*items, at, item) {
+        return changed(8, t, counts);
+    }
+    if t.snapshot < stamps[item as usize] {
+        return stale(counts);
+    }
+    if n == 8 {
+        return changed(10, t, counts);
+    }
+    let row = insert(t, items, writes, at, item, value);
+    changed(0, row, counts)
+}
+
+// The first of 1, 2, 3, 4 and 7 that a write is refused by, 0 where there is none, from the lengths of the lent parts: these come before the row's own writes are looked at.
+fn early_refusal(
+    at: usize,
+    stage: u32,
+    applying: u8,
+    items: usize,
+    writes: usize,
+    stamps: usize,
+    item: u32,
+) -> u8
+    ensures { λ r. ⌜ ((m : Memory) (value : ℤ) → stage ≡ rowAt (m .txns .table) at .stage → applying ≡ m .turn .applying →
+        items ≡ length (m .txns .items) → writes ≡ length (m .txns .writes) → stamps ≡ length (m .store .stamps) →
+        writeRow m at item value ≡ unless r m (writeActive m at item value))
+        × (r ≡ 0 → (items ≡ 48) × (writes ≡ 48) × (stamps ≡ 128) × (at < 6) × (item < 128)) ⌝ }
+{
+    if items != 48 {
+        return 1;
+    }
+    if writes != 48 {
+        return 1;
+    }
+    if stamps != 128 {
+        return 1;
+    }
+    if 128 <= item {
+        return 2;
+    }
+    if 6 <= at {
+        return 3;
+    }
+    if stage != 0 {
+        return 4;
+    }
+    if applying != 0 {
+        return 7;
+    }
+    0
+}
+
+// Records the value and locks the item. The rows are for the transaction's record and for the locks of others; past the last row the record is a free one.
+pub fn write(
+    at: usize,
+    rows: [Txn; 6],
+    turn: Turn,
+    counts: Counts,
+    items: &mut [u8],
+    writes: &mut [i32],
+    stamps: &[u32],
+    item: u32,
+    value: i32,
+) -> Changed
+    ensures { λ r. ⌜ ((m : Memory) →
+        Gives reply
+        (writeRow (writeParts m turn counts rows (now (items .entry)) (now (writes .entry)) (now (stamps .entry))) at item value)
+        (r .reply)
+        (writeParts m turn (r .reply .counts) (set rows at (r .row)) (now (items .exit)) (now (writes .exit)) (now (stamps .entry))))
+        × (6 ≤ at → r .row ≡ closed) ⌝ }
+{
+    let t = row_at(rows, at);
+    let number = early_refusal(
+        at,
+        t.stage,
+        turn.applying,
+        items.len(),
+        writes.len(),
+        stamps.len(),
+        item,
+    );
+    if number != 0 {
+        return changed(number, t, counts);
+    }
+    write_at(
+        at,
+        rows,
+        t,
+        counts,
+        items,
+        writes,
+        stamps,
+        item as u8,
+        value,
+    )
+}

@@ -1,2 +1,0 @@
--- Each reply from the call's outcome.
-pub mod ReplyLaws

@@ -1,2 +1,0 @@
--- What a host is answered.
-pub mod Replies

@@ -1,2 +1,0 @@
--- What the contract of deliver says beside the definition of the call.
-pub mod Lent

@@ -1,0 +1,128 @@
+-- What a work may change. Assumes nothing.
+use Prim.Native.Nat.{ℕ}
+use mathlib.Core.Path.{_≡_, refl, _∙_}
+use mathlib.Core.Bool.{Bool}
+use mathlib.Core.Logic.{_⊎_, inl, inr}
+use mathlib.Core.List.{List, [], _∷_}
+use native.Mathlib.Nat.{zero-add}
+use native.Mathlib.Omega.{arith}
+use lib.IntN.{ℤ, pos}
+use lib.ListN.{length, set, length-set, List·getD-eq-default}
+use lib.Seq.{getD-set-same, getD-set-other}
+use Rattle.block.specs.declared.Entry.{Entry}
+use Rattle.memory.specs.declared.Turn.{Turn}
+use Rattle.memory.specs.declared.Txn.{Txn}
+use Rattle.memory.specs.Memory.{Blocks, Memory, bump}
+use Rattle.memory.specs.Rows.{closed, rowOf, rowAt}
+use Rattle.memory.specs.Turns.{markApplying, advance, placeStart}
+use Rattle.engine.specs.Moves.{blockAtTurn, writesetAt, applied, stamped, isHit, afterAborts, isLast, passNext, commitWriteset}
+use Rattle.engine.specs.Frames.{SameBut, SameButItems, WorkFrame}
+use Rattle.engine.proofs.Tests.{cond-by, same-by, less-by}
+use Rattle.engine.proofs.HasLaws.{has-not}
+use Rattle.engine.proofs.PartLaws.{set-but}
+use Rattle.engine.proofs.RowLaws.{others}
+use Rattle.engine.proofs.HitLaws.{length-aborts, aborts-at}
+
+-- ---- values and stamps
+
+applied-but : (es : List Entry) (l : List ℤ) → SameButItems (pos 0) es l (applied es l)
+unfolding applied
+applied-but [] l i h = refl
+applied-but (e ∷ es) l i h =
+    let n = has-not i (e .item) _ h in
+    applied-but es (set l (e .item) (e .value)) i (n .1) ∙ getD-set-other l (e .item) i (e .value) (pos 0) (n .0)
+
+stamped-but : (c : ℕ) (es : List Entry) (l : List ℕ) → SameButItems 0 es l (stamped c es l)
+unfolding stamped
+stamped-but c [] l i h = refl
+stamped-but c (e ∷ es) l i h =
+    let n = has-not i (e .item) _ h in
+    stamped-but c es (set l (e .item) c) i (n .1) ∙ getD-set-other l (e .item) i c 0 (n .0)
+
+-- ---- rows
+
+abbrev pub SameOrClosed : List Txn → List Txn → ℕ → Type 0
+SameOrClosed l k i = (rowAt k i ≡ rowAt l i) ⊎ (rowAt k i ≡ closed)
+
+set-closed : (l : List Txn) (r i : ℕ) → SameOrClosed l (set l r closed) i
+set-closed l r i =
+    less-by i (length l)
+    (λ h. same-by i r (λ e. inr (rw e (getD-set-same l r closed closed (omega arith)))) (λ d. inl (others l r closed i d)))
+    (λ h. inr (List·getD-eq-default (set l r closed) closed (rw (length-set l r closed) h)))
+
+pub aborts-closed : (es : List Entry) (items : List ℕ) (l : List Txn) (i : ℕ) → SameOrClosed l (afterAborts es items 0 l) i
+aborts-closed es items l i =
+    less-by i (length l)
+    (λ h. rw (rw zero-add at (aborts-at es items 0 l i h))
+    (cond-by (λ (t : Txn). (t ≡ rowAt l i) ⊎ (t ≡ closed)) (isHit es items i (rowAt l i)) (λ e. inr refl) (λ e. inl refl)))
+    (λ h. inr (List·getD-eq-default (afterAborts es items 0 l) closed (rw (length-aborts es items 0 l) h)))
+
+-- ---- the call
+
+place-but : (m : Memory) → SameBut 0 (placeStart (m .counts .replicas) (m .turn .slot)) 1 (m .blocks .places) (set (m .blocks .places) (placeStart (m .counts .replicas) (m .turn .slot)) 0)
+place-but m = let p = placeStart (m .counts .replicas) (m .turn .slot) in set-but 0 (m .blocks .places) p 1 p 0 (omega arith) (omega arith)
+
+pub pass-frame : (m : Memory) → WorkFrame m (passNext m .memory)
+unfolding passNext
+pass-frame m = record {
+  turn = inr (inr refl);
+  places = place-but m;
+  values = λ i h. refl;
+  stamps = λ i h. refl;
+  rows = λ i. inl refl;
+  items = refl;
+  writes = refl;
+  snapshots = refl;
+  outbox = refl;
+  replicas = refl;
+  own = refl;
+  tickets = refl;
+  read-only = refl;
+  withdrawn = refl;
+}
+
+abbrev TurnMoves : Memory → Turn → Type 0
+TurnMoves m t = (t ≡ m .turn) ⊎ ((t ≡ markApplying (m .turn)) ⊎ (t ≡ advance (m .turn)))
+
+pub commit-frame : (m : Memory) (mine : Bool) → WorkFrame m (commitWriteset m mine (writesetAt (blockAtTurn m) (m .counts .done)) .memory)
+unfolding commitWriteset
+commit-frame m mine =
+    let w = writesetAt (blockAtTurn m) (m .counts .done) in
+    record {
+      turn = cond-by (TurnMoves m) (isLast m) (λ e. inr (inr refl)) (λ e. cond-by (TurnMoves m) mine (λ d. inl refl) (λ d. inr (inl refl)));
+      places = cond-by (λ (b : Blocks). SameBut 0 (placeStart (m .counts .replicas) (m .turn .slot)) 1 (m .blocks .places) (b .places)) (isLast m)
+          (λ e. place-but m)
+          (λ e i s. refl);
+      values = applied-but (w .entries) (m .store .values);
+      stamps = stamped-but (bump (m .counts .commits)) (w .entries) (m .store .stamps);
+      rows = cond-by (λ (k : List Txn). (i : ℕ) → SameOrClosed (m .txns .table) k i) mine
+          (λ e. set-closed (m .txns .table) (rowOf (w .ticket) (m .txns .table)))
+          (λ e. aborts-closed (w .entries) (m .txns .items) (m .txns .table));
+      items = refl;
+      writes = refl;
+      snapshots = refl;
+      outbox = cond-by (λ (b : Blocks). b .outbox ≡ m .blocks .outbox) (isLast m) (λ e. refl) (λ e. refl);
+      replicas = refl;
+      own = refl;
+      tickets = refl;
+      read-only = refl;
+      withdrawn = refl;
+    }
+
+pub work-same : (m : Memory) → WorkFrame m m
+work-same m = record {
+  turn = inl refl;
+  places = λ i s. refl;
+  values = λ i h. refl;
+  stamps = λ i h. refl;
+  rows = λ i. inl refl;
+  items = refl;
+  writes = refl;
+  snapshots = refl;
+  outbox = refl;
+  replicas = refl;
+  own = refl;
+  tickets = refl;
+  read-only = refl;
+  withdrawn = refl;
+}

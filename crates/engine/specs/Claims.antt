@@ -1,0 +1,28 @@
+-- What calls answer on every memory of the shape: a write is read again, the tickets that a work names rise, and no row is free exactly where six transactions are open.
+use Prim.Native.Nat.{ℕ, _<_}
+use mathlib.Core.Path.{_≡_}
+use mathlib.Core.List.{List}
+use lib.IntN.{ℤ}
+use lib.ListN.{length, getD}
+use Rattle.memory.specs.declared.Txn.{Txn}
+use Rattle.memory.specs.Memory.{Memory}
+use Rattle.memory.specs.Rows.{openCount, freeRow}
+use Rattle.engine.specs.Calls.{Step}
+use Rattle.engine.specs.Calls.Answer.{got, wrote, worked}
+use Rattle.engine.specs.Step.{step}
+use Rattle.engine.specs.Step.Call.{read, write, work}
+use Rattle.engine.specs.Shape.{Shape}
+
+pub record Claims : Type 0 where
+  -- a read under the ticket gives what it wrote last to the item
+  pub read-back : {over : ℕ} (m : Memory) → Shape over m → (ticket item : ℕ) (value : ℤ) → step m (write ticket item value) .answer ≡ wrote
+      → step (step m (write ticket item value) .memory) (read ticket item) .answer ≡ got value
+  -- any other read, under this ticket or another, open or not, is answered as before
+  pub read-other : {over : ℕ} (m : Memory) → Shape over m → (ticket item : ℕ) (value : ℤ) → step m (write ticket item value) .answer ≡ wrote
+      → (t i : ℕ) → ((t ≡ ticket) × (i ≡ item) → ⊥) → step (step m (write ticket item value) .memory) (read t i) .answer ≡ step m (read t i) .answer
+  -- the aborted tickets rise strictly
+  pub rising : {over : ℕ} (m : Memory) → Shape over m → (s : Step) → step m work .answer ≡ worked s
+      → (j k : ℕ) → j < k → k < length (s .aborted) → getD (s .aborted) j 0 < getD (s .aborted) k 0
+  -- 5's condition, no free row, holds exactly where 6 transactions are open
+  pub full : (table : List Txn) → length table ≡ 6 → openCount table ≡ 6 → freeRow table ≡ 6
+  pub six-open : (table : List Txn) → length table ≡ 6 → freeRow table ≡ 6 → openCount table ≡ 6

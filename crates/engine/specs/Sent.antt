@@ -1,0 +1,50 @@
+-- The block sent and the rows open as sent, on every memory that calls lead to, with any bytes; and that 22 is never answered there.
+use Prim.Native.Nat.{ℕ, _+_, _≤_, _<_}
+use mathlib.Core.Path.{_≡_}
+use mathlib.Core.Bool.{true, false}
+use mathlib.Core.List.{List}
+use lib.IntN.{ℤ}
+use lib.ListN.{length, getD}
+use Rattle.block.specs.Message.{ownerOf}
+use Rattle.block.specs.Answers.{recordAt}
+use Rattle.memory.specs.Memory.{Memory}
+use Rattle.memory.specs.Rows.{rowAt}
+use Rattle.memory.specs.Turns.{blockIn, isEmpty}
+use Rattle.engine.specs.Calls.Answer.{refused}
+use Rattle.engine.specs.Make.{madeMemory}
+use Rattle.engine.specs.Moves.{sentAlready, isSent}
+use Rattle.engine.specs.Step.{Call, step, after}
+use Rattle.engine.specs.Restart.{blocksIn, restartedMemory}
+use Rattle.engine.specs.Shape.{Shape}
+
+-- how many writesets the block sent last has, and the ticket of each
+abbrev pub sentCount : Memory → ℕ
+sentCount m = getD (m .blocks .outbox) 3 0
+
+abbrev pub sentTicket : Memory → ℕ → ℕ
+sentTicket m j = recordAt (m .blocks .outbox) j .ticket
+
+pub record SentShape (m : Memory) : Type 0 where
+  -- the sent mark is on at an own slot alone
+  pub turn : sentAlready m ≡ true → ownerOf (m .counts .replicas) (m .turn .slot) ≡ m .counts .own
+  -- a block that waits for an own slot is the one sent
+  pub own : (s : ℕ) → m .turn .slot ≤ s → s < m .turn .slot + m .counts .replicas → isEmpty (m .counts .replicas) s (m .blocks .places) ≡ false
+      → ownerOf (m .counts .replicas) s ≡ m .counts .own
+      → (sentAlready m ≡ true) × (blockIn (m .counts .replicas) s (m .blocks .places) ≡ m .blocks .outbox)
+  -- its tickets differ; those not yet done are open as sent, and no other row is
+  pub once : sentAlready m ≡ true → (j k : ℕ) → j < k → k < sentCount m → sentTicket m j ≡ sentTicket m k → ⊥
+  pub live : sentAlready m ≡ true → (j : ℕ) → m .counts .done ≤ j → j < sentCount m → isSent m (sentTicket m j) ≡ true
+  pub only : (r : ℕ) → r < 6 → rowAt (m .txns .table) r .stage ≡ 2
+      → (sentAlready m ≡ true) × (j : ℕ) × (m .counts .done ≤ j) × (j < sentCount m) × (sentTicket m j ≡ rowAt (m .txns .table) r .ticket)
+
+pub record SentShapes : Type 0 where
+  pub made : (n own : ℕ) (values : List ℤ) → SentShape (madeMemory n own values)
+  pub each : {over : ℕ} (m : Memory) → Shape over m → SentShape m → (c : Call) → SentShape (step m c .memory)
+  pub restarted : (n own : ℕ) (values : List ℤ) (journal : List ℕ) → SentShape (restartedMemory n own values (blocksIn n journal))
+
+-- no call answers 22: an own writeset that a work meets has its ticket open as sent
+pub record NeverAnswered : Type 0 where
+  pub made : (n own : ℕ) (values : List ℤ) → 2 ≤ n → n ≤ 6 → own < n → length values ≡ 128 → (cs : List Call) (c : Call)
+      → step (after (madeMemory n own values) cs) c .answer ≡ refused 22 → ⊥
+  pub restarted : (n own : ℕ) (values : List ℤ) → 2 ≤ n → n ≤ 6 → own < n → length values ≡ 128 → (journal : List ℕ) (cs : List Call) (c : Call)
+      → step (after (restartedMemory n own values (blocksIn n journal)) cs) c .answer ≡ refused 22 → ⊥

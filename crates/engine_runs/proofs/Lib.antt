@@ -1,0 +1,2 @@
+-- The journals computed.
+pub mod Journals

@@ -1,0 +1,2 @@
+-- Document 02's Req 01, worked.
+pub mod Journals

@@ -1,0 +1,1 @@
+// Theorems only: restarts from small journals, computed from the definitions.

@@ -1,0 +1,7 @@
+-- What the walks share: calls that lend a reference on, steps, and what a caller has of the functions here.
+pub mod Lend
+pub mod Steps
+pub mod Answers
+pub mod Rows
+pub mod Cursor
+pub mod Callees

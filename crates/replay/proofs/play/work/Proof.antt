@@ -1,0 +1,88 @@
+-- `play::work` meets its contract.
+use Prim.Native.Nat.{_≤_}
+use mathlib.Core.Path.{_≡_, sym, ap, _∙_}
+use native.Mathlib.Omega.{arith}
+use borrow.Author.Needs.{needs}
+use lib.ListN.{length, drop}
+use lib.Seq.{length-take-le, take-at, drop-at}
+use Rattle.engine.specs.Moves.{workStep}
+use Rattle.replay.specs.Effects.{memoryOf}
+use Rattle.replay.specs.declared.Played.{Played}
+use Rattle.replay.proofs.EffectLaws.{plays-numbers, work-effect, work-few}
+use Rattle.replay.proofs.play.work.Statement.{statement}
+use Rattle.replay.proofs.play.work.Tie as tie
+
+values-long : (c : tie.Start) → length (c .args .replica .values) ≡ 128
+values-long c = search needs
+
+stamps-long : (c : tie.Start) → length (c .args .replica .stamps) ≡ 128
+stamps-long c = search needs
+
+places-long : (c : tie.Start) → length (c .args .replica .places) ≡ 3072
+places-long c = search needs
+
+aborted-long : (c : tie.After-work) → length (c .work .result .reply .aborted) ≡ 6
+aborted-long c = search needs
+
+cast-places-size : tie.Need-cast-places-size
+cast-places-size c = search needs
+
+places-size-requires : tie.Need-places-size-requires
+places-size-requires c κs = search needs
+
+slice-aggregate-work : tie.Need-slice-aggregate-work
+slice-aggregate-work c = search needs
+
+slice-aggregate-work-2 : tie.Need-slice-aggregate-work-2
+slice-aggregate-work-2 c = search needs
+
+slice-aggregate-work-3 : tie.Need-slice-aggregate-work-3
+slice-aggregate-work-3 c = sym (values-long (c .before .before .before .before .before .before .before .before .before .before .before .before .before))
+
+slice-aggregate-work-4 : tie.Need-slice-aggregate-work-4
+slice-aggregate-work-4 c = sym (stamps-long (c .before .before .before .before .before .before .before .before .before .before .before .before .before .before))
+
+array-borrow-prefix-places : tie.Need-array-borrow-prefix-places
+array-borrow-prefix-places c = omega (arith, c .before .before .before .before .places-size .ensures .1, places-long (c .before .before .before .before .before .before .before .before .before .before .before .before .before .before))
+
+slice-aggregate-work-5 : tie.Need-slice-aggregate-work-5
+slice-aggregate-work-5 c = sym (length-take-le (c .before .before .before .before .before .places-size .result) (c .before .before .before .before .before .before .before .before .before .before .before .before .before .before .before .args .replica .places) (omega (arith, c .before .before .before .before .before .places-size .ensures .1, places-long (c .before .before .before .before .before .before .before .before .before .before .before .before .before .before .before))))
+
+work-requires : tie.Need-work-requires
+work-requires c κs = search needs
+
+step-of-requires : tie.Need-step-of-requires
+step-of-requires c κs = search needs
+
+returns : tie.Need-returns
+returns c =
+    let s = c .before .before .before .before .before .before .before .before .before .before .before .before .before .before .before .before .before .before .before .before .before .before .before .before .before .args .replica in
+    let size = c .before .before .before .before .before .before .before .before .before .before .before .before .before .before .before .places-size .result in
+    let left = c .before .before .before .before .before .before .before .before .before .work .last .1 .1 .1 .1 .1 .1 .1 .0 in
+    let l : length left ≡ size = c .before .before .before .before .before .before .before .before .before .work .kept .1 .1 .1 .1 .1 .1 .1 .0 ∙ length-take-le size (s .places) (omega (arith, c .before .before .before .before .before .before .before .before .before .before .before .before .before .before .before .places-size .ensures .1, places-long (c .before .before .before .before .before .before .before .before .before .before .before .before .before .before .before .before .before .before .before .before .before .before .before .before .before))) in
+    let g = c .before .before .before .before .before .before .before .before .before .work .ensures (memoryOf size s) in
+    let few : c .before .before .before .before .before .before .before .before .before .work .result .reply .count ≤ 6 = work-few (workStep (memoryOf size s)) g (aborted-long (c .before .before .before .before .before .before .before .before .before)) in
+    let short : c .step-of .result .count ≤ 10 = omega (arith, c .step-of .ensures .1, few) in
+    rw (← c .before .before .before .before .before .before .before .before .before .before .before .before .before .before .before .places-size .ensures .0)
+    (λ lent.
+    plays-numbers
+    (c .step-of .ensures .0)
+    (rw (take-at left (drop size (s .places)) size l) (work-effect (memoryOf size s) lent g))
+    (drop-at left (drop size (s .places)) size l)
+    (rw (ap (λ (p : Played). p .count) (c .step-of .ensures .0)) at short))
+
+pub work-spec : {M : Type 1} → statement M
+work-spec =
+    tie.close
+    (tie.spec
+    cast-places-size
+    places-size-requires
+    slice-aggregate-work
+    slice-aggregate-work-2
+    slice-aggregate-work-3
+    slice-aggregate-work-4
+    array-borrow-prefix-places
+    slice-aggregate-work-5
+    work-requires
+    step-of-requires
+    returns)

@@ -1,0 +1,69 @@
+-- `request_of` meets its contract: the place is one of six, and the bytes lie within their array.
+use Prim.Native.Nat.{_+_, _≤_}
+use borrow.Author.Needs.{needs}
+use lib.ListN.{length}
+use Rattle.block.proofs.ListLaws.{lent}
+use Rattle.replay.specs.Deliveries.{namesBytes, bytesNamed}
+use Rattle.replay.proofs.DeliveryLaws.{delivery-short}
+use Rattle.replay.proofs.request_of.Statement.{statement}
+use Rattle.replay.proofs.request_of.Tie as tie
+
+there : (c : tie.After-delivered) → c .delivered .result .count ≤ length (c .delivered .result .bytes)
+there c =
+    let s = c .before .before .before .before .before .before .before .args in
+    let call = c .before .before .before .call-of .result in
+    let from = c .before .before .start-of .result in
+    delivery-short (c .delivered .result) (namesBytes call (s .line .now) (s .sent)) (bytesNamed call (s .line .now) (lent from (from + 512) (s .kept .now))) (c .delivered .ensures)
+
+replica-named-requires : tie.Need-replica-named-requires
+replica-named-requires c κs = search needs
+
+call-of-requires : tie.Need-call-of-requires
+call-of-requires c κs = search needs
+
+cast-start-of : tie.Need-cast-start-of
+cast-start-of c = search needs
+
+start-of-requires : tie.Need-start-of-requires
+start-of-requires c κs = search needs
+
+add-delivered : tie.Need-add-delivered
+add-delivered c = search needs
+
+sub-delivered : tie.Need-sub-delivered
+sub-delivered c = search needs
+
+part-delivered-start : tie.Need-part-delivered-start
+part-delivered-start c = search needs
+
+part-delivered-end : tie.Need-part-delivered-end
+part-delivered-end c = search needs
+
+delivered-requires : tie.Need-delivered-requires
+delivered-requires c κs = search needs
+
+at-most-five-requires : tie.Need-at-most-five-requires
+at-most-five-requires c κs = search needs
+
+returns : tie.Need-returns
+returns c = (c .before .at-most-five .ensures, there (c .before .before .before))
+
+returns-2 : tie.Need-returns-2
+returns-2 c = (c .before .at-most-five .ensures, there (c .before .before .before))
+
+pub request-of-spec : {M : Type 1} → statement M
+request-of-spec =
+    tie.close
+    (tie.spec
+    replica-named-requires
+    call-of-requires
+    cast-start-of
+    start-of-requires
+    add-delivered
+    sub-delivered
+    part-delivered-start
+    part-delivered-end
+    delivered-requires
+    at-most-five-requires
+    returns
+    returns-2)

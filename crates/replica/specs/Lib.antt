@@ -1,3 +1,0 @@
--- What the contracts of a host's calls say beside the engine's steps, and what ties them to the engine.
-pub mod Called
-pub mod Hosted

@@ -1,2 +1,0 @@
--- What the contract of a send says beside its definition.
-pub mod Lent

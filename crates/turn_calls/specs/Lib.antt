@@ -1,2 +1,0 @@
--- What the helpers' contracts say.
-pub mod Handed

@@ -1,2 +1,0 @@
--- One law for each answer of a write, over plain variables.
-pub mod WriteLaws

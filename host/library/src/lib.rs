@@ -1,3 +1,0 @@
-//! The proved libraries, as safe Rust functions.
-
-pub mod block;
