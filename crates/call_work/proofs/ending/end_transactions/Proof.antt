@@ -1,11 +1,11 @@
--- `ending::end_rows` meets its contract: the replica's own, or another's.
+-- `ending::end_transactions` meets its contract: the replica's own, or another's.
 use Prim.Native.Nat.{_≤_}
 use mathlib.Core.Path.{refl}
 use native.Mathlib.Omega.{arith}
 use Rattle.call_work.proofs.WorkLaws.{own-ended}
 use borrow.Author.Needs.{needs}
-use Rattle.call_work.proofs.ending.end_rows.Statement.{statement}
-use Rattle.call_work.proofs.ending.end_rows.Tie as tie
+use Rattle.call_work.proofs.ending.end_transactions.Statement.{statement}
+use Rattle.call_work.proofs.ending.end_transactions.Tie as tie
 
 end-own-requires : tie.Need-end-own-requires
 end-own-requires c κs = search needs
@@ -28,6 +28,6 @@ same-length c = search needs
 returns-2 : tie.Need-returns-2
 returns-2 c = let e = c .before .before in rw (e .before .before .if1 .left) (e .end-other .ensures)
 
-pub end-rows-spec : {M : Type 1} → statement M
-end-rows-spec =
+pub end-transactions-spec : {M : Type 1} → statement M
+end-transactions-spec =
     tie.close (tie.spec end-own-requires returns end-other-requires same-length returns-2)
