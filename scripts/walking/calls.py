@@ -3,8 +3,9 @@
 from dataclasses import dataclass
 
 # how a parameter is lent or passed
-TABLE_MUT, TABLE, TURN_MUT, TURN = "table-mut", "table", "turn-mut", "turn"
-COUNTS, U32, I32 = "counts", "u32", "i32"
+TABLE_MUT, TABLE, TURN_MUT, TURN, COUNTS_MUT, COUNTS = "table-mut", "table", "turn-mut", "turn", "counts-mut", "counts"
+U32, I32 = "u32", "i32"
+MUTABLE = (TABLE_MUT, TURN_MUT, COUNTS_MUT)
 
 
 def mut(elem):
@@ -15,6 +16,15 @@ def shared(elem):
     return ("shared", elem)
 
 
+# the fields of what a call by value returns, in order
+FIELDS = {
+    "Begun": ["reply", "counts", "row"], "Asked": ["reply", "counts", "row"], "Changed": ["number", "counts", "row"],
+    "Made": ["number", "turn", "counts"], "Sent": ["number", "turn", "rows"], "Worked": ["reply", "turn", "counts", "ended"],
+}
+# the fields of the counts, and of the replies, that a walk reads
+COUNT = {"tickets": 4, "read_only": 6, "aborted": 7, "withdrawn": 8}
+
+
 @dataclass
 class Call:
     name: str
@@ -23,10 +33,10 @@ class Call:
     reply: str  # what the exported function returns
     params: list
     refusal: str = ""  # the function that answers a wrong table, empty where the call answers 1 itself or has no table
-    before: str = ""  # the parts of the memory, {t} the table and {h} the turn
+    before: str = ""  # the parts of the memory, {t} the table, {h} the turn and {c} the counts
     step: str = ""  # the engine's step, {m} the memory
     at_row: str = ""  # the engine's step at the row `at`, of a call that finds its row
-    after: str = ""  # the parts after the call, {r} the reply too; empty where nothing changes
+    after: str = ""  # the parts after the call; empty where nothing changes
     replied: str = ""  # what the reply is of an outcome
 
     @property
@@ -40,18 +50,38 @@ class Call:
     def kind(self, i):
         return self.params[i][1]
 
-    # the table and the turn stand in front; the rest is handed on
+    # table, turn and counts stand in front; the rest is handed on
+    def lent(self, kinds):
+        return next((i for i, (_, k) in enumerate(self.params) if k in kinds), None)
+
     @property
     def table(self):
-        return next((k for _, k in self.params if k in (TABLE, TABLE_MUT)), None)
+        return self.lent((TABLE, TABLE_MUT))
 
     @property
     def turn(self):
-        return next((k for _, k in self.params if k in (TURN, TURN_MUT)), None)
+        return self.lent((TURN, TURN_MUT))
+
+    @property
+    def counts(self):
+        return self.lent((COUNTS, COUNTS_MUT))
+
+    @property
+    def holds(self):
+        """What the call holds itself: name and parameter, in order."""
+        return [(n, i) for n, i in [("table", self.table), ("turn", self.turn), ("counts", self.counts)] if i is not None]
+
+    def changes(self, what):
+        i = {"table": self.table, "turn": self.turn, "counts": self.counts}[what]
+        return i is not None and self.kind(i) in MUTABLE
+
+    @property
+    def changing(self):
+        return [what for what, _ in self.holds if self.changes(what)]
 
     @property
     def held(self):
-        return (self.table is not None) + (self.turn is not None)
+        return len(self.holds)
 
     @property
     def rest(self):
@@ -68,39 +98,51 @@ class Call:
         return range(self.held + self.ticketed, len(self.params))
 
     @property
-    def row_passed(self):
-        """Whether the call by value is passed the row's record; else it takes it from the six rows."""
-        return self.by_row is not None and not self.by_rows
-
-    @property
     def by_row(self):
         """How the call finds its transaction's row: `find`, `scan`, or not at all."""
         return {"begin": "scan", "read": "find", "write": "find", "ask": "find", "withdraw": "find"}.get(self.name)
 
     @property
     def by_rows(self):
-        """Whether it takes all six rows."""
-        return self.name in ("make", "write", "report", "send", "work")
+        """Whether it is passed all six rows."""
+        return self.name in ("write", "report", "send", "work")
+
+    @property
+    def row_passed(self):
+        """Whether the call by value is passed the row's record; else it takes it from the six rows."""
+        return self.by_row is not None and not self.by_rows
 
     @property
     def turn_passed(self):
-        """Whether the call by value is passed the turn."""
-        return self.turn is not None
+        return self.turn is not None and self.name != "make"
+
+    @property
+    def counts_passed(self):
+        return self.counts is not None and self.name != "make"
 
     @property
     def direct(self):
         """Whether the call by value returns the reply itself."""
         return self.result == self.reply
 
+    @property
+    def every(self):
+        """What the contract speaks of every one of."""
+        return "" if self.name == "make" else "(m : Memory) → "
+
+    def field(self, name):
+        """The way to a field of the result, in its laws."""
+        return " .1" * FIELDS[self.result].index(name) + " .0"
+
     def is_slice(self, i):
         return isinstance(self.kind(i), tuple) or self.kind(i) in (TABLE, TABLE_MUT)
 
     def is_mut(self, i):
         kind = self.kind(i)
-        return kind[0] == "mut" if isinstance(kind, tuple) else kind in (TABLE_MUT, TURN_MUT)
+        return kind[0] == "mut" if isinstance(kind, tuple) else kind in MUTABLE
 
     def is_ref(self, i):
-        return self.is_slice(i) or self.kind(i) in (TURN, TURN_MUT)
+        return self.kind(i) not in (U32, I32)
 
     @property
     def refs(self):
@@ -114,16 +156,16 @@ CALLS = {
     call.name: call
     for call in [
         Call(
-            "make", "call_make.make", "Made", "Reply",
-            [("table", TABLE_MUT), ("turn", TURN_MUT), ("counts", COUNTS), ("size", U32), ("me", U32), ("start", shared("i32")), ("queue", mut("u32")),
+            "make", "call_make.make", "Made", "u8",
+            [("table", TABLE_MUT), ("turn", TURN_MUT), ("counts", COUNTS_MUT), ("size", U32), ("me", U32), ("start", shared("i32")), ("queue", mut("u32")),
              ("items", mut("u8")), ("writes", mut("i32")), ("snapshots", mut("i32")), ("values", mut("i32")), ("stamps", mut("u32")),
              ("places", mut("u8")), ("outbox", mut("u8"))],
-            "replied", "allParts {h} counts {t} " + ALL, "makeStep {m} size me start", "", "allParts {h} ({r} .counts) {t} " + LATER, "reply",
+            "", "allParts {h} {c} {t} " + ALL, "makeStep {m} size me start", "", "allParts {h} {c} {t} " + LATER, "number",
         ),
         Call(
             "begin", "call_client.begin", "Begun", "BeginReply",
-            [("table", TABLE_MUT), ("counts", COUNTS), ("values", shared("i32")), ("snapshots", mut("i32"))],
-            "no_begin", "beginParts m {t} counts values snapshots", "beginStep {m}", "beginRow {m} at", "beginParts m {t} ({r} .counts) values snapshots′", "beginReply",
+            [("table", TABLE_MUT), ("counts", COUNTS_MUT), ("values", shared("i32")), ("snapshots", mut("i32"))],
+            "no_begin", "beginParts m {t} {c} values snapshots", "beginStep {m}", "beginRow {m} at", "beginParts m {t} {c} values snapshots′", "beginReply",
         ),
         Call(
             "read", "call_client.read", "ReadReply", "ReadReply",
@@ -131,30 +173,30 @@ CALLS = {
             "no_read", "readParts m {t} items writes snapshots", "readStep {m} ticket item", "readRow {m} at item", "", "readReply",
         ),
         Call(
-            "write", "call_write.write", "Changed", "Reply",
-            [("table", TABLE_MUT), ("turn", TURN), ("ticket", U32), ("counts", COUNTS), ("items", mut("u8")), ("writes", mut("i32")), ("stamps", shared("u32")),
+            "write", "call_write.write", "Changed", "u8",
+            [("table", TABLE_MUT), ("turn", TURN), ("counts", COUNTS_MUT), ("ticket", U32), ("items", mut("u8")), ("writes", mut("i32")), ("stamps", shared("u32")),
              ("item", U32), ("value", I32)],
-            "replied", "writeParts m {h} counts {t} items writes stamps", "writeStep {m} ticket item value", "writeRow {m} at item value",
-            "writeParts m {h} ({r} .counts) {t} items′ writes′ stamps", "reply",
+            "", "writeParts m {h} {c} {t} items writes stamps", "writeStep {m} ticket item value", "writeRow {m} at item value",
+            "writeParts m {h} {c} {t} items′ writes′ stamps", "number",
         ),
         Call(
             "ask", "call_client.ask", "Asked", "AskReply",
-            [("table", TABLE_MUT), ("ticket", U32), ("counts", COUNTS), ("queue", mut("u32"))],
-            "no_ask", "askParts m counts {t} queue", "askStep {m} ticket", "askRow {m} at", "askParts m ({r} .counts) {t} queue′", "askReply",
+            [("table", TABLE_MUT), ("counts", COUNTS_MUT), ("ticket", U32), ("queue", mut("u32"))],
+            "no_ask", "askParts m {c} {t} queue", "askStep {m} ticket", "askRow {m} at", "askParts m {c} {t} queue′", "askReply",
         ),
         Call(
-            "withdraw", "call_client.withdraw", "Changed", "Reply", [("table", TABLE_MUT), ("ticket", U32), ("counts", COUNTS)],
-            "replied", "withdrawParts m counts {t}", "withdrawStep {m} ticket", "withdrawRow {m} at", "withdrawParts m ({r} .counts) {t}", "reply",
+            "withdraw", "call_client.withdraw", "Changed", "u8", [("table", TABLE_MUT), ("counts", COUNTS_MUT), ("ticket", U32)],
+            "", "withdrawParts m {c} {t}", "withdrawStep {m} ticket", "withdrawRow {m} at", "withdrawParts m {c} {t}", "number",
         ),
         Call(
             "report", "call_client.report", "ReportReply", "ReportReply", [("table", TABLE), ("turn", TURN), ("counts", COUNTS)],
-            "no_report", "reportParts m {h} counts {t}", "reportStep {m}", "", "", "reportReply",
+            "no_report", "reportParts m {h} {c} {t}", "reportStep {m}", "", "", "reportReply",
         ),
         Call(
             "send", "call_send.send", "Sent", "u8",
             [("table", TABLE_MUT), ("turn", TURN_MUT), ("counts", COUNTS), ("queue", mut("u32")), ("items", shared("u8")), ("writes", shared("i32")),
              ("outbox", mut("u8")), ("block", mut("u8"))],
-            "", "sendParts m {h} counts {t} queue items writes outbox", "sendStep {m} block", "", "sendParts m {h} counts {t} queue′ items writes outbox′", "number",
+            "", "sendParts m {h} {c} {t} queue items writes outbox", "sendStep {m} block", "", "sendParts m {h} {c} {t} queue′ items writes outbox′", "number",
         ),
         Call(
             "deliver", "call_deliver.deliver", "u8", "u8",
@@ -162,10 +204,10 @@ CALLS = {
         ),
         Call(
             "work", "call_work.work", "Worked", "WorkReply",
-            [("table", TABLE_MUT), ("turn", TURN_MUT), ("counts", COUNTS), ("queue", mut("u32")), ("items", shared("u8")), ("values", mut("i32")),
+            [("table", TABLE_MUT), ("turn", TURN_MUT), ("counts", COUNTS_MUT), ("queue", mut("u32")), ("items", shared("u8")), ("values", mut("i32")),
              ("stamps", mut("u32")), ("places", mut("u8"))],
-            "no_work", "workParts m {h} counts {t} queue items values stamps places", "workStep {m}", "",
-            "workParts m {h} ({r} .counts) {t} queue′ items values′ stamps′ places′", "workReply",
+            "no_work", "workParts m {h} {c} {t} queue items values stamps places", "workStep {m}", "",
+            "workParts m {h} {c} {t} queue′ items values′ stamps′ places′", "workReply",
         ),
     ]
 }

@@ -1,6 +1,6 @@
 """The names that a proof gives to parameters, their types and their machine values."""
 
-from .calls import COUNTS, I32, TABLE, TABLE_MUT, U32
+from .calls import COUNTS, COUNTS_MUT, I32, TABLE, TABLE_MUT, U32
 from .mir import place
 
 DIGITS = "₀₁₂₃₄₅₆₇₈₉"
@@ -41,20 +41,18 @@ class Names:
         self.count = len(call.params)
 
     def var(self, i):
-        kind = self.call.kind(i)
-        if kind in (TABLE, TABLE_MUT):
-            return "ys"
-        return "h" if self.call.is_ref(i) and not self.call.is_slice(i) else self.call.params[i][0]
+        held = {self.call.table: "ys", self.call.turn: "h", self.call.counts: "c"}
+        return held.get(i) or self.call.params[i][0]
 
     def elem(self, i):
         kind = self.call.kind(i)
         if isinstance(kind, tuple):
             return kind[1]
-        return "R" if kind in (TABLE, TABLE_MUT) else "U.R"
+        return {TABLE: "R", TABLE_MUT: "R", COUNTS: "N.R", COUNTS_MUT: "N.R"}.get(kind, "U.R")
 
     def row(self, i):
         """The type of a parameter that is no reference."""
-        return "N.the-row" if self.call.kind(i) == COUNTS else self.call.kind(i)
+        return self.call.kind(i)
 
     def owned_type(self, i):
         call = self.call
@@ -68,8 +66,8 @@ class Names:
         if isinstance(kind, tuple):
             return f"RefT (List {DENOTED[kind[1]]})"
         if call.is_ref(i):
-            return "RefT (List Txn)" if call.is_slice(i) else "RefT Turn"
-        return {COUNTS: "Counts", U32: "ℕ", I32: "ℤ"}[kind]
+            return {call.table: "RefT (List Txn)", call.turn: "RefT Turn", call.counts: "RefT Counts"}[i]
+        return {U32: "ℕ", I32: "ℤ"}[kind]
 
     def value(self, i, now=None):
         if not self.call.is_ref(i):
@@ -78,8 +76,6 @@ class Names:
 
     def machine(self, i):
         kind = self.call.kind(i)
-        if kind == COUNTS:
-            return "LL.val N.the-type N′.the-laws counts"
         if kind == U32:
             return f"vint w32 {self.var(i)}"
         if kind == I32:
@@ -97,8 +93,6 @@ class Names:
                 out.append(f"(b{sub(i)} o{sub(i)} : ℕ) (γ{sub(i)} : GName) ({v} : {of})")
                 if call.is_slice(i):
                     out.append(f"(room{sub(i)} : Room {self.elem(i)} (length {v}))")
-            elif kind == COUNTS:
-                out.append("(counts : Counts) (is-counts : Is N.the-row counts (LL.vals N.the-type N′.the-laws counts))")
             elif kind == U32:
                 out.append(f"({v} : ℕ) (g{sub(i)} : {v} < 2 ^ 32)")
             else:
@@ -159,7 +153,7 @@ class Names:
         if not way:
             return f"(load ! (from ! (stop !)) (look ! {at} refl))"
         path, part = "(stop !)", "(whole !)"
-        for _, k in reversed(way):
+        for _, k in way:  # the innermost field's part stands outside
             path, part = f"(fld ! refl {path})", f"(sub ! {k} refl {part})"
         return f"(load ! (from ! {path}) (look-in ! {at} {part}))"
 

@@ -1,11 +1,37 @@
 """A walk of one function's code: each statement is a step of the proof."""
 
-from .calls import COUNTS, TABLE_MUT, TURN_MUT, U32
+from dataclasses import dataclass
+
+from .calls import COUNT, U32
 from .facts import no_reply, reply_of
 from .mir import items, place
 from .names import Names, listed, nested, sub
 
 ALL = "𝓤 H A W mem run"
+
+
+@dataclass
+class Helper:
+    function: str  # of `host_table`
+    contract: str
+    of: str = ""  # the record and the field that the contract is of
+    law: str = ""  # under which name a caller has what it asks and gives
+
+
+HELPERS = {  # by the name in a proof
+    "load": Helper("load", "Load", law="load"), "scan": Helper("scan", "Scan", law="scan"), "find": Helper("find", "Find", law="find"), "row": Helper("row", "Row", law="row"),
+    "put": Helper("put", "Put", law="put"), "end": Helper("end", "End", law="end"), "stage": Helper("set_stage", "SetStage", law="stage"),
+    "ended": Helper("end_rows", "EndRows", law="end-rows"), "mark": Helper("mark_rows", "MarkRows", law="mark"),
+    "copy": Helper("copy_turn", "CopyOut", "U.turn", "copy-out"), "turn": Helper("set_turn", "StoreAll", "U.turn", "store-all"),
+    "copied": Helper("copy_counts", "CopyOut", "N.counts", "copy-out"), "counts": Helper("set_counts", "StoreAll", "N.counts", "store-all"),
+    "tickets": Helper("set_tickets", "StoreOne", "N.counts N.tickets", "store-one"), "read-only": Helper("set_read_only", "StoreOne", "N.counts N.read-only", "store-one"),
+    "aborted": Helper("set_aborted", "StoreOne", "N.counts N.aborted", "store-one"), "withdrawn": Helper("set_withdrawn", "StoreOne", "N.counts N.withdrawn", "store-one"),
+}
+# the law behind each return but that of a wrong table, in order
+WAYS = {
+    "make": ["make-kept", "make-did"], "begin": ["begin-kept", "begin-did"], "write": ["write-stale", "write-kept", "write-did"], "ask": ["ask-kept", "ask-ended", "ask-queued"],
+    "withdraw": ["withdraw-kept", "withdraw-did"], "send": ["send-kept", "send-did"], "work": ["work-kept", "work-did"],
+}
 
 
 class Walk(Names):
@@ -15,7 +41,14 @@ class Walk(Names):
         self.lines, self.open = [], 0
         self.full = set(range(1, self.count + 1))  # the locals that hold something
         self.front = []  # what stands before the locals, in order
-        self.reply_is = "(fields .0)"  # that the value in hand is the reply's
+        self.result_in = None  # the local that has what the call by value gave
+        self.reply_in = None  # the local that has the reply
+        self.reply_is = f"(fields{call.field('reply')})" if call.result not in ("u8", call.reply) and call.reply != "u8" else "is"
+        self.now = {"table": "ys", "turn": "h", "counts": "c"}  # what is held, as it is now
+        self.long = "refl"  # that the table is as long as it was
+        self.tests = []  # what the tests so far say
+        self.compared = {}  # by the local that a comparison is in: how, and with what
+        self.ways = list(WAYS.get(call.name, [f"{call.name}-did"]))
 
     # ---- what a proof says of the row
     @property
@@ -25,13 +58,13 @@ class Walk(Names):
     def said(self):
         """What the call by value says, of r and the last values ws."""
         call = self.call
-        lead = [self.found] * (call.by_row is not None) + [f"(rowAt ys {self.found})"] * call.row_passed + ["(loaded ys)"] * call.by_rows + ["h"] * call.turn_passed
+        lead = [self.found] * (call.by_row is not None) + [f"(rowAt ys {self.found})"] * call.row_passed + ["(loaded ys)"] * call.by_rows + ["h"] * call.turn_passed + ["c"] * call.counts_passed
         rest = [self.var(i) for i in call.passed]
         return f"{call.name.capitalize()}On {' '.join(lead + rest + ['r'] + [self.last(i) for i in self.muts])}"
 
     @property
     def leading(self):
-        return (self.call.by_row is not None) + self.call.row_passed + self.call.by_rows + self.call.turn_passed
+        return (self.call.by_row is not None) + self.call.row_passed + self.call.by_rows + self.call.turn_passed + self.call.counts_passed
 
     def last(self, i):
         return "(ws" + " .1" * (self.leading + i - self.call.passed[0]) + " .0)"
@@ -42,8 +75,7 @@ class Walk(Names):
 
     @property
     def ends_in(self):
-        call = self.call
-        return ["table", "t:table"] * (call.table is not None) + ["turn", "t:turn"] * (call.turn is not None) + ["rest", "toks"]
+        return [name for what, _ in self.call.holds for name in (what, "t:" + what)] + ["rest", "toks"]
 
     # ---- writing
     def say(self, text, opens=0):
@@ -60,17 +92,42 @@ class Walk(Names):
         self.full.add(local)
         return f"({how} ! {self.at(local, len(self.front))} refl {typed})"
 
-    def lend(self, how, contract, name, args, gives, operands, got, typed, local, before=""):
+    def lend(self, how, name, args, gives, operands, got, typed, local, before=""):
         """A call to which the reference at the head is lent."""
-        F = len(self.front)
-        self.say(f"calls-lending ! fm ({how}) ({contract} 𝓤 H A mem run) known-{name} (to-{name} {ALL} {args}) (asks-{name} {ALL} {args}{before}) (λ u. {gives}) (gives-{name} {ALL} {args})")
+        F, law = len(self.front), HELPERS[name].law
+        args = f"{ALL} {HELPERS[name].of} {args}".replace("  ", " ")
+        self.say(f"calls-lending ! fm ({how}) ({self.contract_of(name)}) known-{name} (to-{law} {args}) (asks-{law} {args}{before}) (λ u. {gives}) (gives-{law} {args})")
         self.say(f"(λ ν δ i j. {self.operands(operands, F)}) (λ {got}. land ! (from ! (stop !)) {self.put(local, typed)} $", 1)
 
     @property
     def table_read(self):
-        if self.call.table == TABLE_MUT:
+        if self.call.changes("table"):
             return "slice-read R b₀ o₀ κ₀ q₀ γ₀ ys W room₀"
         return "slice-shared R b₀ o₀ κ₀ q₀ γ₀ ys W room₀ vals tells (copies 𝓤 H A W)"
+
+    def spot(self, what):
+        """Where turn or counts lie, and all that a reference to them has."""
+        i = sub({"turn": self.call.turn, "counts": self.call.counts}[what])
+        return f"b{i} o{i}", f"b{i} o{i} κ{i} q{i} γ{i}"
+
+    def writes_table(self, name, after, long, args, operands, local, before=""):
+        """A call that writes to the lent table."""
+        self.bring(["table", "t:table"])
+        how = f"slice-lent R b₀ o₀ κ₀ q₀ γ₀ ys W room₀ {after} {long}"
+        self.lend(how, name, f"b₀ o₀ ys {args}".rstrip(), "u ≡ vunit", operands, "w₁ e₁", "(unit-typed w₁ e₁)", local, before)
+        self.now["table"], self.long = after, long
+
+    def copies_record(self, what, name, module, value, given, operands, local):
+        self.bring([what, "t:" + what])
+        spot, full = self.spot(what)
+        how = f"ref-read {module}.R {full} {value} W" if self.call.changes(what) else f"ref-shared {module}.R {full} {value} W {module}.vals {module}.tells ({module}.copies 𝓤 H A W)"
+        self.lend(how, name, f"{spot} {value}", f"Is {module}.R {value} (u ∷ [])", operands, f"v{given} is{given}", f"({module}.lawful 𝓤 H A W .typed {value} _ is{given} .0)", local)
+
+    def writes_record(self, what, name, module, value, after, args, operands, local, before=""):
+        self.bring([what, "t:" + what])
+        spot, full = self.spot(what)
+        self.lend(f"ref-lent {module}.R {full} {value} W {after}", name, f"{spot} {value} {args}", "u ≡ vunit", operands, "w₂ e₂", "(unit-typed w₂ e₂)", local, before)
+        self.now[what] = after
 
     # ---- the parts
     def enter(self):
@@ -81,19 +138,26 @@ class Walk(Names):
             kind = call.kind(i)
             if call.is_ref(i):
                 typed = f"(tt, (tt, (record {{ fits = room{sub(i)} .0 }}, tt)))" if call.is_slice(i) else "(tt, tt)"
-            elif kind == COUNTS:
-                typed = "(LL.lawful N.the-type N′.the-laws 𝓤 H A W .typed counts _ is-counts .0)"
             elif kind == U32:
                 typed = f"(tt, record {{ fits = g{sub(i)} }})"
             else:
                 typed = f"(sint-lawful 𝓤 H A W w32 .typed {self.var(i)} _ is{sub(i)} .0)"
             passed.append(f"pass1 ! (init ! {2 * (L - 2 - i)} refl {typed}) $")
         self.say(" ".join(passed) + " pass0 ! $")
-        both = call.held == 2
-        self.say(f"move ! ({2 * L + 1} ∷ []) $ fsplit ! $" + (" move ! (1 ∷ []) $ fsplit ! $" if both else ""))
-        self.say(f"move ! ({2 * L + (3 if both else 2)} ∷ []) $ split ! $" + (" move ! (1 ∷ []) $ split ! $" if both else ""))
-        self.say("move ! (5 ∷ 2 ∷ 3 ∷ 0 ∷ 4 ∷ 1 ∷ []) $" if both else "move ! (2 ∷ 0 ∷ 3 ∷ 1 ∷ []) $")
-        self.front = self.ends_in
+        # what is owned and the tokens, taken apart: the last part taken stands first
+        order = []
+        for what, _ in call.holds:
+            self.say("fsplit ! $" if order else f"move ! ({2 * L + 1} ∷ []) $ fsplit ! $")
+            order = [what, "rest"] + [x for x in order if x != "rest"]
+            if what != call.holds[-1][0]:
+                self.say("move ! (1 ∷ []) $")
+        for k, (what, _) in enumerate(call.holds):
+            self.say("split ! $" if k else f"move ! ({2 * L + 1 + call.held} ∷ []) $ split ! $")
+            order = ["t:" + what, "toks"] + [x for x in order if x != "toks"]
+            if what != call.holds[-1][0]:
+                self.say("move ! (1 ∷ []) $")
+        self.front = order
+        self.bring(self.ends_in)
 
     def leave(self, end, returns="returns !"):
         F = len(self.front)
@@ -116,27 +180,38 @@ class Walk(Names):
             typed = f"(tt, (tt, (record {{ fits = room{sub(place(parts[1][1])[0] - 1)} .0 }}, tt)))"
         elif value[0] == "op2":
             what, typed = f"(bin ! {self.operand(value[2], F)} (lit ! tt) tt)", "(tt, tt)"
+            self.compared[local] = (value[1], value[3][2])
+        elif value[0] == "repeat":
+            what, typed = f"(rep ! {value[2]} (true-lit !))", "(array-lawful 𝓤 H A W Boolean (bool-lawful 𝓤 H A W) 6 .typed all-ended _ all-ended-is .0)"
         else:
             what = f"(of-opd ! {self.operand(value[1], F)})"
-            if value[1][0] == "int":
-                typed = "(tt, record { fits = omega arith })"
-            elif place(value[1][1])[0] <= self.count:
-                typed = "(tt, record { fits = room₀ .0 })"
-            elif self.call.reply == "u8":
-                typed = "(tt, record { fits = fields .0 .1 })"
-            else:
-                typed = f"(LL.lawful Y.the-type Y′.the-laws 𝓤 H A W .typed (r .reply) _ {self.reply_is} .0)"
+            typed = self.typed_copy(local, value[1])
         self.say(f"assigns ! {what} (from ! (stop !)) {self.put(local, typed)} $")
-        if local != 0 and typed.startswith("(LL.lawful Y"):  # the reply, in a local of its own: its fields are read
-            self.say(f"rewrite ! {self.at(local, len(self.front))} (λ (w : Val). ‵ (fat fullShare Y′.mir l{local} 0 w)) (ap only (LL.tells Y.the-type Y′.the-laws (r .reply) _ (fields .0))) refl $")
-            self.say("let is₆ = subst (λ (vs : List Val). Is Y.the-row (r .reply) vs) (LL.tells Y.the-type Y′.the-laws (r .reply) _ (fields .0)) (fields .0) in")
+        if typed.startswith("(LL.lawful Y") and local != 0:  # the reply, in a local of its own: its fields are read
+            self.reply_in = local
+            was = f"(fields{self.call.field('reply')})"
+            self.say(f"rewrite ! {self.at(local, len(self.front))} (λ (w : Val). ‵ (fat fullShare Y′.mir l{local} 0 w)) (ap only (LL.tells Y.the-type Y′.the-laws (r .reply) _ {was})) refl $")
+            self.say(f"let is₆ = subst (λ (vs : List Val). Is Y.the-row (r .reply) vs) (LL.tells Y.the-type Y′.the-laws (r .reply) _ {was}) {was} in")
             self.reply_is = "is₆"
+
+    def typed_copy(self, local, opd):
+        """That what is copied is a value of its type."""
+        if opd[0] == "int":
+            return "(tt, record { fits = omega arith })"
+        of, way = place(opd[1])
+        if of <= self.count:
+            return "(tt, record { fits = room₀ .0 })"
+        if of == self.reply_in and way:
+            return "(tt, tt)"
+        if self.call.reply == "u8":
+            return "(tt, record { fits = fields .0 .1 })"
+        return f"(LL.lawful Y.the-type Y′.the-laws 𝓤 H A W .typed (r .reply) _ {self.reply_is} .0)"
 
     def by_value(self, operands, local):
         """The call that does the work: what is left of the parameters is handed on to it."""
         call = self.call
         self.bring(["rest", "toks"])
-        values = ["v₂"] * call.row_passed + ["v₅"] * call.by_rows + ["v₃"] * call.turn_passed
+        values = ["v₂"] * call.row_passed + ["v₅"] * call.by_rows + ["v₃"] * call.turn_passed + ["v₇"] * call.counts_passed
         facts = [v.replace("v", "is") for v in values]
         to = f"(to-call {' '.join(values)})"
         fits = ["(is₁ .1)"] * (call.by_row is not None)
@@ -155,49 +230,68 @@ class Walk(Names):
         self.say(f"land ! (from ! (stop !)) {self.put(local, '(LL.lawful D.the-type D′.the-laws 𝓤 H A W .typed r _ is .0)')} $")
         if local == 0:
             return
+        self.result_in = local
         self.say(f"rewrite ! {self.at(local, len(self.front))} (λ (w : Val). ‵ (fat fullShare D′.mir l{local} 0 w)) (ap only (LL.tells D.the-type D′.the-laws r _ is)) refl $")
         self.say("let fields = LL.owed D.the-type D′.the-laws r _ is in")
-        if call.result in ("Made", "Sent", "Worked"):
-            self.say("let is₄ = is-rows (r .rows) _ (fields .1 .1 .0) in")
-            self.say("let v₄ = D′.the-laws .1 .1 .0 .val (map (T.the-type .to) (r .rows)) in")
+    def given(self, opd):
+        """A number among what the call by value gave: what it is, and that it fits."""
+        of, way = place(opd[1])
+        path = [k for _, k in way]
+        if of == self.reply_in:
+            return f"(r .reply .ticket)", f"(LL.owed Y.the-type Y′.the-laws (r .reply) _ {self.reply_is} .1 .0 .1)"
+        name = next(n for n, k in COUNT.items() if k == path[1])
+        shown = f"«{name}»" if "_" in name else name
+        return f"(r .counts .{shown})", f"(LL.owed Q.the-type Q′.the-laws (r .counts) _ (fields{self.call.field('counts')}){' .1' * path[1]} .0 .1)"
 
     def call_to(self, name, operands, local):
-        table, index = "b₀ o₀ ys", f"{self.found}"
+        call, table, index = self.call, "b₀ o₀ ys", self.found
+        setters = {"set_tickets": "withTickets", "set_read_only": "withReadOnly", "set_aborted": "withAborted", "set_withdrawn": "withWithdrawn"}
         if name in ("scan", "find"):
             self.bring(["table", "t:table"])
-            key = "0 zero-fits" if name == "scan" else f"ticket g{sub(next(i for i in range(self.count) if self.call.params[i][0] == 'ticket'))}"
-            self.lend(self.table_read, name.capitalize(), name, f"{table} {key}", f"Is usize {index} (u ∷ [])", operands, "v₁ is₁", f"(uint-lawful 𝓤 H A W w64 .typed {index} _ is₁ .0)", local)
+            key = "0 zero-fits" if name == "scan" else f"ticket g{sub(next(i for i in range(self.count) if call.params[i][0] == 'ticket'))}"
+            self.lend(self.table_read, name, f"{table} {key}", f"Is usize {index} (u ∷ [])", operands, "v₁ is₁", f"(uint-lawful 𝓤 H A W w64 .typed {index} _ is₁ .0)", local)
             self.say(f"rewrite ! {self.at(local, len(self.front))} (λ (w : Val). ‵ (fat fullShare (tyInt w64) l{local} 0 w)) (ap only (uint-tells w64 {index} _ is₁)) refl $")
         elif name == "row":
             self.bring(["table", "t:table"])
-            self.lend(self.table_read, "Row", "row", f"{table} {index} (is₁ .1)", f"Is R (rowAt ys {index}) (u ∷ [])", operands, "v₂ is₂", f"(lawful 𝓤 H A W .typed (rowAt ys {index}) _ is₂ .0)", local)
+            self.lend(self.table_read, "row", f"{table} {index} (is₁ .1)", f"Is R (rowAt ys {index}) (u ∷ [])", operands, "v₂ is₂", f"(lawful 𝓤 H A W .typed (rowAt ys {index}) _ is₂ .0)", local)
         elif name == "load":
             self.bring(["table", "t:table"])
-            self.lend(self.table_read, "Load", "load", table, "Is (Array R 6) (loaded ys) (u ∷ [])", operands, "v₅ is₅", "(array-lawful 𝓤 H A W R (lawful 𝓤 H A W) 6 .typed (loaded ys) _ is₅ .0)", local)
+            self.lend(self.table_read, "load", table, "Is (Array R 6) (loaded ys) (u ∷ [])", operands, "v₅ is₅", "(array-lawful 𝓤 H A W R (lawful 𝓤 H A W) 6 .typed (loaded ys) _ is₅ .0)", local)
         elif name == "copy_turn":
-            self.bring(["turn", "t:turn"])
-            i = sub(self.call.held - 1)
-            how = f"ref-read U.R b{i} o{i} κ{i} q{i} γ{i} h W" if self.call.turn == TURN_MUT else f"ref-shared U.R b{i} o{i} κ{i} q{i} γ{i} h W U.vals U.tells (U.copies 𝓤 H A W)"
-            self.lend(how, "CopyTurn", "copy", f"b{i} o{i} h", "Is U.R h (u ∷ [])", operands, "v₃ is₃", "(U.lawful 𝓤 H A W .typed h _ is₃ .0)", local)
+            self.copies_record("turn", "copy", "U", "h", "₃", operands, local)
+        elif name == "copy_counts":
+            self.copies_record("counts", "copied", "N", "c", "₇", operands, local)
         elif name == "put":
-            self.bring(["table", "t:table"])
-            how = f"slice-lent R b₀ o₀ κ₀ q₀ γ₀ ys W room₀ (set ys {index} (r .row)) (length-set ys {index} (r .row))"
-            self.lend(how, "Put", "put", f"{table} {index} (is₁ .1) (r .row) (D′.the-laws .1 .0 .val (T.the-type .to (r .row)))", "u ≡ vunit", operands, "w₁ e₁", "(unit-typed w₁ e₁)", local, " (fields .1 .0)")
+            after, row = f"(set ys {index} (r .row))", call.field("row")
+            self.writes_table("put", after, f"(length-set ys {index} (r .row))", f"{index} (is₁ .1) (r .row) (D′.the-laws{row} .val (T.the-type .to (r .row)))", operands, local, f" (fields{row})")
         elif name == "end":
-            self.bring(["table", "t:table"])
-            how = f"slice-lent R b₀ o₀ κ₀ q₀ γ₀ ys W room₀ (set ys {index} closed) (length-set ys {index} closed)"
-            self.lend(how, "End", "end", f"{table} {index} (is₁ .1)", "u ≡ vunit", operands, "w₁ e₁", "(unit-typed w₁ e₁)", local)
-        elif name == "store":
-            self.bring(["table", "t:table"])
-            how = f"slice-lent R b₀ o₀ κ₀ q₀ γ₀ ys W room₀ (stored (r .rows) ys) (stored-length {ALL} (r .rows) ys (is₄ .1 .0 .1))"
-            self.lend(how, "Store", "store", f"{table} (r .rows) v₄", "u ≡ vunit", operands, "w₁ e₁", "(unit-typed w₁ e₁)", local, " is₄")
+            self.writes_table("end", f"(set ys {index} closed)", f"(length-set ys {index} closed)", f"{index} (is₁ .1)", operands, local)
+        elif name == "set_stage":
+            row = f"(rowAt ys {index})"
+            asked = f"(record {{ ticket = {row} .ticket; stage = 1; snapshot = {row} .snapshot; writes = {row} .writes }})"
+            self.writes_table("stage", f"(set ys {index} {asked})", f"(length-set ys {index} {asked})", f"{index} (is₁ .1) 1 one-fits", operands, local)
+        elif name == "end_rows":
+            if call.name == "make":
+                self.writes_table("ended", "(endRows all-ended ys)", "(ended-length all-ended ys)", "all-ended all-ended-val", operands, local, " all-ended-is")
+            else:
+                ended = call.field("ended")
+                self.writes_table("ended", "(endRows (r .ended) ys)", "(ended-length (r .ended) ys)", f"(r .ended) (D′.the-laws{ended} .val (map (λ (b : Bool). b) (r .ended)))", operands, local, f" (is-marks (r .ended) _ (fields{ended}))")
+        elif name == "mark_rows":
+            self.writes_table("mark", "(map sendRow ys)", "(length-map ys sendRow)", "", operands, local)
         elif name == "set_turn":
-            self.bring(["turn", "t:turn"])
-            self.lend("ref-lent U.R b₁ o₁ κ₁ q₁ γ₁ h W (r .turn)", "SetTurn", "turn", "b₁ o₁ h (r .turn) (D′.the-laws .1 .0 .val (K.the-type .to (r .turn)))", "u ≡ vunit", operands, "w₂ e₂", "(unit-typed w₂ e₂)", local, " (fields .1 .0)")
-        elif name == self.call.function:
+            way = call.field("turn")
+            self.writes_record("turn", "turn", "U", "h", "(r .turn)", f"(r .turn) (D′.the-laws{way} .val (K.the-type .to (r .turn)))", operands, local, f" (fields{way})")
+        elif name == "set_counts":
+            way = call.field("counts")
+            self.writes_record("counts", "counts", "N", "c", "(r .counts)", f"(r .counts) (D′.the-laws{way} .val (Q.the-type .to (r .counts)))", operands, local, f" (fields{way})")
+        elif name in setters:
+            number, fits = self.given(operands[1])
+            helper = name[4:].replace("_", "-")
+            self.writes_record("counts", helper, "N", "c", f"({setters[name]} c {number})", f"{number} {fits}", operands, local)
+        elif name == call.function:
             self.by_value(operands, local)
         else:
-            raise SystemExit(f"walks: stemline_{self.call.name} calls {name}, which the script does not know")
+            raise SystemExit(f"walks: stemline_{call.name} calls {name}, which the script does not know")
 
     def wrong_table(self, then):
         """The table is not six rows: the answer is 1."""
@@ -217,47 +311,66 @@ class Walk(Names):
     def test(self, statement):
         """An early return, where the test holds."""
         local, _ = place(statement[1][1])
-        kept = set(self.full), list(self.front)
-        first = "-- the call by value" not in self.lines
-        self.say(f"when ! (load ! (from ! (stop !)) (look ! {self.at(local, len(self.front))} refl)) (λ {'other' if first else 'refused'}.")
-        if first:
+        kept = set(self.full), list(self.front), dict(self.now), self.long, list(self.tests)
+        if self.result_in is None:
+            self.say(f"when ! (load ! (from ! (stop !)) (look ! {self.at(local, len(self.front))} refl)) (λ other.")
             self.wrong_table(statement[2])
+            over, fails, shown = "six₀", "let six = equal (length ys) 6 six₀ in", []
         else:
-            self.assign(0, statement[2][1][2])
-            self.leave(self.end("ys", "(withdraw-kept ys ticket counts r six said (unequal (r .reply .number) 0 refused))", "refl") + ")", "returns-within ! Post refl")
-        self.full, self.front = kept
-        self.say("(λ six₀. let six = equal (length ys) 6 six₀ in" if first else "(λ taken.", 1)
+            number = "(r .number)" if self.call.reply == "u8" else "(r .reply .number)"
+            how, what = self.compared.pop(local, (None, None))
+            k = str(len(self.tests))
+            taken, over = "taken" + sub(k), "over" + sub(k)
+            says = {  # what the test says where it holds, and where it fails
+                "ne": (f"(unequal {number} {what} {taken})", f"(equal {number} {what} {over})"),
+                "eq": (f"(eqb→eq {number} {what} {taken})", f"(missed {number} {what} {over})"),
+                None: (taken, over),
+            }[how]
+            self.say(f"when ! (load ! (from ! (stop !)) (look ! {self.at(local, len(self.front))} refl)) (λ {taken}.")
+            self.tests.append(says[0])
+            open_before, self.open = self.open, 0
+            self.steps(statement[2], "returns-within ! Post refl")
+            self.lines[-1] += ")" * (self.open + 1)
+            self.open = open_before
+            fails, shown = "", [says[1]]
+        self.full, self.front, self.now, self.long, self.tests = kept
+        self.tests += shown
+        self.say(f"(λ {over}. {fails}".rstrip(), 1)
 
-    def end(self, table, did, long):
+    def returned(self):
+        """What is returned, that it is what the machine has, and the law that says why."""
+        call, way = self.call, self.ways.pop(0)
+        if call.name == "deliver":
+            return "r", "is", "said"
+        reply, shown = (reply_of(call), "is" if call.direct else "(fields .0)") if call.reply == "u8" else (reply_of(call), "is" if call.direct else self.reply_is)
+        if self.plain is not None:
+            reply, shown = self.plain, "(refl, omega arith)"
+        args = [self.var(i) for _, i in call.holds] + [self.var(i) for i in call.rest] + ["r"] + [self.last(i) for i in self.muts] + ["six", "said"] + self.tests
+        return reply, shown, f"({way} {' '.join(args)})"
+
+    def end(self):
         call = self.call
-        args = [f"({reply_of(call)})"] + [table] * (call.table == TABLE_MUT) + ["(r .turn)"] * (call.turn == TURN_MUT)
-        args += [self.last(i) for i in self.muts] + ["is" if call.direct else self.reply_is] + [long] * (call.table == TABLE_MUT) + [did]
+        reply, shown, did = self.returned()
+        args = [f"({reply})"] + [self.now[what] for what in call.changing] + [self.last(i) for i in self.muts] + [shown] + [self.long] * call.changes("table") + [did]
         return f"ends _ {' '.join(args)}"
 
-    def final(self):
-        call = self.call
-        if call.name == "deliver":
-            return self.end("", "said", "")
-        if call.name == "withdraw":
-            gone = f"(set ys {self.found} closed)"
-            return self.end(gone, "(withdraw-ended ys ticket counts r six said (equal (r .reply .number) 0 taken))", f"(length-set ys {self.found} closed)")
-        args = ["ys"] + ["h"] * (call.turn is not None) + [self.var(i) for i in call.rest] + ["r"] + [self.last(i) for i in self.muts]
-        did = f"({call.name}-did {' '.join(args)} six said)"
-        if call.result in ("Made", "Sent", "Worked"):
-            return self.end("(stored (r .rows) ys)", did, f"(stored-length {ALL} (r .rows) ys (is₄ .1 .0 .1))")
-        return self.end(f"(set ys {self.found} (r .row))", did, f"(length-set ys {self.found} (r .row))")
-
-    def text(self):
-        self.enter()
-        body = self.body
+    def steps(self, body, returns):
+        """The statements, to the return at their end."""
+        self.plain = None  # the number returned, where it is a plain one
         while body != "return":
             statement, body = body[1], body[2]
             if statement[0] == "if":
                 self.test(statement)
             elif statement[0] == "assign":
                 self.assign(place(statement[1])[0], statement[2])
+                if place(statement[1])[0] == 0:
+                    self.plain = statement[2][1][2] if statement[2][0] == "rvOpd" and statement[2][1][0] == "int" else None
             else:
                 self.call_to(statement[1][1][1].strip('"').split("::")[-1], items(statement[2]), place(statement[3])[0])
-        self.leave(self.final())
+        self.leave(self.end(), returns)
+
+    def text(self):
+        self.enter()
+        self.steps(self.body, "returns !")
         self.lines[-1] += ")" * self.open
         return "\n".join("        " + line for line in self.lines) + "\n"

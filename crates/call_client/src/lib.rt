@@ -11,7 +11,7 @@ ghost use Rattle.memory.specs.Memory.{Memory, bump, withReadOnly};
 ghost use Rattle.memory.specs.Rows.{closed, rowAt};
 ghost use Rattle.engine.specs.Client.{beginRow, valueFor, readRow, askRow, withdrawRow, reportStep};
 ghost use Rattle.call_reply.specs.Parts.{beginParts, readParts, askParts, withdrawParts, reportParts};
-ghost use Rattle.call_reply.specs.Replies.{Gives, reply, beginReply, readReply, askReply, reportReply};
+ghost use Rattle.call_reply.specs.Replies.{Gives, number, beginReply, readReply, askReply, reportReply};
 use call_reply::AskReply;
 use call_reply::Asked;
 use call_reply::BeginReply;
@@ -20,7 +20,6 @@ use call_reply::Changed;
 use call_reply::ReadReply;
 use call_reply::ReportReply;
 use call_reply::replies::no_read;
-use call_reply::replies::replied;
 use engine::Report;
 use memory::Counts;
 use memory::Turn;
@@ -36,14 +35,14 @@ use rows::free;
 pub mod rows;
 
 fn not_begun(number: u8, t: Txn, counts: Counts) -> Begun
-    ensures { λ r. ⌜ r ≡ record { reply = record { number = number; ticket = 0; counts = counts }; row = t } ⌝ }
+    ensures { λ r. ⌜ r ≡ record { reply = record { number = number; ticket = 0 }; counts = counts; row = t } ⌝ }
 {
     Begun {
         reply: BeginReply {
-            counts: counts,
             ticket: 0,
             number: number,
         },
+        counts: counts,
         row: t,
     }
 }
@@ -54,7 +53,7 @@ pub fn begin(at: usize, t: Txn, counts: Counts, values: &[i32], snapshots: &mut 
         Gives beginReply
         (beginRow (beginParts m table counts (now (values .entry)) (now (snapshots .entry))) at)
         (r .reply)
-        (beginParts m (set table at (r .row)) (r .reply .counts) (now (values .entry)) (now (snapshots .exit)))) ⌝ }
+        (beginParts m (set table at (r .row)) (r .counts) (now (values .entry)) (now (snapshots .exit)))) ⌝ }
 {
     if values.len() != 128 {
         return not_begun(1, t, counts);
@@ -75,10 +74,10 @@ pub fn begin(at: usize, t: Txn, counts: Counts, values: &[i32], snapshots: &mut 
     after.tickets = ticket;
     Begun {
         reply: BeginReply {
-            counts: after,
             ticket: ticket,
             number: 0,
         },
+        counts: after,
         row: Txn {
             ticket: ticket,
             stage: 0,
@@ -142,30 +141,30 @@ pub fn read(
 }
 
 fn not_asked(number: u8, t: Txn, counts: Counts) -> Asked
-    ensures { λ r. ⌜ r ≡ record { reply = record { number = number; «read_only» = false; counts = counts }; row = t } ⌝ }
+    ensures { λ r. ⌜ r ≡ record { reply = record { number = number; «read_only» = false }; counts = counts; row = t } ⌝ }
 {
     Asked {
         reply: AskReply {
-            counts: counts,
             number: number,
             read_only: false,
         },
+        counts: counts,
         row: t,
     }
 }
 
 // The row's transaction ends as read-only.
 fn read_only(counts: Counts) -> Asked
-    ensures { λ r. ⌜ r ≡ record { reply = record { number = 0; «read_only» = true; counts = withReadOnly counts (bump (counts .«read_only»)) }; row = closed } ⌝ }
+    ensures { λ r. ⌜ r ≡ record { reply = record { number = 0; «read_only» = true }; counts = withReadOnly counts (bump (counts .«read_only»)); row = closed } ⌝ }
 {
     let mut after = counts;
     after.read_only = bump(counts.read_only);
     Asked {
         reply: AskReply {
-            counts: after,
             number: 0,
             read_only: true,
         },
+        counts: after,
         row: free(),
     }
 }
@@ -176,7 +175,7 @@ pub fn ask(at: usize, t: Txn, counts: Counts, queue: &mut [u32]) -> Asked
         Gives askReply
         (askRow (askParts m counts table (now (queue .entry))) at)
         (r .reply)
-        (askParts m (r .reply .counts) (set table at (r .row)) (now (queue .exit)))) ⌝ }
+        (askParts m (r .counts) (set table at (r .row)) (now (queue .exit)))) ⌝ }
 {
     if queue.len() != 6 {
         return not_asked(1, t, counts);
@@ -196,10 +195,10 @@ pub fn ask(at: usize, t: Txn, counts: Counts, queue: &mut [u32]) -> Asked
     }
     Asked {
         reply: AskReply {
-            counts: counts,
             number: 0,
             read_only: false,
         },
+        counts: counts,
         row: Txn {
             ticket: t.ticket,
             stage: 1,
@@ -212,27 +211,30 @@ pub fn ask(at: usize, t: Txn, counts: Counts, queue: &mut [u32]) -> Asked
 // Ends an active transaction.
 pub fn withdraw(at: usize, t: Txn, counts: Counts) -> Changed
     ensures { λ r. ⌜ ((m : Memory) (table : List Txn) → t ≡ rowAt table at →
-        Gives reply
+        Gives number
         (withdrawRow (withdrawParts m counts table) at)
-        (r .reply)
-        (withdrawParts m (r .reply .counts) (set table at (r .row)))) ⌝ }
+        (r .number)
+        (withdrawParts m (r .counts) (set table at (r .row)))) ⌝ }
 {
     if 6 <= at {
         return Changed {
-            reply: replied(3, counts),
+            number: 3,
+            counts: counts,
             row: t,
         };
     }
     if t.stage != 0 {
         return Changed {
-            reply: replied(4, counts),
+            number: 4,
+            counts: counts,
             row: t,
         };
     }
     let mut after = counts;
     after.withdrawn = bump(counts.withdrawn);
     Changed {
-        reply: replied(0, after),
+        number: 0,
+        counts: after,
         row: free(),
     }
 }

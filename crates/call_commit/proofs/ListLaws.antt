@@ -1,33 +1,13 @@
 -- What the loops' laws share, over plain lists. Assumes nothing.
-use Prim.Native.Nat.{ℕ, _+_, _≤_, _<_, min}
+use Prim.Native.Nat.{ℕ, _+_, _≤_, min}
 use mathlib.Core.Path.{_≡_, sym, ap, _∙_}
-use mathlib.Core.Bool.{true, false}
 use mathlib.Core.List.{List}
 use native.Mathlib.Nat.{add-zero}
-use native.Mathlib.Numerals.{add-one}
 use native.Mathlib.Omega.{arith}
-use borrow.Author.Tests.{eq-eqb, ne-eqb}
 use lib.ListN.{length, getD, take, drop, length-take, drop-of-length-le}
-use lib.Seq.{slice, take-all, take-length, drop-cons, drop-drop, getD-drop}
+use lib.Seq.{slice, take-all, take-length, drop-drop, getD-drop}
 use Rattle.block.proofs.ListLaws.{lent, lent-slice}
-use Rattle.memory.specs.Rows.{has}
 use Rattle.engine.proofs.Tests.{less-by}
-
--- ---- a number among those from place i on
-
-module _ (l : List ℕ) (i : ℕ) where
-  module _ (h : i < length l) (x : ℕ) where
-    pub has-here : getD l i 0 ≡ x → has x (drop i l) ≡ true
-    unfolding has
-    has-here e = rw (drop-cons l i 0 h, eq-eqb (getD l i 0) x e)
-
-    pub has-later : (getD l i 0 ≡ x → ⊥) → has x (drop i l) ≡ has x (drop (i + 1) l)
-    unfolding has
-    has-later e = rw (drop-cons l i 0 h, ne-eqb (getD l i 0) x e, add-one i)
-
-  pub has-none : length l ≤ i → (x : ℕ) → has x (drop i l) ≡ false
-  unfolding has
-  has-none h x = rw (drop-of-length-le l h)
 
 -- ---- two lists that are the same from place i on
 

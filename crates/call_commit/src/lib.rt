@@ -1,21 +1,23 @@
 // Committing a writeset: its values and stamps, the rows that it aborts, and the queue without those. Each contract is in the words of engine's
-// `specs/Moves.antt`, on any bytes and any lengths.
+// `specs/Moves.antt`, on any bytes and any lengths; the marks are those of `specs/Marks.antt`.
 ghost use mathlib.Core.Path.{_≡_};
 ghost use Prim.Native.Nat.{_+_, _-_, _≤_, _<_, min};
 ghost use lib.ListN.{take, drop, replicate};
 ghost use Rattle.block.specs.Answers.{recordAt};
 ghost use Rattle.memory.specs.Rows.{has};
-ghost use Rattle.engine.specs.Moves.{writesetAt, applied, stamped, shares, isHit, afterAborts, insertRising, hitTickets, queueWithout};
+ghost use Rattle.engine.specs.Moves.{writesetAt, applied, stamped, shares, isHit, insertRising, hitTickets, queueWithout};
+ghost use Rattle.call_commit.specs.Marks.{hitMarks};
 use block_reader::entry_at;
 use block_reader::record_at;
 use memory::Txn;
 use memory::rows::clear_numbers;
+use memory::rows::holds;
 use memory::rows::lesser;
 use memory::rows::write_count;
 
-// The table without the rows aborted, and their tickets: the first `count`, rising, with zeros behind.
+// The marks of the rows aborted, and their tickets: the first `count`, rising, with zeros behind.
 pub struct Aborts {
-    pub table: [Txn; 6],
+    pub marks: [bool; 6],
     pub tickets: [u32; 6],
     pub count: usize,
 }
@@ -27,9 +29,10 @@ fn entry_count(block: &[u8], j: usize) -> usize
     write_count(record_at(block, j).writes as u32)
 }
 
-// Record j's values, each at its item; an item past the end changes nothing.
-pub fn apply_values(values: &mut [i32], block: &[u8], j: usize)
-    ensures { λ _. ⌜ now (values .exit) ≡ applied (writesetAt (now (block .entry)) j .entries) (now (values .entry)) ⌝ }
+// Record j's values and the commit count, each at its item; an item past the end changes nothing.
+pub fn apply(values: &mut [i32], stamps: &mut [u32], block: &[u8], j: usize, commits: u32)
+    ensures { λ _. ⌜ (let es = writesetAt (now (block .entry)) j .entries in
+        (now (values .exit) ≡ applied es (now (values .entry))) × (now (stamps .exit) ≡ stamped commits es (now (stamps .entry)))) ⌝ }
 {
     let n = entry_count(block, j);
     let mut e: usize = 0;
@@ -40,36 +43,11 @@ pub fn apply_values(values: &mut [i32], block: &[u8], j: usize)
         if item < values.len() {
             values[item] = value;
         }
-        e += 1;
-    }
-}
-
-// The commit count at each item of record j.
-pub fn apply_stamps(stamps: &mut [u32], block: &[u8], j: usize, commits: u32)
-    ensures { λ _. ⌜ now (stamps .exit) ≡ stamped commits (writesetAt (now (block .entry)) j .entries) (now (stamps .entry)) ⌝ }
-{
-    let n = entry_count(block, j);
-    let mut e: usize = 0;
-    while e < n {
-        let item = entry_at(block, j, e).item as usize;
         if item < stamps.len() {
             stamps[item] = commits;
         }
         e += 1;
     }
-}
-
-fn holds(items: &[u8], item: u8) -> bool
-    ensures { λ r. ⌜ r ≡ has item (now (items .entry)) ⌝ }
-{
-    let mut i: usize = 0;
-    while i < items.len() {
-        if items[i] == item {
-            return true;
-        }
-        i += 1;
-    }
-    false
 }
 
 // Whether record j has one of the items.
@@ -127,15 +105,15 @@ fn insert_rising(tickets: [u32; 6], n: usize, ticket: u32) -> [u32; 6]
     list
 }
 
-// The rows that record j hits are closed; from the last row to the first, as their tickets are listed.
+// The rows that record j hits; from the last row to the first, as their tickets are listed.
 pub fn abort_rows(table: [Txn; 6], items: &[u8], block: &[u8], j: usize) -> Aborts
     ensures { λ r. ⌜ (let es = writesetAt (now (block .entry)) j .entries in
-        (r .table ≡ afterAborts es (now (items .entry)) 0 table)
+        (r .marks ≡ hitMarks es (now (items .entry)) 0 table)
         × (take (r .count) (r .tickets) ≡ hitTickets es (now (items .entry)) 0 table)
         × (r .count ≤ 6)
         × (drop (r .count) (r .tickets) ≡ replicate (6 - r .count) 0)) ⌝ }
 {
-    let mut rows = table;
+    let mut marks = [false; 6];
     let mut tickets = [0u32; 6];
     let mut count: usize = 0;
     let mut r: usize = 6;
@@ -143,19 +121,14 @@ pub fn abort_rows(table: [Txn; 6], items: &[u8], block: &[u8], j: usize) -> Abor
         r -= 1;
         let t = table[r];
         if is_hit(t, r, items, block, j) {
-            rows[r] = Txn {
-                ticket: 0,
-                stage: 0,
-                snapshot: 0,
-                writes: 0,
-            };
+            marks[r] = true;
             let more = insert_rising(tickets, count, t.ticket);
             tickets = more;
             count += 1;
         }
     }
     Aborts {
-        table: rows,
+        marks: marks,
         tickets: tickets,
         count: count,
     }

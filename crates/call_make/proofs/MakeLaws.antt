@@ -12,6 +12,9 @@ use lib.Seq.{paste, take-all}
 use Rattle.block.specs.Answers.{firstOf}
 use Rattle.block.specs.Message.{within}
 use Rattle.block.proofs.BoolLaws.{both}
+use Rattle.memory.specs.declared.Counts.{Counts}
+use Rattle.memory.specs.declared.Turn.{Turn}
+use Rattle.memory.specs.declared.Txn.{Txn}
 use Rattle.memory.specs.Memory.{Memory}
 use Rattle.memory.specs.Rows.{closed}
 use Rattle.engine.proofs.Tests.{passes}
@@ -19,6 +22,7 @@ use Rattle.engine.specs.Calls.{outcome}
 use Rattle.engine.specs.Calls.Answer.{refused, made}
 use Rattle.engine.specs.Make.{turnZero, countsFor, madeMemory, placesFit, slicesFit, partsFit, makeRefusal, makeStep}
 use Rattle.call_reply.specs.Parts.{allParts}
+use Rattle.call_make.specs.Made.{ifMade}
 
 pub record Long (m : Memory) : Type 0 where
   pub queue : length (m .txns .queue) ≡ 6
@@ -122,10 +126,18 @@ given m n own values e =
       own-low = leb-false n own (r .1);
     }
 
+pub if-refused : {A : Type 0} (k : ℕ) (new old : A) → (k ≡ 0 → ⊥) → old ≡ ifMade k new old
+if-refused k new old h = rw (ne-eqb k 0 h)
+
 module _ (m : Memory) (n own : ℕ) (values : List ℤ) (k : ℕ) (number : k ≡ makeRefusal m n own values) where
-  pub make-refused : (k ≡ 0 → ⊥) → outcome (refused k) m ≡ makeStep m n own values
+  -- whatever turn, counts and table the number comes with
+  pub make-refused : (k ≡ 0 → ⊥) → (turn : Turn) (counts : Counts) (rows : List Txn)
+      → outcome (refused k)
+      (allParts (ifMade k turn (m .turn)) (ifMade k counts (m .counts)) (ifMade k rows (m .txns .table)) (m .txns .queue) (m .txns .items) (m .txns .writes) (m .txns .snapshots)
+      (m .store .values) (m .store .stamps) (m .blocks .places) (m .blocks .outbox))
+      ≡ makeStep m n own values
   unfolding makeStep
-  make-refused h = rw (← number, ne-eqb k 0 h)
+  make-refused h turn counts rows = rw (← number, ne-eqb k 0 h)
 
   -- what the functions that clear and copy leave of the lent slices
   pub make-taken : k ≡ 0 → (q i : List ℕ) (w s v : List ℤ) (t p o : List ℕ)

@@ -7,65 +7,45 @@ ghost use lib.Dec.{eqb};
 ghost use lib.IntN.{ℤ};
 ghost use lib.ListN.{length, replicate};
 ghost use Rattle.block.specs.Message.{within};
+ghost use Rattle.memory.specs.declared.Counts.{Counts};
+ghost use Rattle.memory.specs.declared.Turn.{Turn};
+ghost use Rattle.memory.specs.declared.Txn.{Txn};
 ghost use Rattle.memory.specs.Memory.{Memory};
 ghost use Rattle.memory.specs.Rows.{closed};
 ghost use Rattle.engine.specs.Make.{turnZero, countsFor, placesFit, slicesFit, makeRefusal, makeStep};
 ghost use Rattle.call_reply.specs.Parts.{allParts};
-ghost use Rattle.call_reply.specs.Replies.{reply, Gives};
+ghost use Rattle.call_reply.specs.Replies.{Gives, number};
+ghost use Rattle.call_make.specs.Made.{ifMade};
 use call_reply::Made;
-use call_reply::Reply;
 use memory::Counts;
 use memory::Turn;
-use memory::Txn;
 use memory::rows::clear_bytes;
 use memory::rows::clear_numbers;
 use memory::rows::clear_values;
 use memory::rows::copy_values;
 
-// A refused make: turn, counts and rows as they were.
-fn refused(number: u8, turn: Turn, counts: Counts, rows: [Txn; 6]) -> Made
-    ensures { λ r. ⌜ r ≡ record { reply = record { number = number; counts = counts }; turn = turn; rows = rows } ⌝ }
+// The number, and turn and counts of a replica with no call behind it.
+fn answer(number: u8, replicas: u8, own: u8) -> Made
+    ensures { λ r. ⌜ r ≡ record { number = number; turn = turnZero; counts = countsFor replicas own } ⌝ }
 {
     Made {
-        reply: Reply {
-            counts: counts,
-            number: number,
-        },
-        turn: turn,
-        rows: rows,
-    }
-}
-
-// The turn, counts and rows of a replica with no call behind it.
-fn fresh(replicas: u8, own: u8) -> Made
-    ensures { λ r. ⌜ r ≡ record { reply = record { number = 0; counts = countsFor replicas own }; turn = turnZero; rows = replicate 6 closed } ⌝ }
-{
-    Made {
-        reply: Reply {
-            counts: Counts {
-                replicas: replicas,
-                own: own,
-                commits: 0,
-                done: 0,
-                tickets: 0,
-                committed: 0,
-                read_only: 0,
-                aborted: 0,
-                withdrawn: 0,
-            },
-            number: 0,
-        },
+        number: number,
         turn: Turn {
             slot: 0,
             sent: 0,
             applying: 0,
         },
-        rows: [Txn {
-            ticket: 0,
-            stage: 0,
-            snapshot: 0,
-            writes: 0,
-        }; 6],
+        counts: Counts {
+            replicas: replicas,
+            own: own,
+            commits: 0,
+            done: 0,
+            tickets: 0,
+            committed: 0,
+            read_only: 0,
+            aborted: 0,
+            withdrawn: 0,
+        },
     }
 }
 
@@ -148,11 +128,9 @@ fn refusal(n: u32, own: u32, start: usize, parts: bool, places: bool) -> u8
     0
 }
 
-// N, the replica's own number and 128 starting values; the slices lent become its parts.
+// N, the replica's own number and 128 starting values; the slices lent become its parts. Turn, counts and table are the caller's to store: whatever they were, those of a
+// replica just made take their place, with six free rows, unless the make is refused; then they stay.
 pub fn make(
-    rows: [Txn; 6],
-    turn: Turn,
-    counts: Counts,
     n: u32,
     own: u32,
     start: &[i32],
@@ -165,14 +143,18 @@ pub fn make(
     places: &mut [u8],
     outbox: &mut [u8],
 ) -> Made
-    ensures { λ r. ⌜ Gives reply
+    ensures { λ r. ⌜ ((turn : Turn) (counts : Counts) (rows : List Txn) →
+        Gives number
         (makeStep
         (allParts turn counts rows (now (queue .entry)) (now (items .entry)) (now (writes .entry)) (now (snapshots .entry))
         (now (values .entry)) (now (stamps .entry)) (now (places .entry)) (now (outbox .entry)))
         n own (now (start .entry)))
-        (r .reply)
-        (allParts (r .turn) (r .reply .counts) (r .rows) (now (queue .exit)) (now (items .exit)) (now (writes .exit)) (now (snapshots .exit))
-        (now (values .exit)) (now (stamps .exit)) (now (places .exit)) (now (outbox .exit))) ⌝ }
+        (r .number)
+        (allParts (ifMade (r .number) (r .turn) turn) (ifMade (r .number) (r .counts) counts) (ifMade (r .number) (replicate 6 closed) rows)
+        (now (queue .exit)) (now (items .exit)) (now (writes .exit)) (now (snapshots .exit))
+        (now (values .exit)) (now (stamps .exit)) (now (places .exit)) (now (outbox .exit))))
+        × (r .turn ≡ turnZero)
+        × (r .counts ≡ ifMade (r .number) (countsFor n own) (countsFor 0 0)) ⌝ }
 {
     let parts = parts_fit(
         queue.len(),
@@ -186,7 +168,7 @@ pub fn make(
     let room = places_fit(places.len(), n);
     let number = refusal(n, own, start.len(), parts, room);
     if number != 0 {
-        return refused(number, turn, counts, rows);
+        return answer(number, 0, 0);
     }
     clear_numbers(&mut *queue);
     clear_bytes(&mut *items);
@@ -196,5 +178,5 @@ pub fn make(
     clear_numbers(&mut *stamps);
     clear_bytes(&mut *places);
     clear_bytes(&mut *outbox);
-    fresh(n as u8, own as u8)
+    answer(0, n as u8, own as u8)
 }

@@ -9,7 +9,6 @@ use Rattle.memory.specs.Memory.{Memory}
 use Rattle.engine.specs.declared.Report.{Report}
 use Rattle.engine.specs.Calls.{Step, Answer, numberOf, Outcome}
 use Rattle.engine.specs.Calls.Answer.{refused, made, began, got, wrote, queued, readOnly, withdrew, reported, sent, kept, worked, restarted}
-use Rattle.call_reply.specs.declared.Reply.{Reply}
 use Rattle.call_reply.specs.declared.BeginReply.{BeginReply}
 use Rattle.call_reply.specs.declared.ReadReply.{ReadReply}
 use Rattle.call_reply.specs.declared.AskReply.{AskReply}
@@ -105,17 +104,14 @@ stepIn (restarted c b) = noStep
 abbrev pub number : Outcome → ℕ
 number o = numberOf (o .answer)
 
-abbrev pub reply : Outcome → Reply
-reply o = record { number = number o; counts = o .memory .counts }
-
 abbrev pub beginReply : Outcome → BeginReply
-beginReply o = record { number = number o; ticket = ticketIn (o .answer); counts = o .memory .counts }
+beginReply o = record { number = number o; ticket = ticketIn (o .answer) }
 
 abbrev pub readReply : Outcome → ReadReply
 readReply o = record { number = number o; value = valueIn (o .answer) }
 
 abbrev pub askReply : Outcome → AskReply
-askReply o = record { number = number o; «read_only» = isReadOnly (o .answer); counts = o .memory .counts }
+askReply o = record { number = number o; «read_only» = isReadOnly (o .answer) }
 
 abbrev pub reportReply : Outcome → ReportReply
 reportReply o = record { number = number o; report = reportIn (o .answer) }
@@ -134,7 +130,6 @@ workReply o =
       count = length (s .aborted);
       ticket = s .ticket;
       aborted = sixOf (s .aborted);
-      counts = o .memory .counts;
     }
 
 -- ---- what a contract says

@@ -6,20 +6,11 @@ use memory::Txn;
 
 pub mod replies;
 
-// The replica's numbers after the call, and document 01's number, 0 where it is accepted; so in the replies below. The counts stand first, but in a work's: behind a byte
-// and padding their copy would wait for bytes just written.
-#[repr(C)]
-pub struct Reply {
-    pub counts: Counts,
-    pub number: u8,
-}
-
-// The ticket is 0 where the begin is refused.
+// In each reply document 01's number, 0 where the call is accepted. The ticket is 0 where the begin is refused.
 #[repr(C)]
 pub struct BeginReply {
-    pub counts: Counts,
-    pub ticket: u32,
     pub number: u8,
+    pub ticket: u32,
 }
 
 // The value is 0 where the read is refused.
@@ -32,7 +23,6 @@ pub struct ReadReply {
 // Whether the transaction was read-only, and so ended on the spot.
 #[repr(C)]
 pub struct AskReply {
-    pub counts: Counts,
     pub number: u8,
     pub read_only: bool,
 }
@@ -53,40 +43,45 @@ pub struct WorkReply {
     pub count: u8,
     pub ticket: u32,
     pub aborted: [u32; 6],
-    pub counts: Counts,
 }
 
-// A reply, and the record of the transaction's row after the call.
+// The answer, and the counts and the record of the transaction's row after the call.
 pub struct Changed {
-    pub reply: Reply,
+    pub number: u8,
+    pub counts: Counts,
     pub row: Txn,
 }
 
 pub struct Begun {
     pub reply: BeginReply,
+    pub counts: Counts,
     pub row: Txn,
 }
 
 pub struct Asked {
     pub reply: AskReply,
+    pub counts: Counts,
     pub row: Txn,
 }
 
-// A reply, and the turn and all rows after the call.
+// The answer, and turn and counts of a replica just made; of a refused make nothing is stored.
 pub struct Made {
-    pub reply: Reply,
+    pub number: u8,
     pub turn: Turn,
-    pub rows: [Txn; 6],
+    pub counts: Counts,
 }
 
+// The answer, and the turn and all rows after the call.
 pub struct Sent {
     pub number: u8,
     pub turn: Turn,
     pub rows: [Txn; 6],
 }
 
+// The answer, the turn and the counts after the call, and which rows it ended.
 pub struct Worked {
     pub reply: WorkReply,
     pub turn: Turn,
-    pub rows: [Txn; 6],
+    pub counts: Counts,
+    pub ended: [bool; 6],
 }

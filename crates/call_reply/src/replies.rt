@@ -1,4 +1,4 @@
-// What a refused call is answered; and the reply of a call that gives nothing.
+// What a refused call is answered.
 ghost use mathlib.Core.Path.{_≡_};
 ghost use mathlib.Core.Bool.{false};
 ghost use lib.IntN.{pos};
@@ -7,28 +7,16 @@ ghost use Rattle.call_reply.specs.Replies.{noReport};
 use super::AskReply;
 use super::BeginReply;
 use super::ReadReply;
-use super::Reply;
 use super::ReportReply;
 use super::WorkReply;
 use engine::Report;
-use memory::Counts;
 
-pub fn replied(number: u8, counts: Counts) -> Reply
-    ensures { λ r. ⌜ r ≡ record { number = number; counts = counts } ⌝ }
-{
-    Reply {
-        number: number,
-        counts: counts,
-    }
-}
-
-pub fn no_begin(number: u8, counts: Counts) -> BeginReply
-    ensures { λ r. ⌜ r ≡ record { number = number; ticket = 0; counts = counts } ⌝ }
+pub fn no_begin(number: u8) -> BeginReply
+    ensures { λ r. ⌜ r ≡ record { number = number; ticket = 0 } ⌝ }
 {
     BeginReply {
         number: number,
         ticket: 0,
-        counts: counts,
     }
 }
 
@@ -41,13 +29,12 @@ pub fn no_read(number: u8) -> ReadReply
     }
 }
 
-pub fn no_ask(number: u8, counts: Counts) -> AskReply
-    ensures { λ r. ⌜ r ≡ record { number = number; «read_only» = false; counts = counts } ⌝ }
+pub fn no_ask(number: u8) -> AskReply
+    ensures { λ r. ⌜ r ≡ record { number = number; «read_only» = false } ⌝ }
 {
     AskReply {
         number: number,
         read_only: false,
-        counts: counts,
     }
 }
 
@@ -69,8 +56,8 @@ pub fn no_report(number: u8) -> ReportReply
     }
 }
 
-pub fn no_work(number: u8, counts: Counts) -> WorkReply
-    ensures { λ r. ⌜ r ≡ record { number = number; sender = 0; moved = false; count = 0; ticket = 0; aborted = replicate 6 0; counts = counts } ⌝ }
+pub fn no_work(number: u8) -> WorkReply
+    ensures { λ r. ⌜ r ≡ record { number = number; sender = 0; moved = false; count = 0; ticket = 0; aborted = replicate 6 0 } ⌝ }
 {
     WorkReply {
         number: number,
@@ -79,6 +66,5 @@ pub fn no_work(number: u8, counts: Counts) -> WorkReply
         count: 0,
         ticket: 0,
         aborted: [0; 6],
-        counts: counts,
     }
 }

@@ -2,14 +2,15 @@
 use Prim.Native.Nat.{ℕ, _+_, _*_, _-_, _≤_, _<_, min}
 use mathlib.Core.Path.{_≡_, refl, sym, ap, _∙_}
 use mathlib.Core.Bool.{Bool, true, false, cond, not, _&&_}
-use mathlib.Core.List.{List, [], _++_}
+use mathlib.Core.Logic.{_⊎_, ⊎-elim}
+use mathlib.Core.List.{List, [], _∷_, _++_, append-nil}
 use native.Mathlib.Nat.{add-zero}
 use native.Mathlib.Omega.{arith}
 use borrow.Author.Tests.{eq-eqb, ne-eqb, eqb-true, eqb-false, not-false}
 use lib.Dec.{eqb, leb}
 use lib.IntN.{ℤ}
 use lib.ListN.{length, getD, set, take, drop, replicate, take-append-drop, List·getD-eq-default}
-use lib.Seq.{slice, length-take-le}
+use lib.Seq.{slice, set-out, length-take-le}
 use Rattle.block.specs.Answers.{firstOf, recordAt}
 use Rattle.block.specs.Message.{Record}
 use Rattle.block.proofs.BoolLaws.{both}
@@ -18,7 +19,7 @@ use Rattle.memory.specs.declared.Counts.{Counts}
 use Rattle.memory.specs.declared.Turn.{Turn}
 use Rattle.memory.specs.declared.Txn.{Txn}
 use Rattle.memory.specs.Memory.{Memory, bump, withDone, withCommit, withTurn}
-use Rattle.memory.specs.Rows.{closed, rowOf}
+use Rattle.memory.specs.Rows.{closed, rowOf, endRows, has}
 use Rattle.memory.specs.Turns.{markApplying, advance, placeStart}
 use Rattle.engine.proofs.Passed.{work-passed}
 use Rattle.engine.proofs.PlaceLaws.{place-fits}
@@ -27,11 +28,13 @@ use Rattle.engine.proofs.Tests.{less-by, passes}
 use Rattle.engine.specs.Calls.{Outcome, outcome}
 use Rattle.engine.specs.Calls.Outcome.{memory}
 use Rattle.engine.specs.Calls.Answer.{refused, worked}
-use Rattle.engine.specs.Moves.{workLent, workRefusal, isSent, blockAtTurn, writesetAt, applied, stamped, afterAborts, hitTickets, queueWithout, isLast, appending, passNext, commitWriteset, workStep}
+use Rattle.engine.specs.Moves.{workLent, workRefusal, isSent, blockAtTurn, writesetAt, applied, stamped, hitTickets, without, queueWithout, isLast, appending, passNext, commitWriteset, workStep}
+use Rattle.call_commit.specs.Marks.{hitMarks}
+use Rattle.call_commit.proofs.EndLaws.{end-none, end-mark, end-hit}
 use Rattle.call_reply.specs.Parts.{workParts}
 use Rattle.call_reply.specs.Replies.{workReply, Gives}
 use Rattle.call_work.specs.declared.Ended.{Ended}
-use Rattle.call_work.specs.Writesets.{endedOf, queueLeft}
+use Rattle.call_work.specs.Writesets.{noMarks, endedMarks, endedOf, queueLeft}
 
 -- what an outcome gives, the same outcome by another name gives
 pub same-gives : {R : Type 0} (of : Outcome → R) {p o : Outcome} → p ≡ o → {r : R} {left : Memory} → Gives of p r left → Gives of o r left
@@ -94,6 +97,10 @@ module _ (m : Memory) where
     unfolding workStep
     work-refused h = rw (← number, ne-eqb n 0 h)
 
+    pub marks-refused : (n ≡ 0 → ⊥) → noMarks ≡ endedMarks m
+    unfolding endedMarks
+    marks-refused h = rw (← number, ne-eqb n 0 h)
+
     module _ (none : n ≡ 0) (at : ℕ) (start : at ≡ placeStart (m .counts .replicas) (m .turn .slot)) where
       -- the block at the turn lies in the places
       pub work-room : at + 512 ≤ length (m .blocks .places)
@@ -112,6 +119,17 @@ module _ (m : Memory) where
       unfolding workStep
       work-writeset h = rw (← number, none, ← start, first-byte (m .blocks .places) at, ne-eqb (getD (m .blocks .places) at 0) 1 h)
 
+      pub marks-next : getD (m .blocks .places) at 0 ≡ 1 → noMarks ≡ endedMarks m
+      unfolding endedMarks
+      marks-next h = rw (← number, none, ← start, first-byte (m .blocks .places) at, eq-eqb (getD (m .blocks .places) at 0) 1 h)
+
+      pub marks-writeset : (getD (m .blocks .places) at 0 ≡ 1 → ⊥) →
+          let block = slice at (at + 512) (m .blocks .places) in
+          (e : Ended) → e ≡ endedOf (eqb (getD block 1 0) (m .counts .own)) (writesetAt block (m .counts .done)) (m .turn) (m .counts) (m .txns .table) (m .txns .items)
+          → e .marks ≡ endedMarks m
+      unfolding endedMarks endedOf
+      marks-writeset h e ee = rw (ee, ← number, none, ← start, first-byte (m .blocks .places) at, ne-eqb (getD (m .blocks .places) at 0) 1 h)
+
 -- a *next*: t is the turn after it
 pub next-passed : (m : Memory) (at : ℕ) → at ≡ placeStart (m .counts .replicas) (m .turn .slot) → (t : Turn) → t ≡ advance (m .turn)
     → outcome (worked (record { sender = getD (m .blocks .places) (at + 1) 0; ticket = 0; moved = true; aborted = []; append = appending m true }))
@@ -122,6 +140,21 @@ next-passed m at start t e = rw (e, ← at-place (m .blocks .places) at 1 (omega
 
 -- ---- a writeset
 
+-- the row of a ticket, marked and ended; one past the last is none
+own-rows : (rows : List Txn) (k : ℕ) → length rows ≡ 6 → endRows (set noMarks k true) rows ≡ set rows k closed
+own-rows rows k six =
+    less-by k 6
+    (λ h. end-mark noMarks rows k h ∙ rw (end-none 6 rows))
+    (λ h. rw (set-out noMarks k true h, end-none 6 rows) (sym (set-out rows k closed (omega arith))))
+
+without-none : (l : List ℕ) → without [] l ≡ l
+unfolding without has
+without-none [] = refl
+without-none (t ∷ l) = rw (without-none l)
+
+queue-all : (queue : List ℕ) → queueWithout [] queue ≡ queue
+queue-all queue = let z : length queue - length queue ≡ 0 = omega arith in rw (without-none queue, z) (append-nil queue)
+
 module _ (w : Record) (turn : Turn) (counts : Counts) (rows : List Txn) (items : List ℕ) where
   pub own-ended : counts .aborted ≤ 4_294_967_295
       → _≡_ {A = Ended}
@@ -129,7 +162,7 @@ module _ (w : Record) (turn : Turn) (counts : Counts) (rows : List Txn) (items :
         ticket = w .ticket;
         turn = turn;
         counts = withCommit counts (bump (counts .commits)) (bump (counts .committed)) (counts .aborted);
-        rows = set rows (rowOf (w .ticket) rows) closed;
+        marks = set noMarks (rowOf (w .ticket) rows) true;
         aborted = replicate 6 0;
         count = 0;
       })
@@ -140,22 +173,24 @@ module _ (w : Record) (turn : Turn) (counts : Counts) (rows : List Txn) (items :
   -- the first n of the tickets are those of the rows hit
   module _ (tickets : List ℕ) (n : ℕ) (few : n ≤ 6) (hit : take n tickets ≡ hitTickets (w .entries) items 0 rows) where
     pub other-ended : length tickets ≡ 6 → drop n tickets ≡ replicate (6 - n) 0
-        → (t : List Txn) (commits aborted : ℕ) → t ≡ afterAborts (w .entries) items 0 rows → commits ≡ bump (counts .commits) → aborted ≡ min (counts .aborted + n) 4_294_967_295
+        → (marks : List Bool) → marks ≡ hitMarks (w .entries) items 0 rows → (commits aborted : ℕ) → commits ≡ bump (counts .commits) → aborted ≡ min (counts .aborted + n) 4_294_967_295
         → _≡_ {A = Ended}
-        (record { ticket = w .ticket; turn = markApplying turn; counts = withCommit counts commits (counts .committed) aborted; rows = t; aborted = tickets; count = n })
+        (record { ticket = w .ticket; turn = markApplying turn; counts = withCommit counts commits (counts .committed) aborted; marks = marks; aborted = tickets; count = n })
         (endedOf false w turn counts rows items)
     unfolding endedOf
-    other-ended six zeros t commits aborted et ec ea =
+    other-ended six zeros marks em commits aborted ec ea =
         let l : length (hitTickets (w .entries) items 0 rows) ≡ n = ap length (sym hit) ∙ length-take-le n tickets (omega arith) in
         let s : hitTickets (w .entries) items 0 rows ++ replicate (6 - n) 0 ≡ tickets = rw (← hit, ← zeros) (take-append-drop n tickets) in
-        rw (et, ec, ea, l, s)
+        rw (em, ec, ea, l, s)
 
-    pub other-queue : (q queue : List ℕ) → q ≡ queueWithout (take (min n 6) tickets) queue → q ≡ queueLeft false w rows items queue
-    other-queue q queue e =
-        let k : min n 6 ≡ n = omega arith in
-        e ∙ rw (k, hit)
+    -- where no row is hit the queue is left as it is
+    pub other-queue : (q queue : List ℕ) → (q ≡ queueWithout (take (min n 6) tickets) queue) ⊎ ((n ≡ 0) × (q ≡ queue)) → q ≡ queueLeft false w rows items queue
+    other-queue q queue =
+        ⊎-elim
+        (λ e. let k : min n 6 ≡ n = omega arith in e ∙ rw (k, hit))
+        (λ e. e .1 ∙ sym (queue-all queue) ∙ rw (← hit, e .0))
 
-module _ (m : Memory) (turn : Turn) (counts : Counts) (rows : List Txn) (queue items : List ℕ) (values : List ℤ) (stamps places : List ℕ) where
+module _ (m : Memory) (turn : Turn) (counts : Counts) (rows : List Txn) (queue items : List ℕ) (values : List ℤ) (stamps places : List ℕ) (six : length rows ≡ 6) where
   abbrev before : Memory
   before = workParts m turn counts rows queue items values stamps places
 
@@ -163,8 +198,8 @@ module _ (m : Memory) (turn : Turn) (counts : Counts) (rows : List Txn) (queue i
   abbrev Left : Outcome → Ended → Bool → ℕ → List ℕ → List ℤ → List ℕ → Turn → Counts → List ℕ → Type 0
   Left o e last sender q v s t c p =
       Gives workReply o
-      (record { number = 0; sender = sender; moved = last; count = e .count; ticket = e .ticket; aborted = e .aborted; counts = c })
-      (workParts m t c (e .rows) q items v s p)
+      (record { number = 0; sender = sender; moved = last; count = e .count; ticket = e .ticket; aborted = e .aborted })
+      (workParts m t c (endRows (e .marks) rows) q items v s p)
 
   by-cases : (mine last : Bool) (w : Record) →
       let e = endedOf mine w turn counts rows items in
@@ -176,10 +211,10 @@ module _ (m : Memory) (turn : Turn) (counts : Counts) (rows : List Txn) (queue i
       (cond last (advance (e .turn)) (e .turn)) (withDone (e .counts) (cond last 0 (e .counts .done + 1)))
       (cond last (set places (placeStart (counts .replicas) (turn .slot)) 0) places)
   unfolding endedOf
-  by-cases true true w = (refl, refl)
-  by-cases true false w = (refl, refl)
-  by-cases false true w = (refl, refl)
-  by-cases false false w = (refl, refl)
+  by-cases true true w = (refl, rw (own-rows rows (rowOf (w .ticket) rows) six))
+  by-cases true false w = (refl, rw (own-rows rows (rowOf (w .ticket) rows) six))
+  by-cases false true w = (refl, rw (end-hit (w .entries) items 0 rows))
+  by-cases false false w = (refl, rw (end-hit (w .entries) items 0 rows))
 
   -- e, q, v, s, p: the writeset's end, and what queue, values, stamps and places became
   pub writeset-committed : (at : ℕ) → at ≡ placeStart (counts .replicas) (turn .slot) →

@@ -1,44 +1,25 @@
 // A writeset's end: the transactions that it ends, its values and its stamps.
 ghost use mathlib.Core.Path.{_≡_};
-ghost use mathlib.Core.Bool.{false};
+ghost use mathlib.Core.Bool.{true, false};
 ghost use Prim.Native.Nat.{_+_, min};
 ghost use lib.Dec.{eqb};
 ghost use lib.ListN.{getD, set, replicate};
 ghost use Rattle.block.specs.Answers.{recordAt};
 ghost use Rattle.memory.specs.Memory.{bump, withCommit};
-ghost use Rattle.memory.specs.Rows.{closed, rowOf};
+ghost use Rattle.memory.specs.Rows.{rowOf};
 ghost use Rattle.engine.specs.Moves.{writesetAt, applied, stamped};
-ghost use Rattle.call_work.specs.Writesets.{endedOf, queueLeft};
+ghost use Rattle.call_work.specs.Writesets.{noMarks, endedOf, queueLeft};
 use super::Ended;
 use super::byte_at;
 use block_reader::record_at;
 use call_commit::abort_rows;
-use call_commit::apply_stamps;
-use call_commit::apply_values;
+use call_commit::apply;
 use call_commit::queue_without;
 use memory::Counts;
 use memory::Turn;
 use memory::Txn;
 use memory::rows::bump;
 use memory::rows::row_of;
-
-// The rows with the ticket's row free.
-fn without_ticket(rows: [Txn; 6], ticket: u32) -> [Txn; 6]
-    ensures { λ r. ⌜ r ≡ set rows (rowOf ticket rows) closed ⌝ }
-{
-    let row = row_of(rows, ticket);
-    if 6 <= row {
-        return rows;
-    }
-    let mut after = rows;
-    after[row] = Txn {
-        ticket: 0,
-        stage: 0,
-        snapshot: 0,
-        writes: 0,
-    };
-    after
-}
 
 // The sum, or the type's limit.
 fn add(n: u32, more: u32) -> u32
@@ -50,14 +31,14 @@ fn add(n: u32, more: u32) -> u32
     4294967295
 }
 
-// The replica's own writeset: its transaction ends as committed.
+// The replica's own writeset: its transaction ends as committed; a row past the last has no mark.
 fn end_own(ticket: u32, rows: [Txn; 6], turn: Turn, counts: Counts) -> Ended
     ensures { λ r. ⌜ r
         ≡ record {
           ticket = ticket;
           turn = turn;
           counts = withCommit counts (bump (counts .commits)) (bump (counts .committed)) (counts .aborted);
-          rows = set rows (rowOf ticket rows) closed;
+          marks = set noMarks (rowOf ticket rows) true;
           aborted = replicate 6 0;
           count = 0;
         } ⌝ }
@@ -65,11 +46,16 @@ fn end_own(ticket: u32, rows: [Txn; 6], turn: Turn, counts: Counts) -> Ended
     let mut after = counts;
     after.commits = bump(counts.commits);
     after.committed = bump(counts.committed);
+    let mut marks = [false; 6];
+    let row = row_of(rows, ticket);
+    if row < 6 {
+        marks[row] = true;
+    }
     Ended {
         ticket: ticket,
         turn: turn,
         counts: after,
-        rows: without_ticket(rows, ticket),
+        marks: marks,
         aborted: [0; 6],
         count: 0,
     }
@@ -92,9 +78,11 @@ fn end_other(
 {
     let hit = abort_rows(rows, items, block, j);
     let tickets = hit.tickets;
-    let left = hit.table;
+    let marks = hit.marks;
     let n = hit.count;
-    queue_without(&mut *queue, tickets, n);
+    if n != 0 {
+        queue_without(&mut *queue, tickets, n);
+    }
     let mut after = counts;
     after.commits = bump(counts.commits);
     after.aborted = add(counts.aborted, n as u32);
@@ -106,14 +94,14 @@ fn end_other(
             applying: 1,
         },
         counts: after,
-        rows: left,
+        marks: marks,
         aborted: tickets,
         count: n as u8,
     }
 }
 
 // What a writeset ends among the transactions, by its sender.
-fn end_rows(
+fn end_transactions(
     mine: bool,
     ticket: u32,
     rows: [Txn; 6],
@@ -156,7 +144,7 @@ pub fn end_writeset(
     let sender = byte_at(block, 1);
     let mine = sender == counts.own;
     let ticket = record_at(block, j).ticket;
-    let ended = end_rows(
+    let ended = end_transactions(
         mine,
         ticket,
         rows,
@@ -168,7 +156,6 @@ pub fn end_writeset(
         j,
     );
     let after = ended.counts;
-    apply_values(&mut *values, block, j);
-    apply_stamps(&mut *stamps, block, j, after.commits);
+    apply(&mut *values, &mut *stamps, block, j, after.commits);
     ended
 }

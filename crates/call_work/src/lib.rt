@@ -5,12 +5,12 @@ ghost use Prim.Native.Nat.{_+_, _*_, _≤_};
 ghost use lib.Dec.{eqb, ltb, leb};
 ghost use lib.ListN.{length, getD, set, replicate};
 ghost use Rattle.memory.specs.Memory.{Memory, withDone};
-ghost use Rattle.memory.specs.Rows.{rowOf, rowAt};
+ghost use Rattle.memory.specs.Rows.{rowOf, rowAt, endRows};
 ghost use Rattle.memory.specs.Turns.{advance, placeStart};
 ghost use Rattle.engine.specs.Moves.{workLent, workRefusal, passNext, workStep};
 ghost use Rattle.call_reply.specs.Parts.{workParts};
 ghost use Rattle.call_reply.specs.Replies.{workReply, Gives};
-ghost use Rattle.call_work.specs.Writesets.{turnParts};
+ghost use Rattle.call_work.specs.Writesets.{turnParts, noMarks, endedMarks};
 use block_reader::record_at;
 use call_reply::WorkReply;
 use call_reply::Worked;
@@ -24,14 +24,15 @@ use memory::rows::row_of;
 
 mod ending;
 
-// What a writeset leaves of turn, counts and rows; its ticket, and the tickets that it aborted.
+// What a writeset leaves of turn and counts, and the marks of the rows ended; its ticket, and the tickets that it aborted. The tickets stand first: behind
+// six bytes of marks a copy of them would begin in padding, and read bytes just written in another width.
 struct Ended {
-    ticket: u32,
-    turn: Turn,
-    counts: Counts,
-    rows: [Txn; 6],
     aborted: [u32; 6],
+    ticket: u32,
+    counts: Counts,
+    turn: Turn,
     count: u8,
+    marks: [bool; 6],
 }
 
 // Whether the slices lent have their lengths.
@@ -86,8 +87,8 @@ fn own_unsent(sender: u8, own: u8, rows: [Txn; 6], ticket: u32) -> bool
 }
 
 // Why a work is refused, 0 where it is not; `fits` where what it is lent has its lengths.
-fn refusal(fits: bool, rows: [Txn; 6], turn: Turn, counts: Counts, places: &[u8]) -> u8
-    requires { ⌜ (fits ≡ true → length (now places) ≡ 512 * counts .replicas) ⌝ }
+fn refusal(fits: bool, at: usize, rows: [Txn; 6], turn: Turn, counts: Counts, places: &[u8]) -> u8
+    requires { ⌜ (fits ≡ true → length (now places) ≡ 512 * counts .replicas) × (at ≡ placeStart (counts .replicas) (turn .slot)) ⌝ }
     ensures { λ r. ⌜ ((m : Memory) →
         let before = turnParts m turn counts rows (now (places .entry)) in
         workLent before ≡ fits → r ≡ workRefusal before) ⌝ }
@@ -95,7 +96,6 @@ fn refusal(fits: bool, rows: [Txn; 6], turn: Turn, counts: Counts, places: &[u8]
     if !fits {
         return 1;
     }
-    let at = place_start(counts.replicas, turn.slot);
     let kind = byte_at(places, at);
     if kind == 0 {
         return 21;
@@ -113,29 +113,32 @@ fn refusal(fits: bool, rows: [Txn; 6], turn: Turn, counts: Counts, places: &[u8]
 }
 
 // A refused work: nothing changes.
-fn unchanged(number: u8, rows: [Txn; 6], turn: Turn, counts: Counts) -> Worked
+fn unchanged(number: u8, turn: Turn, counts: Counts) -> Worked
     ensures { λ r. ⌜ r
         ≡ record {
-          reply = record { number = number; sender = 0; moved = false; count = 0; ticket = 0; aborted = replicate 6 0; counts = counts };
+          reply = record { number = number; sender = 0; moved = false; count = 0; ticket = 0; aborted = replicate 6 0 };
           turn = turn;
-          rows = rows;
+          counts = counts;
+          ended = noMarks;
         } ⌝ }
 {
     Worked {
-        reply: no_work(number, counts),
+        reply: no_work(number),
         turn: turn,
-        rows: rows,
+        counts: counts,
+        ended: [false; 6],
     }
 }
 
-// A *next* passed: the place empties, and the turn advances.
-fn pass_next(rows: [Txn; 6], turn: Turn, counts: Counts, places: &mut [u8], at: usize) -> Worked
+// A *next* passed: the place empties, the turn advances, and no row ends.
+fn pass_next(turn: Turn, counts: Counts, places: &mut [u8], at: usize) -> Worked
     requires { ⌜ (at ≡ placeStart (counts .replicas) (turn .slot)) × (at + 512 ≤ length (now places)) ⌝ }
     ensures { λ r. ⌜ ((m : Memory) →
         Gives workReply
-        (passNext (turnParts m turn counts rows (now (places .entry))))
+        (passNext (turnParts m turn counts (m .txns .table) (now (places .entry))))
         (r .reply)
-        (turnParts m (r .turn) (r .reply .counts) (r .rows) (now (places .exit)))) ⌝ }
+        (turnParts m (r .turn) (r .counts) (m .txns .table) (now (places .exit))))
+        × (r .ended ≡ noMarks) ⌝ }
 {
     let sender = places[at + 1];
     places[at] = 0;
@@ -149,10 +152,10 @@ fn pass_next(rows: [Txn; 6], turn: Turn, counts: Counts, places: &mut [u8], at: 
             count: 0,
             ticket: 0,
             aborted: [0; 6],
-            counts: after,
         },
         turn: turn.advance(),
-        rows: rows,
+        counts: after,
+        ended: [false; 6],
     }
 }
 
@@ -167,13 +170,13 @@ fn answered(sender: u8, moved: bool, turn: Turn, counts: Counts, ended: Ended) -
             count = ended .count;
             ticket = ended .ticket;
             aborted = ended .aborted;
-            counts = counts;
           };
           turn = turn;
-          rows = ended .rows;
+          counts = counts;
+          ended = ended .marks;
         } ⌝ }
 {
-    let rows = ended.rows;
+    let marks = ended.marks;
     let aborted = ended.aborted;
     Worked {
         reply: WorkReply {
@@ -183,10 +186,10 @@ fn answered(sender: u8, moved: bool, turn: Turn, counts: Counts, ended: Ended) -
             count: ended.count,
             ticket: ended.ticket,
             aborted: aborted,
-            counts: counts,
         },
         turn: turn,
-        rows: rows,
+        counts: counts,
+        ended: marks,
     }
 }
 
@@ -203,10 +206,10 @@ fn pass_writeset(ended: Ended, places: &mut [u8], at: usize) -> Worked
             count = ended .count;
             ticket = ended .ticket;
             aborted = ended .aborted;
-            counts = withDone (ended .counts) (cond last 0 (ended .counts .done + 1));
           };
           turn = cond last (advance (ended .turn)) (ended .turn);
-          rows = ended .rows;
+          counts = withDone (ended .counts) (cond last 0 (ended .counts .done + 1));
+          ended = ended .marks;
         })
         × (now (places .exit) ≡ cond last (set (now (places .entry)) at 0) (now (places .entry)))) ⌝ }
 {
@@ -237,11 +240,10 @@ pub fn work(
     places: &mut [u8],
 ) -> Worked
     ensures { λ r. ⌜ ((m : Memory) →
-        Gives workReply
-        (workStep
-        (workParts m turn counts rows (now (queue .entry)) (now (items .entry)) (now (values .entry)) (now (stamps .entry)) (now (places .entry))))
-        (r .reply)
-        (workParts m (r .turn) (r .reply .counts) (r .rows) (now (queue .exit)) (now (items .entry)) (now (values .exit)) (now (stamps .exit)) (now (places .exit)))) ⌝ }
+        let before = workParts m turn counts rows (now (queue .entry)) (now (items .entry)) (now (values .entry)) (now (stamps .entry)) (now (places .entry)) in
+        Gives workReply (workStep before) (r .reply)
+        (workParts m (r .turn) (r .counts) (endRows (r .ended) rows) (now (queue .exit)) (now (items .entry)) (now (values .exit)) (now (stamps .exit)) (now (places .exit)))
+        × (r .ended ≡ endedMarks before)) ⌝ }
 {
     let fits = lengths_fit(
         counts.replicas,
@@ -251,13 +253,13 @@ pub fn work(
         stamps.len(),
         places.len(),
     );
-    let number = refusal(fits, rows, turn, counts, &*places);
-    if number != 0 {
-        return unchanged(number, rows, turn, counts);
-    }
     let at = place_start(counts.replicas, turn.slot);
+    let number = refusal(fits, at, rows, turn, counts, &*places);
+    if number != 0 {
+        return unchanged(number, turn, counts);
+    }
     if places[at] == 1 {
-        return pass_next(rows, turn, counts, &mut *places, at);
+        return pass_next(turn, counts, &mut *places, at);
     }
     let end = at + 512;
     let ended = end_writeset(

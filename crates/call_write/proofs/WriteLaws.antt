@@ -13,10 +13,8 @@ use lib.Seq.{slice}
 use Rattle.block.specs.Answers.{refuse, firstOf}
 use Rattle.block.proofs.ListLaws.{lent, lent-slice}
 use Rattle.memory.specs.declared.Txn.{Txn}
-use Rattle.memory.specs.declared.Held.{Held}
-use Rattle.memory.specs.declared.Held.the-variants.{By, Nobody}
 use Rattle.memory.specs.Memory.{Memory, withTxns}
-use Rattle.memory.specs.Rows.{rowAt, indexOf, holderOf, countBelow, shiftIn}
+use Rattle.memory.specs.Rows.{rowAt, indexOf, countBelow, shiftIn}
 use Rattle.memory.proofs.RowLaws.{below-within, insert-back}
 use Rattle.engine.specs.Calls.{Outcome, outcome, unless}
 use Rattle.engine.specs.Calls.Answer.{refused, wrote}
@@ -72,12 +70,12 @@ module _ (m : Memory) (r item : ℕ) (value : ℤ) (n k : ℕ) (count : n ≡ mi
   unfolding writeActive
   write-mine h = rw (← count, ← place, lt-ltb k n h)
 
-  module _ (new : n ≤ k) (o : Held) (holder : o ≡ holderOf (m .txns .table) (m .txns .items) r item) where
-    pub write-held : (i : ℕ) → o ≡ By i → outcome (refused 8) m ≡ writeActive m r item value
+  module _ (new : n ≤ k) (held : Bool) (holder : held ≡ heldByOther m r item) where
+    pub write-held : held ≡ true → outcome (refused 8) m ≡ writeActive m r item value
     unfolding writeActive
-    write-held i h = rw (← count, ← place, le-ltb k n new, ← holder, h)
+    write-held h = rw (← count, ← place, le-ltb k n new, ← holder, h)
 
-    module _ (none : o ≡ Nobody) where
+    module _ (none : held ≡ false) where
       pub write-stale : rowAt (m .txns .table) r .snapshot < getD (m .store .stamps) item 0 → staleAt m r ≡ writeActive m r item value
       unfolding writeActive
       write-stale h = rw (← count, ← place, le-ltb k n new, ← holder, none, lt-ltb (rowAt (m .txns .table) r .snapshot) (getD (m .store .stamps) item 0) h)

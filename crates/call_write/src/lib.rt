@@ -7,16 +7,15 @@ ghost use lib.IntN.{ℤ};
 ghost use lib.ListN.{length, set};
 ghost use Rattle.memory.specs.declared.Txn.{Txn};
 ghost use Rattle.memory.specs.Memory.{Memory, bump, withAborted};
-ghost use Rattle.memory.specs.Rows.{closed, rowAt, writeCount};
+ghost use Rattle.memory.specs.Rows.{closed, rowAt, writeCount, isHeld, holderOf};
 ghost use Rattle.engine.specs.Calls.{unless};
 ghost use Rattle.engine.specs.Client.{writeRow};
 ghost use Rattle.call_reply.specs.Parts.{writeParts};
-ghost use Rattle.call_reply.specs.Replies.{Gives, reply};
+ghost use Rattle.call_reply.specs.Replies.{Gives, number};
 ghost use Rattle.call_write.specs.Parts.{inserted, insertIn, writeActive};
 use call_client::rows::free;
 use call_client::rows::row_at;
 use call_reply::Changed;
-use call_reply::Reply;
 use memory::Counts;
 use memory::Held;
 use memory::Turn;
@@ -24,26 +23,25 @@ use memory::Txn;
 use memory::rows::bump;
 use memory::rows::count_below;
 use memory::rows::holder;
+use memory::rows::holds;
 use memory::rows::index_of;
 use memory::rows::insert_item;
 use memory::rows::insert_value;
 use memory::rows::write_count;
 
 fn changed(number: u8, row: Txn, counts: Counts) -> Changed
-    ensures { λ r. ⌜ r ≡ record { reply = record { number = number; counts = counts }; row = row } ⌝ }
+    ensures { λ r. ⌜ r ≡ record { number = number; counts = counts; row = row } ⌝ }
 {
     Changed {
-        reply: Reply {
-            counts: counts,
-            number: number,
-        },
+        number: number,
+        counts: counts,
         row: row,
     }
 }
 
 // The row's transaction ends as aborted, and the write is answered 9.
 fn stale(counts: Counts) -> Changed
-    ensures { λ r. ⌜ r ≡ record { reply = record { number = 9; counts = withAborted counts (bump (counts .aborted)) }; row = closed } ⌝ }
+    ensures { λ r. ⌜ r ≡ record { number = 9; counts = withAborted counts (bump (counts .aborted)); row = closed } ⌝ }
 {
     let mut after = counts;
     after.aborted = bump(counts.aborted);
@@ -71,6 +69,19 @@ fn insert(t: Txn, items: &mut [u8], writes: &mut [i32], at: usize, item: u8, val
     }
 }
 
+// Whether another open transaction holds the item. Most items stand in nobody's writes, which one look at all of them shows; only else the holder is searched for.
+fn held(rows: [Txn; 6], items: &[u8], at: usize, item: u8) -> bool
+    ensures { λ r. ⌜ r ≡ isHeld (holderOf rows (now (items .entry)) at item) ⌝ }
+{
+    if !holds(items, item) {
+        return false;
+    }
+    if let Held::By(_) = holder(rows, items, at, item) {
+        return true;
+    }
+    false
+}
+
 // A write by the active transaction of a row.
 fn write_at(
     at: usize,
@@ -85,10 +96,10 @@ fn write_at(
 ) -> Changed
     requires { ⌜ (length (now items) ≡ 48) × (length (now writes) ≡ 48) × (length (now stamps) ≡ 128) × (at < 6) × (item < 128) ⌝ }
     ensures { λ r. ⌜ ((m : Memory) → t ≡ rowAt rows at →
-        Gives reply
+        Gives number
         (writeActive (writeParts m (m .turn) counts rows (now (items .entry)) (now (writes .entry)) (now (stamps .entry))) at item value)
-        (r .reply)
-        (writeParts m (m .turn) (r .reply .counts) (set rows at (r .row)) (now (items .exit)) (now (writes .exit)) (now (stamps .entry)))) ⌝ }
+        (r .number)
+        (writeParts m (m .turn) (r .counts) (set rows at (r .row)) (now (items .exit)) (now (writes .exit)) (now (stamps .entry)))) ⌝ }
 {
     let n = write_count(t.writes);
     let from = 8 * at;
@@ -97,7 +108,7 @@ fn write_at(
         writes[from + k] = value;
         return changed(0, t, counts);
     }
-    if let Held::By(_) = holder(rows, &*items, at, item) {
+    if held(rows, &*items, at, item) {
         return changed(8, t, counts);
     }
     if t.snapshot < stamps[item as usize] {
@@ -162,10 +173,10 @@ pub fn write(
     value: i32,
 ) -> Changed
     ensures { λ r. ⌜ ((m : Memory) →
-        Gives reply
+        Gives number
         (writeRow (writeParts m turn counts rows (now (items .entry)) (now (writes .entry)) (now (stamps .entry))) at item value)
-        (r .reply)
-        (writeParts m turn (r .reply .counts) (set rows at (r .row)) (now (items .exit)) (now (writes .exit)) (now (stamps .entry))))
+        (r .number)
+        (writeParts m turn (r .counts) (set rows at (r .row)) (now (items .exit)) (now (writes .exit)) (now (stamps .entry))))
         × (6 ≤ at → r .row ≡ closed) ⌝ }
 {
     let t = row_at(rows, at);

@@ -3,5 +3,9 @@ pub mod Lend
 pub mod Steps
 pub mod Answers
 pub mod Rows
+pub mod Behind
+pub mod Forms
 pub mod Cursor
+pub mod Numbers
+pub mod TableLaws
 pub mod Callees

@@ -1,6 +1,7 @@
--- The laws of a row of the table under short names, a free row's value, and that a table of six is its six rows.
+-- The laws of a row of the table under short names, a free row's value, a row with another stage, and that a table of six is its six rows.
 -- Assumes nothing.
 use mathlib.Core.Path.{_≡_, refl}
+use Prim.Native.Nat.{ℕ, _<_, _^_}
 use native.Mathlib.Omega.{arith}
 use mathlib.Core.List.{[], _∷_, List}
 use lib.Dec.{T as Holds}
@@ -15,6 +16,7 @@ use denote.Laws.{Is, Tells, Copy, Makes, Lawful}
 use denote.Struct.Laws as LL
 use Rattle.memory.specs.declared.Txn.{Txn}
 use Rattle.memory.specs.Rows.{closed}
+use Rattle.host_table.specs.Table.{withStage}
 use Rattle.memory.proofs.Txn as T
 use Rattle.memory.proofs.Txn.Laws as T′
 
@@ -46,6 +48,12 @@ module _ {M : Type 1} (𝓤 : URA M) (H : Heap 𝓤) (A : Atoms 𝓤) where
 
 pub free-is : Is R closed (vals closed)
 free-is = LL.owes T.the-type T′.the-laws closed ((refl, omega arith), ((refl, omega arith), ((refl, omega arith), ((refl, omega arith), tt))))
+
+pub staged-is : (t : Txn) (s : ℕ) → s < 2 ^ 32 → Is R t (vals t) → Is R (withStage t s) (vals (withStage t s))
+staged-is t s fits was = let g = LL.owed T.the-type T′.the-laws t (vals t) was in LL.owes T.the-type T′.the-laws (withStage t s) (g .0, ((refl, fits), g .1 .1))
+
+pub stage-fits : (t : Txn) → Is R t (vals t) → t .stage < 2 ^ 32
+stage-fits t was = LL.owed T.the-type T′.the-laws t (vals t) was .1 .0 .1
 
 pub six : (ys : List Txn) → length ys ≡ 6 → (getD ys 0 closed ∷ getD ys 1 closed ∷ getD ys 2 closed ∷ getD ys 3 closed ∷ getD ys 4 closed ∷ getD ys 5 closed ∷ []) ≡ ys
 six [] e = absurd (omega (arith, e))

@@ -4,7 +4,6 @@
 --     while-test     the test of a `while`
 --     while-loop     `while c { .. }` and the rest. A turn goes from the invariant at x to a postcondition P, of which it is known what it is where the loop is left, where the function returns, and where the turn ends
 --     unequal, equal, missed      what `a != b` says, what it says where it fails, and what `a == b` says where it fails
---     either         by the two values of a test
 --     unit-typed     `()` is a value of its type
 --     frees-cell, frees-room      a local is freed: entry n is its cell, or room for it, and entry n + 1 its death
 -- Assumes `Given`.
@@ -38,10 +37,6 @@ twice false h = h
 
 pub equal : (a b : ℕ) → T (not (not (eqb a b))) → a ≡ b
 equal a b h = eqb→eq a b (twice (eqb a b) h)
-
-pub either : {P : Type 0} (c : Bool) → (c ≡ true → P) → (c ≡ false → P) → P
-either true f g = f refl
-either false f g = g refl
 
 pub unit-typed : (u : Val) → u ≡ vunit → T (hasTy tyUnit u) × WT u
 unit-typed u e = subst (λ (v : Val). T (hasTy tyUnit v) × WT v) (sym e) (tt, tt)

@@ -1,4 +1,5 @@
--- A lent table as six rows, and six rows put back.
+-- A row with another stage, and a lent table as six rows.
+use Prim.Native.Nat.{ℕ}
 use mathlib.Core.Bool.{cond}
 use mathlib.Core.List.{List}
 use lib.Dec.{eqb}
@@ -6,10 +7,10 @@ use lib.ListN.{length, replicate}
 use Rattle.memory.specs.declared.Txn.{Txn}
 use Rattle.memory.specs.Rows.{closed}
 
--- its rows where they are six, else free ones
+-- a row with another stage
+abbrev pub withStage : Txn → ℕ → Txn
+withStage t s = record { ticket = t .ticket; stage = s; snapshot = t .snapshot; writes = t .writes }
+
+-- a table's rows where they are six, else free ones
 unfoldable pub loaded : List Txn → List Txn
 loaded table = cond (eqb (length table) 6) table (replicate 6 closed)
-
--- the rows in the place of a table of six; another table stays
-unfoldable pub stored : List Txn → List Txn → List Txn
-stored rows table = cond (eqb (length table) 6) rows table

@@ -1,9 +1,13 @@
-// The table and the turn as a host lends them: a slice of small records, and a record behind a reference. Each function is thin, and defined on a table of any length;
-// what is decided is decided by value elsewhere.
+// The table, the turn and the counts as a host lends them: a slice of small records, and records behind references. Each function is thin, and defined on a table of
+// any length; what is decided is decided by value elsewhere.
 ghost use mathlib.Core.Path.{_≡_};
+ghost use mathlib.Core.List.{map};
 ghost use lib.ListN.{set};
-ghost use Rattle.memory.specs.Rows.{closed, rowAt, rowFrom, rowOf};
-ghost use Rattle.host_table.specs.Table.{loaded, stored};
+ghost use Rattle.memory.specs.Memory.{withTickets, withReadOnly, withAborted, withWithdrawn};
+ghost use Rattle.memory.specs.Rows.{closed, endRows, rowAt, rowFrom, rowOf};
+ghost use Rattle.engine.specs.Moves.{sendRow};
+ghost use Rattle.host_table.specs.Table.{withStage, loaded};
+use memory::Counts;
 use memory::Turn;
 use memory::Txn;
 
@@ -56,6 +60,15 @@ pub fn put(table: &mut [Txn], at: usize, t: Txn)
     }
 }
 
+// One row's stage, and nothing else of it; a row past the last is none.
+pub fn set_stage(table: &mut [Txn], at: usize, stage: u32)
+    ensures { λ _. ⌜ now (table .exit) ≡ set (now (table .entry)) at (withStage (rowAt (now (table .entry)) at) stage) ⌝ }
+{
+    if at < table.len() {
+        table[at].stage = stage;
+    }
+}
+
 // One transaction ended: its row is free.
 pub fn end(table: &mut [Txn], at: usize)
     ensures { λ _. ⌜ now (table .exit) ≡ set (now (table .entry)) at closed ⌝ }
@@ -67,6 +80,32 @@ pub fn end(table: &mut [Txn], at: usize)
             snapshot: 0,
             writes: 0,
         };
+    }
+}
+
+// The marked rows ended; a mark past the last row is none.
+pub fn end_rows(table: &mut [Txn], ended: [bool; 6])
+    ensures { λ _. ⌜ now (table .exit) ≡ endRows ended (now (table .entry)) ⌝ }
+{
+    let mut i: usize = 0;
+    while i < 6 {
+        if ended[i] {
+            end(table, i);
+        }
+        i += 1;
+    }
+}
+
+// Each asked transaction becomes sent, in its row.
+pub fn mark_rows(table: &mut [Txn])
+    ensures { λ _. ⌜ now (table .exit) ≡ map sendRow (now (table .entry)) ⌝ }
+{
+    let mut i: usize = 0;
+    while i < table.len() {
+        if table[i].stage == 1 {
+            table[i].stage = 2;
+        }
+        i += 1;
     }
 }
 
@@ -86,21 +125,6 @@ pub fn load(table: &[Txn]) -> [Txn; 6]
     [table[0], table[1], table[2], table[3], table[4], table[5]]
 }
 
-// Six rows put back; a table of another length stays.
-pub fn store(table: &mut [Txn], rows: [Txn; 6])
-    ensures { λ _. ⌜ now (table .exit) ≡ stored rows (now (table .entry)) ⌝ }
-{
-    if table.len() != 6 {
-        return;
-    }
-    table[0] = rows[0];
-    table[1] = rows[1];
-    table[2] = rows[2];
-    table[3] = rows[3];
-    table[4] = rows[4];
-    table[5] = rows[5];
-}
-
 pub fn copy_turn(turn: &Turn) -> Turn
     ensures { λ r. ⌜ r ≡ now (turn .entry) ⌝ }
 {
@@ -112,4 +136,42 @@ pub fn set_turn(turn: &mut Turn, to: Turn)
     ensures { λ _. ⌜ now (turn .exit) ≡ to ⌝ }
 {
     *turn = to;
+}
+
+pub fn copy_counts(counts: &Counts) -> Counts
+    ensures { λ r. ⌜ r ≡ now (counts .entry) ⌝ }
+{
+    *counts
+}
+
+// The counts as the call by value left them.
+pub fn set_counts(counts: &mut Counts, to: Counts)
+    ensures { λ _. ⌜ now (counts .exit) ≡ to ⌝ }
+{
+    *counts = to;
+}
+
+// One count, where a call changes no other: nothing else is written.
+pub fn set_tickets(counts: &mut Counts, n: u32)
+    ensures { λ _. ⌜ now (counts .exit) ≡ withTickets (now (counts .entry)) n ⌝ }
+{
+    counts.tickets = n;
+}
+
+pub fn set_read_only(counts: &mut Counts, n: u32)
+    ensures { λ _. ⌜ now (counts .exit) ≡ withReadOnly (now (counts .entry)) n ⌝ }
+{
+    counts.read_only = n;
+}
+
+pub fn set_aborted(counts: &mut Counts, n: u32)
+    ensures { λ _. ⌜ now (counts .exit) ≡ withAborted (now (counts .entry)) n ⌝ }
+{
+    counts.aborted = n;
+}
+
+pub fn set_withdrawn(counts: &mut Counts, n: u32)
+    ensures { λ _. ⌜ now (counts .exit) ≡ withWithdrawn (now (counts .entry)) n ⌝ }
+{
+    counts.withdrawn = n;
 }

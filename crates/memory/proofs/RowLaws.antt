@@ -36,6 +36,18 @@ module _ (l : List ℕ) (k : ℕ) (h : k < length l) (x : ℕ) where
   unfolding countBelow
   below-next i e = rw (drop-cons l k 0 h, lt-ltb (getD l k 0) x e, add-one i, add-one k)
 
+  pub has-here : getD l k 0 ≡ x → has x (drop k l) ≡ true
+  unfolding has
+  has-here e = rw (drop-cons l k 0 h, eq-eqb (getD l k 0) x e)
+
+  pub has-later : (getD l k 0 ≡ x → ⊥) → has x (drop k l) ≡ has x (drop (k + 1) l)
+  unfolding has
+  has-later e = rw (drop-cons l k 0 h, ne-eqb (getD l k 0) x e, add-one k)
+
+pub has-none : (l : List ℕ) (k : ℕ) → length l ≤ k → (x : ℕ) → has x (drop k l) ≡ false
+unfolding has
+has-none l k h x = rw (drop-of-length-le l h)
+
 module _ (l : List ℕ) (x i : ℕ) where
   pub index-end : indexFrom x (drop (length l) l) i ≡ i
   unfolding indexFrom

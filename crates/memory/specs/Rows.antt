@@ -36,6 +36,12 @@ freeRow table = rowFrom 0 0 table
 abbrev pub rowAt : List Txn → ℕ → Txn
 rowAt table r = getD table r closed
 
+-- the rows with those that are marked ended free
+unfoldable pub endRows : List Bool → List Txn → List Txn
+endRows [] rows = rows
+endRows (e ∷ es) [] = []
+endRows (e ∷ es) (t ∷ ts) = cond e closed t ∷ endRows es ts
+
 -- how many writes a row has: a row that claims more than 8 has 8
 abbrev pub writeCount : Txn → ℕ
 writeCount t = min (t .writes) 8

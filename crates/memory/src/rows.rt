@@ -5,7 +5,7 @@ ghost use lib.ListN.{length, replicate};
 ghost use lib.Seq.{paste};
 ghost use lib.IntN.{pos};
 ghost use Rattle.memory.specs.Memory.{bump};
-ghost use Rattle.memory.specs.Rows.{openCount, rowOf, freeRow, indexOf, holderOf, countBelow, shiftIn};
+ghost use Rattle.memory.specs.Rows.{openCount, rowOf, freeRow, indexOf, has, holderOf, countBelow, shiftIn};
 use super::Held;
 use super::Txn;
 
@@ -80,6 +80,21 @@ pub fn index_of(items: &[u8], item: u8) -> usize
         j += 1;
     }
     j
+}
+
+// Whether the item stands anywhere; all are looked at, which a compiler turns into sixteen comparisons at a time.
+pub fn holds(items: &[u8], item: u8) -> bool
+    ensures { λ r. ⌜ r ≡ has item (now (items .entry)) ⌝ }
+{
+    let mut found = false;
+    let mut k: usize = 0;
+    while k < items.len() {
+        if items[k] == item {
+            found = true;
+        }
+        k += 1;
+    }
+    found
 }
 
 // How many of the first items are below the item.

@@ -16,13 +16,12 @@ use Rattle.engine.specs.Calls.Answer.{refused, worked}
 use Rattle.engine.specs.Make.{makeRefusal, makeStep}
 use Rattle.engine.specs.Client.{rowIn, isOwn, beginRow, beginRefusal, beginAt, readRow, readRefusal, writeRow, writeRefusal, staleAt, rewriteAt, insertWrite, askRow, askRefusal, readOnlyAt, queueAt, withdrawRow, withdrawRefusal, withdrawAt, reportStep}
 use Rattle.engine.specs.Moves.{sendRefusal, sendNow, sendStep, deliverRefusal, deliverNow, deliverStep, blockAtTurn, workRefusal, writesetAt, passNext, commitWriteset, workStep}
-use Rattle.call_reply.specs.declared.Reply.{Reply}
 use Rattle.call_reply.specs.declared.BeginReply.{BeginReply}
 use Rattle.call_reply.specs.declared.ReadReply.{ReadReply}
 use Rattle.call_reply.specs.declared.AskReply.{AskReply}
 use Rattle.call_reply.specs.declared.ReportReply.{ReportReply}
 use Rattle.call_reply.specs.declared.WorkReply.{WorkReply}
-use Rattle.call_reply.specs.Replies.{ticketIn, valueIn, isReadOnly, stepIn, number, reply, beginReply, readReply, askReply, reportReply, sixOf, workReply, Gives, blockLeft, GivesBlock}
+use Rattle.call_reply.specs.Replies.{ticketIn, valueIn, isReadOnly, stepIn, number, beginReply, readReply, askReply, reportReply, sixOf, workReply, Gives, blockLeft, GivesBlock}
 use Rattle.replay.specs.declared.Played.{Played}
 use Rattle.replay.specs.declared.Replica.{Replica}
 use Rattle.replay.specs.Effects.{memoryOf, numbersOf, valuesOf, Effect, effect, effectOf, Plays}
@@ -103,13 +102,9 @@ module _ (lent : List ℕ) where
   bare-refused : (n : ℕ) (m : Memory) → Bare (outcome (refused n) m)
   bare-refused n m = record { numbers = refl; values = refl; block = refl }
 
-  pub bare-effect : {o : Outcome} {r : Reply} {left : Memory} → Bare o → Gives reply o r left
-      → record { number = r .number; numbers = []; values = []; block = lent; memory = left } ≡ effect lent o
-  bare-effect b g = rw (g .0, g .1, b .numbers, b .values, b .block)
-
-  pub bare-number : {o : Outcome} {r : ℕ} {left : Memory} → Bare o → Gives number o r left
+  pub bare-effect : {o : Outcome} {r : ℕ} {left : Memory} → Bare o → Gives number o r left
       → record { number = r; numbers = []; values = []; block = lent; memory = left } ≡ effect lent o
-  bare-number b g = rw (g .0, g .1, b .numbers, b .values, b .block)
+  bare-effect b g = rw (g .0, g .1, b .numbers, b .values, b .block)
 
   pub bare-write : (m : Memory) (at item : ℕ) (value : ℤ) → Bare (writeRow m at item value)
   unfolding writeRow staleAt rewriteAt insertWrite
@@ -131,6 +126,14 @@ module _ (lent : List ℕ) where
   pub bare-deliver : (m : Memory) (bytes : List ℕ) → Bare (deliverStep m bytes)
   unfolding deliverStep deliverNow
   bare-deliver m bytes = unless-by Bare (deliverRefusal m bytes) m _ (record { numbers = refl; values = refl; block = refl }) (λ e. bare-refused _ m)
+
+-- a refused make leaves the memory as it was
+pub make-left : (m : Memory) (n own : ℕ) (values : List ℤ) {k : ℕ} → k ≡ number (makeStep m n own values) → (k ≡ 0 → ⊥) → Gives number (makeStep m n own values) k m
+unfolding makeStep
+make-left m n own values e h = (
+  e,
+  unless-by (λ (o : Outcome). (number o ≡ 0 → ⊥) → m ≡ o .memory) (makeRefusal m n own values) m _ (λ g. absurd (g refl)) (λ q g. refl) (λ z. h (e ∙ z)),
+)
 
 -- ---- send: its block is in the bytes lent
 

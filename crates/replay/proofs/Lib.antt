@@ -1,6 +1,4 @@
 -- Laws that the proofs of several functions cite.
-pub mod DeliveryLaws
 pub mod EffectLaws
-pub mod LineLaws
+pub mod EndLaws
 pub mod RunLaws
-pub mod TextLaws

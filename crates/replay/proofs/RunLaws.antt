@@ -10,7 +10,7 @@ use Rattle.engine.specs.Calls.{Outcome}
 use Rattle.engine.specs.Make.{makeStep}
 use Rattle.engine.specs.Client.{beginStep, readStep, writeStep, askStep, withdrawStep, reportStep}
 use Rattle.engine.specs.Moves.{sendStep, deliverStep, workStep}
-use Rattle.replay.specs.declared.Call.{Call}
+use Rattle.replay_text.specs.declared.Call.{Call}
 use Rattle.replay.specs.declared.Played.{Played}
 use Rattle.replay.specs.declared.Replica.{Replica}
 use Rattle.replay.specs.Effects.{placesSize, memoryOf, sizeLent, effect, look, played, Plays}

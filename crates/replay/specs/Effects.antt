@@ -17,7 +17,7 @@ use Rattle.engine.specs.Client.{beginStep, readStep, writeStep, askStep, withdr
 use Rattle.engine.specs.Moves.{sendStep, deliverStep, workStep}
 use Rattle.call_reply.specs.Parts.{allParts}
 use Rattle.call_reply.specs.Replies.{blockLeft}
-use Rattle.replay.specs.declared.Call.{Call}
+use Rattle.replay_text.specs.declared.Call.{Call}
 use Rattle.replay.specs.declared.Played.{Played}
 use Rattle.replay.specs.declared.Replica.{Replica}
 

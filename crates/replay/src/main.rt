@@ -2,44 +2,20 @@
 ghost use Prim.Native.Nat.{_+_, _≤_, _<_};
 ghost use mathlib.Core.Path.{_≡_};
 ghost use lib.ListN.{length, take};
-ghost use Rattle.replay.specs.Text.{answerText, Holds};
+ghost use Rattle.replay_text.specs.Text.{answerText, Holds};
 use libc::STDERR_FILENO;
 use libc::STDIN_FILENO;
 use libc::STDOUT_FILENO;
 use memory::Counts;
 use memory::Turn;
 use memory::Txn;
+use replay_text::Call;
+use replay_text::kept;
+use replay_text::parse;
+use replay_text::print;
 
-mod kept;
-mod parse;
 mod play;
-mod print;
-
-// A call: its letter and its numbers, 0 where it has none. Letter 0 is no call.
-pub struct Call {
-    pub letter: u8,
-    pub first: u32,
-    pub second: u32,
-    pub value: i32,
-}
-
-// A number read from a line, and the place behind it; so for a value.
-pub enum Number {
-    Is(u32, usize),
-    Missing,
-}
-
-pub enum Value {
-    Is(i32, usize),
-    Missing,
-}
-
-// The bytes that a line delivers, zeros behind; none where it names a block that is not kept, or no bytes.
-pub struct Delivery {
-    pub known: bool,
-    pub count: usize,
-    pub bytes: [u8; 520],
-}
+mod results;
 
 // A replica's memory. Of the bytes for places a group of n uses the first 512·n. The group of one that was not made has no replicas.
 pub struct Replica {

@@ -4,81 +4,29 @@ ghost use mathlib.Core.Path.{_≡_};
 ghost use mathlib.Core.Bool.{cond};
 ghost use mathlib.Core.List.{List, _∷_};
 ghost use lib.Dec.{eqb};
-ghost use lib.ListN.{drop, set, replicate};
+ghost use lib.ListN.{set, replicate};
+ghost use Rattle.memory.specs.Rows.{endRows};
 ghost use Rattle.engine.specs.Make.{makeStep};
 ghost use Rattle.engine.specs.Client.{beginStep, readStep, writeStep, askStep, withdrawStep, reportStep};
 ghost use Rattle.engine.specs.Moves.{sendStep, deliverStep, workStep};
 ghost use Rattle.replay.specs.Effects.{placesSize, memoryOf, sizeLent, withRow, effect, look, played, Plays};
-use super::Call;
 use super::Played;
 use super::Replica;
+use super::results::accepted;
+use super::results::bare;
+use super::results::flag;
+use super::results::repeated;
+use super::results::with_number;
+use super::results::with_numbers;
+use super::results::with_values;
+use call_client::rows::free;
 use call_client::rows::row_at;
 use call_reply::WorkReply;
 use memory::Counts;
 use memory::Txn;
 use memory::rows::free_row;
 use memory::rows::row_of;
-
-// Where the call is accepted, n.
-fn accepted(number: u8, n: usize) -> usize
-    ensures { λ r. ⌜ (r ≡ cond (eqb number 0) n 0) × (r ≤ n) ⌝ }
-{
-    if number == 0 { n } else { 0 }
-}
-
-// Numbers behind the call's own.
-fn with_numbers(replica: Replica, number: u8, count: usize, numbers: [u32; 10]) -> Played
-    ensures { λ r. ⌜ r ≡ record { replica = replica; number = number; count = count; numbers = numbers; shown = 0; values = r .values } ⌝ }
-{
-    Played {
-        replica: replica,
-        number: number,
-        count: count,
-        numbers: numbers,
-        shown: 0,
-        values: [0; 128],
-    }
-}
-
-// Values behind the call's number.
-fn with_values(replica: Replica, number: u8, shown: usize, values: [i32; 128]) -> Played
-    ensures { λ r. ⌜ r ≡ record { replica = replica; number = number; count = 0; numbers = r .numbers; shown = shown; values = values } ⌝ }
-{
-    Played {
-        replica: replica,
-        number: number,
-        count: 0,
-        numbers: [0; 10],
-        shown: shown,
-        values: values,
-    }
-}
-
-// Nothing behind the call's number.
-fn bare(replica: Replica, number: u8) -> Played
-    ensures { λ r. ⌜ r ≡ record { replica = replica; number = number; count = 0; numbers = r .numbers; shown = 0; values = r .values } ⌝ }
-{
-    Played {
-        replica: replica,
-        number: number,
-        count: 0,
-        numbers: [0; 10],
-        shown: 0,
-        values: [0; 128],
-    }
-}
-
-fn repeated(value: i32) -> [i32; 128]
-    ensures { λ r. ⌜ r ≡ replicate 128 value ⌝ }
-{
-    [value; 128]
-}
-
-fn flag(set: bool) -> u32
-    ensures { λ r. ⌜ r ≡ cond set 1 0 ⌝ }
-{
-    if set { 1 } else { 0 }
-}
+use replay_text::Call;
 
 // How many of the bytes for places a group of n uses.
 fn places_size(n: u32) -> usize
@@ -97,6 +45,21 @@ fn put_row(rows: [Txn; 6], at: usize, row: Txn) -> [Txn; 6]
     after
 }
 
+// The rows with those that are marked ended free.
+fn end_rows(rows: [Txn; 6], ended: [bool; 6]) -> [Txn; 6]
+    ensures { λ r. ⌜ r ≡ endRows ended rows ⌝ }
+{
+    let mut after = rows;
+    let mut i: usize = 0;
+    while i < 6 {
+        if ended[i] {
+            after[i] = free();
+        }
+        i += 1;
+    }
+    after
+}
+
 // The replica with these numbers, and the row's record in place of the old one; past the last there is none.
 fn with_row(replica: Replica, counts: Counts, at: usize, row: Txn) -> Replica
     ensures { λ r. ⌜ r ≡ withRow replica counts at row ⌝ }
@@ -107,18 +70,6 @@ fn with_row(replica: Replica, counts: Counts, at: usize, row: Txn) -> Replica
     after.counts = counts;
     after.rows = table;
     after
-}
-
-// One number behind the call's own, where it is accepted.
-fn with_number(replica: Replica, number: u8, first: u32) -> Played
-    ensures { λ r. ⌜ r ≡ record { replica = replica; number = number; count = cond (eqb number 0) 1 0; numbers = first ∷ drop 1 (r .numbers); shown = 0; values = r .values } ⌝ }
-{
-    with_numbers(
-        replica,
-        number,
-        accepted(number, 1),
-        [first, 0, 0, 0, 0, 0, 0, 0, 0, 0],
-    )
 }
 
 fn begin(replica: Replica) -> Played
@@ -132,7 +83,7 @@ fn begin(replica: Replica) -> Played
     let row = row_at(rows, at);
     let begun = call_client::begin(at, row, counts, &values, &mut snapshots);
     let reply = begun.reply;
-    let numbers = reply.counts;
+    let numbers = begun.counts;
     let next = begun.row;
     let mut after = with_row(replica, numbers, at, next);
     after.snapshots = snapshots;
@@ -174,13 +125,12 @@ fn write(replica: Replica, ticket: u32, item: u32, value: i32) -> Played
         item,
         value,
     );
-    let reply = changed.reply;
-    let numbers = reply.counts;
+    let numbers = changed.counts;
     let next = changed.row;
     let mut after = with_row(replica, numbers, at, next);
     after.items = items;
     after.writes = writes;
-    bare(after, reply.number)
+    bare(after, changed.number)
 }
 
 fn ask(replica: Replica, ticket: u32) -> Played
@@ -193,7 +143,7 @@ fn ask(replica: Replica, ticket: u32) -> Played
     let row = row_at(rows, at);
     let asked = call_client::ask(at, row, counts, &mut queue);
     let reply = asked.reply;
-    let numbers = reply.counts;
+    let numbers = asked.counts;
     let next = asked.row;
     let mut after = with_row(replica, numbers, at, next);
     after.queue = queue;
@@ -208,10 +158,9 @@ fn withdraw(replica: Replica, ticket: u32) -> Played
     let at = row_of(rows, ticket);
     let row = row_at(rows, at);
     let changed = call_client::withdraw(at, row, counts);
-    let reply = changed.reply;
-    let numbers = reply.counts;
+    let numbers = changed.counts;
     let next = changed.row;
-    bare(with_row(replica, numbers, at, next), reply.number)
+    bare(with_row(replica, numbers, at, next), changed.number)
 }
 
 fn report(replica: Replica) -> Played
@@ -287,9 +236,6 @@ fn make(replica: Replica, n: u32, own: u32, value: i32) -> Played
 {
     let start = repeated(value);
     let size = places_size(n);
-    let turn = replica.turn;
-    let counts = replica.counts;
-    let rows = replica.rows;
     let mut queue = replica.queue;
     let mut items = replica.items;
     let mut writes = replica.writes;
@@ -299,9 +245,6 @@ fn make(replica: Replica, n: u32, own: u32, value: i32) -> Played
     let mut places = replica.places;
     let mut outbox = replica.outbox;
     let made = call_make::make(
-        rows,
-        turn,
-        counts,
         n,
         own,
         &start,
@@ -314,14 +257,15 @@ fn make(replica: Replica, n: u32, own: u32, value: i32) -> Played
         &mut places[..size],
         &mut outbox,
     );
-    let reply = made.reply;
-    let numbers = reply.counts;
-    let next = made.turn;
-    let table = made.rows;
+    if made.number != 0 {
+        return bare(replica, made.number);
+    }
+    let turn = made.turn;
+    let counts = made.counts;
     let after = Replica {
-        turn: next,
-        counts: numbers,
-        rows: table,
+        turn: turn,
+        counts: counts,
+        rows: [free(); 6],
         queue: queue,
         items: items,
         writes: writes,
@@ -331,7 +275,7 @@ fn make(replica: Replica, n: u32, own: u32, value: i32) -> Played
         places: places,
         outbox: outbox,
     };
-    bare(after, reply.number)
+    bare(after, 0)
 }
 
 // The block goes into the bytes lent.
@@ -402,9 +346,10 @@ fn work(replica: Replica) -> Played
         &mut places[..size],
     );
     let reply = worked.reply;
-    let numbers = reply.counts;
+    let numbers = worked.counts;
     let next = worked.turn;
-    let table = worked.rows;
+    let ended = worked.ended;
+    let table = end_rows(rows, ended);
     let mut after = replica;
     after.turn = next;
     after.counts = numbers;

@@ -2,4 +2,6 @@
 pub mod TableLaws
 pub mod ClientFacts
 pub mod TurnFacts
+pub mod ClientWays
+pub mod TurnWays
 pub mod Handed

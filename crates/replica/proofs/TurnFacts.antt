@@ -9,34 +9,28 @@ use Rattle.memory.specs.declared.Counts.{Counts}
 use Rattle.memory.specs.declared.Turn.{Turn}
 use Rattle.memory.specs.declared.Txn.{Txn}
 use Rattle.memory.specs.Memory.{Memory}
-use Rattle.engine.specs.Make.{makeStep}
+use Rattle.memory.specs.Rows.{closed, endRows}
+use Rattle.engine.specs.Make.{turnZero, countsFor, makeStep}
 use Rattle.engine.specs.Moves.{sendStep, deliverStep, workStep}
 use Rattle.call_reply.specs.Parts.{allParts, sendParts, deliverParts, workParts}
-use Rattle.host_table.specs.Table.{loaded, stored}
-use Rattle.call_reply.specs.Replies.{number, reply, workReply, Gives, GivesBlock}
-use Rattle.call_reply.specs.declared.Reply.{Reply}
+use Rattle.call_reply.specs.Replies.{number, workReply, Gives, GivesBlock}
 use Rattle.call_reply.specs.declared.WorkReply.{WorkReply}
 use Rattle.call_reply.specs.declared.Made.{Made}
 use Rattle.call_reply.specs.declared.Sent.{Sent}
 use Rattle.call_reply.specs.declared.Worked.{Worked}
 use Rattle.call_reply.specs.Called.{called}
-use Rattle.call_reply.proofs.CalledLaws.{called-six, called-other}
-use Rattle.replica.proofs.TableLaws.{loaded-six, stored-six}
+use Rattle.call_make.specs.Made.{ifMade}
+use Rattle.call_work.specs.Writesets.{endedMarks}
+use Rattle.call_reply.proofs.CalledLaws.{called-other}
 
-abbrev pub MakeOn : List Txn → Turn → Counts → ℕ → ℕ → List ℤ → List ℕ → List ℕ → List ℤ → List ℤ → List ℤ → List ℕ → List ℕ → List ℕ → Made → List ℕ → List ℕ → List ℤ → List ℤ → List ℤ → List ℕ → List ℕ → List ℕ → Type 0
-MakeOn rows turn counts size me start queue items writes snapshots values stamps places outbox r queue′ items′ writes′ snapshots′ values′ stamps′ places′ outbox′ = Gives reply (makeStep (allParts turn counts rows queue items writes snapshots values stamps places outbox) size me start) (r .reply) (allParts (r .turn) (r .reply .counts) (r .rows) queue′ items′ writes′ snapshots′ values′ stamps′ places′ outbox′)
+abbrev pub MakeOn : ℕ → ℕ → List ℤ → List ℕ → List ℕ → List ℤ → List ℤ → List ℤ → List ℕ → List ℕ → List ℕ → Made → List ℕ → List ℕ → List ℤ → List ℤ → List ℤ → List ℕ → List ℕ → List ℕ → Type 0
+MakeOn size me start queue items writes snapshots values stamps places outbox r queue′ items′ writes′ snapshots′ values′ stamps′ places′ outbox′ = ((turn : Turn) (counts : Counts) (table : List Txn) → Gives number (makeStep (allParts turn counts table queue items writes snapshots values stamps places outbox) size me start) (r .number) (allParts (ifMade (r .number) (r .turn) turn) (ifMade (r .number) (r .counts) counts) (ifMade (r .number) (replicate 6 closed) table) queue′ items′ writes′ snapshots′ values′ stamps′ places′ outbox′)) × (r .turn ≡ turnZero) × (r .counts ≡ ifMade (r .number) (countsFor size me) (countsFor 0 0))
 
-abbrev pub MakeDid : List Txn → Turn → Counts → ℕ → ℕ → List ℤ → List ℕ → List ℕ → List ℤ → List ℤ → List ℤ → List ℕ → List ℕ → List ℕ → Reply → List Txn → Turn → List ℕ → List ℕ → List ℤ → List ℤ → List ℤ → List ℕ → List ℕ → List ℕ → Type 0
-MakeDid table turn counts size me start queue items writes snapshots values stamps places outbox r table′ turn′ queue′ items′ writes′ snapshots′ values′ stamps′ places′ outbox′ = Gives reply (called (λ (x : Memory). makeStep x size me start) (allParts turn counts table queue items writes snapshots values stamps places outbox)) (r) (allParts turn′ (r .counts) table′ queue′ items′ writes′ snapshots′ values′ stamps′ places′ outbox′)
+abbrev pub MakeDid : List Txn → Turn → Counts → ℕ → ℕ → List ℤ → List ℕ → List ℕ → List ℤ → List ℤ → List ℤ → List ℕ → List ℕ → List ℕ → ℕ → List Txn → Turn → Counts → List ℕ → List ℕ → List ℤ → List ℤ → List ℤ → List ℕ → List ℕ → List ℕ → Type 0
+MakeDid table turn counts size me start queue items writes snapshots values stamps places outbox r table′ turn′ counts′ queue′ items′ writes′ snapshots′ values′ stamps′ places′ outbox′ = Gives number (called (λ (x : Memory). makeStep x size me start) (allParts turn counts table queue items writes snapshots values stamps places outbox)) (r) (allParts turn′ counts′ table′ queue′ items′ writes′ snapshots′ values′ stamps′ places′ outbox′)
 
-pub make-not : (table : List Txn) (turn : Turn) (counts : Counts) (size : ℕ) (me : ℕ) (start : List ℤ) (queue : List ℕ) (items : List ℕ) (writes : List ℤ) (snapshots : List ℤ) (values : List ℤ) (stamps : List ℕ) (places : List ℕ) (outbox : List ℕ) → (length table ≡ 6 → ⊥) → MakeDid table turn counts size me start queue items writes snapshots values stamps places outbox (record { number = 1; counts = counts }) table turn queue items writes snapshots values stamps places outbox
+pub make-not : (table : List Txn) (turn : Turn) (counts : Counts) (size : ℕ) (me : ℕ) (start : List ℤ) (queue : List ℕ) (items : List ℕ) (writes : List ℤ) (snapshots : List ℤ) (values : List ℤ) (stamps : List ℕ) (places : List ℕ) (outbox : List ℕ) → (length table ≡ 6 → ⊥) → MakeDid table turn counts size me start queue items writes snapshots values stamps places outbox (1) table turn counts queue items writes snapshots values stamps places outbox
 make-not table turn counts size me start queue items writes snapshots values stamps places outbox other = rw (called-other (λ (x : Memory). makeStep x size me start) (allParts turn counts table queue items writes snapshots values stamps places outbox) other) (refl, refl)
-
-pub make-did : (table : List Txn) (turn : Turn) (counts : Counts) (size : ℕ) (me : ℕ) (start : List ℤ) (queue : List ℕ) (items : List ℕ) (writes : List ℤ) (snapshots : List ℤ) (values : List ℤ) (stamps : List ℕ) (places : List ℕ) (outbox : List ℕ) (r : Made) (queue′ : List ℕ) (items′ : List ℕ) (writes′ : List ℤ) (snapshots′ : List ℤ) (values′ : List ℤ) (stamps′ : List ℕ) (places′ : List ℕ) (outbox′ : List ℕ) → length table ≡ 6 → MakeOn (loaded table) turn counts size me start queue items writes snapshots values stamps places outbox r queue′ items′ writes′ snapshots′ values′ stamps′ places′ outbox′
-    → MakeDid table turn counts size me start queue items writes snapshots values stamps places outbox (r .reply) (stored (r .rows) table) (r .turn) queue′ items′ writes′ snapshots′ values′ stamps′ places′ outbox′
-make-did table turn counts size me start queue items writes snapshots values stamps places outbox r queue′ items′ writes′ snapshots′ values′ stamps′ places′ outbox′ six said =
-    let q = (rw (loaded-six table six) at said) in
-    rw (called-six (λ (x : Memory). makeStep x size me start) (allParts turn counts table queue items writes snapshots values stamps places outbox) six, stored-six (r .rows) table six) q
 
 abbrev pub SendOn : List Txn → Turn → Counts → List ℕ → List ℕ → List ℤ → List ℕ → List ℕ → Sent → List ℕ → List ℕ → List ℕ → Type 0
 SendOn rows turn counts queue items writes outbox block r queue′ outbox′ block′ = (m : Memory) → GivesBlock (sendStep (sendParts m turn counts rows queue items writes outbox) block) block (r .number) (sendParts m (r .turn) counts (r .rows) queue′ items writes outbox′) block′
@@ -47,26 +41,14 @@ SendDid table turn counts queue items writes outbox block r table′ turn′ que
 pub send-not : (table : List Txn) (turn : Turn) (counts : Counts) (queue : List ℕ) (items : List ℕ) (writes : List ℤ) (outbox : List ℕ) (block : List ℕ) → (length table ≡ 6 → ⊥) → SendDid table turn counts queue items writes outbox block (1) table turn queue outbox block
 send-not table turn counts queue items writes outbox block other = λ m. rw (called-other (λ (x : Memory). sendStep x block) (sendParts m turn counts table queue items writes outbox) other) ((refl, refl), refl)
 
-pub send-did : (table : List Txn) (turn : Turn) (counts : Counts) (queue : List ℕ) (items : List ℕ) (writes : List ℤ) (outbox : List ℕ) (block : List ℕ) (r : Sent) (queue′ : List ℕ) (outbox′ : List ℕ) (block′ : List ℕ) → length table ≡ 6 → SendOn (loaded table) turn counts queue items writes outbox block r queue′ outbox′ block′
-    → SendDid table turn counts queue items writes outbox block (r .number) (stored (r .rows) table) (r .turn) queue′ outbox′ block′
-send-did table turn counts queue items writes outbox block r queue′ outbox′ block′ six said = λ m.
-    let q = (rw (loaded-six table six) at said) m in
-    rw (called-six (λ (x : Memory). sendStep x block) (sendParts m turn counts table queue items writes outbox) six, stored-six (r .rows) table six) q
-
 abbrev pub WorkOn : List Txn → Turn → Counts → List ℕ → List ℕ → List ℤ → List ℕ → List ℕ → Worked → List ℕ → List ℤ → List ℕ → List ℕ → Type 0
-WorkOn rows turn counts queue items values stamps places r queue′ values′ stamps′ places′ = (m : Memory) → Gives workReply (workStep (workParts m turn counts rows queue items values stamps places)) (r .reply) (workParts m (r .turn) (r .reply .counts) (r .rows) queue′ items values′ stamps′ places′)
+WorkOn rows turn counts queue items values stamps places r queue′ values′ stamps′ places′ = (m : Memory) → Gives workReply (workStep (workParts m turn counts rows queue items values stamps places)) (r .reply) (workParts m (r .turn) (r .counts) (endRows (r .ended) rows) queue′ items values′ stamps′ places′) × (r .ended ≡ endedMarks (workParts m turn counts rows queue items values stamps places))
 
-abbrev pub WorkDid : List Txn → Turn → Counts → List ℕ → List ℕ → List ℤ → List ℕ → List ℕ → WorkReply → List Txn → Turn → List ℕ → List ℤ → List ℕ → List ℕ → Type 0
-WorkDid table turn counts queue items values stamps places r table′ turn′ queue′ values′ stamps′ places′ = (m : Memory) → Gives workReply (called (λ (x : Memory). workStep x) (workParts m turn counts table queue items values stamps places)) (r) (workParts m turn′ (r .counts) table′ queue′ items values′ stamps′ places′)
+abbrev pub WorkDid : List Txn → Turn → Counts → List ℕ → List ℕ → List ℤ → List ℕ → List ℕ → WorkReply → List Txn → Turn → Counts → List ℕ → List ℤ → List ℕ → List ℕ → Type 0
+WorkDid table turn counts queue items values stamps places r table′ turn′ counts′ queue′ values′ stamps′ places′ = (m : Memory) → Gives workReply (called (λ (x : Memory). workStep x) (workParts m turn counts table queue items values stamps places)) (r) (workParts m turn′ counts′ table′ queue′ items values′ stamps′ places′)
 
-pub work-not : (table : List Txn) (turn : Turn) (counts : Counts) (queue : List ℕ) (items : List ℕ) (values : List ℤ) (stamps : List ℕ) (places : List ℕ) → (length table ≡ 6 → ⊥) → WorkDid table turn counts queue items values stamps places (record { number = 1; sender = 0; moved = false; count = 0; ticket = 0; aborted = replicate 6 0; counts = counts }) table turn queue values stamps places
+pub work-not : (table : List Txn) (turn : Turn) (counts : Counts) (queue : List ℕ) (items : List ℕ) (values : List ℤ) (stamps : List ℕ) (places : List ℕ) → (length table ≡ 6 → ⊥) → WorkDid table turn counts queue items values stamps places (record { number = 1; sender = 0; moved = false; count = 0; ticket = 0; aborted = replicate 6 0 }) table turn counts queue values stamps places
 work-not table turn counts queue items values stamps places other = λ m. rw (called-other (λ (x : Memory). workStep x) (workParts m turn counts table queue items values stamps places) other) (refl, refl)
-
-pub work-did : (table : List Txn) (turn : Turn) (counts : Counts) (queue : List ℕ) (items : List ℕ) (values : List ℤ) (stamps : List ℕ) (places : List ℕ) (r : Worked) (queue′ : List ℕ) (values′ : List ℤ) (stamps′ : List ℕ) (places′ : List ℕ) → length table ≡ 6 → WorkOn (loaded table) turn counts queue items values stamps places r queue′ values′ stamps′ places′
-    → WorkDid table turn counts queue items values stamps places (r .reply) (stored (r .rows) table) (r .turn) queue′ values′ stamps′ places′
-work-did table turn counts queue items values stamps places r queue′ values′ stamps′ places′ six said = λ m.
-    let q = (rw (loaded-six table six) at said) m in
-    rw (called-six (λ (x : Memory). workStep x) (workParts m turn counts table queue items values stamps places) six, stored-six (r .rows) table six) q
 
 abbrev pub DeliverOn : Turn → Counts → List ℕ → List ℕ → List ℕ → ℕ → List ℕ → Type 0
 DeliverOn turn counts places outbox bytes r places′ = (m : Memory) → Gives number (deliverStep (deliverParts m turn counts places outbox) bytes) r (deliverParts m turn counts places′ outbox)

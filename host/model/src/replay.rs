@@ -132,7 +132,7 @@ impl Replay {
 }
 
 /// An accepted call's answer as it is printed.
-fn show(answer: &Answer) -> String {
+pub fn show(answer: &Answer) -> String {
     match answer {
         Answer::Done => accepted::<u32>(&[]),
         Answer::Ticket(ticket) => accepted(&[ticket]),

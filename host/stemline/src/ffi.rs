@@ -1,8 +1,10 @@
 //! The static library as Rust sees it: its structs, and its ten functions as safe ones over slices,
 //! parameter by parameter those of `crates/replica/src/lib.rt`. `host/include/stemline.h` says the same
-//! in C; a test compares the layouts.
+//! in C; tests compare the layouts, and the parameters of all three.
 //!
 //! Most hosts want [`crate::Replica`], which owns what the functions are lent.
+
+use crate::TABLE;
 
 /// An open transaction. Ticket 0 is a free row. Stage 0 is active, 1 asked, 2 sent.
 #[repr(C)]
@@ -27,7 +29,7 @@ pub struct Turn {
     pub applying: u8,
 }
 
-/// The numbers of a replica. A call gives them back as they are after it.
+/// The numbers of a replica, lent as the turn is.
 #[repr(C)]
 #[derive(Clone, Copy, Debug, Default, PartialEq, Eq)]
 pub struct Counts {
@@ -62,20 +64,13 @@ pub struct Report {
     pub withdrawn: u32,
 }
 
-/// Number 0 where the call is accepted, and the counts after it; so in the replies below.
-#[repr(C)]
-#[derive(Clone, Copy, Debug, Default, PartialEq, Eq)]
-pub struct Reply {
-    pub counts: Counts,
-    pub number: u8,
-}
-
+/// Number 0 where the call is accepted; so in the replies below, which are zero in all else where it is
+/// refused.
 #[repr(C)]
 #[derive(Clone, Copy, Debug, Default, PartialEq, Eq)]
 pub struct BeginReply {
-    pub counts: Counts,
-    pub ticket: u32,
     pub number: u8,
+    pub ticket: u32,
 }
 
 #[repr(C)]
@@ -88,7 +83,6 @@ pub struct ReadReply {
 #[repr(C)]
 #[derive(Clone, Copy, Debug, Default, PartialEq, Eq)]
 pub struct AskReply {
-    pub counts: Counts,
     pub number: u8,
     /// Whether the transaction had no writes and so ended.
     pub read_only: bool,
@@ -113,8 +107,7 @@ pub struct WorkReply {
     /// The ticket of the writeset committed, 0 for a block without records.
     pub ticket: u32,
     /// Rising, zeros behind the first `count`.
-    pub aborted: [u32; 6],
-    pub counts: Counts,
+    pub aborted: [u32; TABLE],
 }
 
 // A wrong size would be memory that the library writes and Rust does not own.
@@ -123,16 +116,16 @@ const _: () = {
     assert!(size_of::<Turn>() == 8);
     assert!(size_of::<Counts>() == 32);
     assert!(size_of::<Report>() == 32);
-    assert!(size_of::<Reply>() == 36);
-    assert!(size_of::<BeginReply>() == 40);
+    assert!(size_of::<BeginReply>() == 8);
     assert!(size_of::<ReadReply>() == 8);
-    assert!(size_of::<AskReply>() == 36);
+    assert!(size_of::<AskReply>() == 2);
     assert!(size_of::<ReportReply>() == 36);
-    assert!(size_of::<WorkReply>() == 64);
+    assert!(size_of::<WorkReply>() == 32);
 };
 
 /// Declares the library's functions and makes each a safe one. A slice crosses as its pointer and its
-/// length, `mut` where the call may change it and `ref` where it only looks; all else crosses as it is.
+/// length, `mut` where the call may change it and `ref` where it only looks; all else crosses as it is,
+/// a reference as a pointer.
 /// A call is defined on slices of any length and content, and the borrows keep them apart.
 macro_rules! calls {
     ($($(#[$says:meta])* fn $name:ident = $symbol:ident(
@@ -158,16 +151,17 @@ macro_rules! calls {
 }
 
 calls! {
-    /// Fills the parts of replica `own` of `n` that starts with 128 values. Refused by 1, 2.
+    /// Fills the parts, whatever they held: replica `own` of `n`, with 128 values to start with. Refused
+    /// by 1, 2; with an `n` out of range the places may have any length.
     fn make = stemline_make(
-        table: mut [Txn], turn: &mut Turn, counts: Counts, n: u32, own: u32, start: ref [i32],
+        table: mut [Txn], turn: &mut Turn, counts: &mut Counts, n: u32, own: u32, start: ref [i32],
         queue: mut [u32], items: mut [u8], writes: mut [i32], snapshots: mut [i32],
         values: mut [i32], stamps: mut [u32], places: mut [u8], outbox: mut [u8]
-    ) -> Reply;
+    ) -> u8;
 
     /// Opens a transaction. Refused by 1, 5, 6.
     fn begin = stemline_begin(
-        table: mut [Txn], counts: Counts, values: ref [i32], snapshots: mut [i32]
+        table: mut [Txn], counts: &mut Counts, values: ref [i32], snapshots: mut [i32]
     ) -> BeginReply;
 
     /// What a transaction reads of an item. Refused by 1, 2, 3, 4.
@@ -178,35 +172,35 @@ calls! {
 
     /// Puts an item and its value into a writeset. Refused by 1, 2, 3, 4, 7, 8, 9, 10.
     fn write = stemline_write(
-        table: mut [Txn], turn: &Turn, ticket: u32, counts: Counts, items: mut [u8],
+        table: mut [Txn], turn: &Turn, counts: &mut Counts, ticket: u32, items: mut [u8],
         writes: mut [i32], stamps: ref [u32], item: u32, value: i32
-    ) -> Reply;
+    ) -> u8;
 
     /// Requests commit. Refused by 1, 3, 4.
     fn ask = stemline_ask(
-        table: mut [Txn], ticket: u32, counts: Counts, queue: mut [u32]
+        table: mut [Txn], counts: &mut Counts, ticket: u32, queue: mut [u32]
     ) -> AskReply;
 
     /// Ends an active transaction. Refused by 1, 3, 4.
-    fn withdraw = stemline_withdraw(table: mut [Txn], ticket: u32, counts: Counts) -> Reply;
+    fn withdraw = stemline_withdraw(table: mut [Txn], counts: &mut Counts, ticket: u32) -> u8;
 
     /// The replica's report. Refused by 1.
-    fn report = stemline_report(table: ref [Txn], turn: &Turn, counts: Counts) -> ReportReply;
+    fn report = stemline_report(table: ref [Txn], turn: &Turn, counts: &Counts) -> ReportReply;
 
     /// Writes the block for the own slot. Refused by 1, 13, 11, 12.
     fn send = stemline_send(
-        table: mut [Txn], turn: &mut Turn, counts: Counts, queue: mut [u32], items: ref [u8],
+        table: mut [Txn], turn: &mut Turn, counts: &Counts, queue: mut [u32], items: ref [u8],
         writes: ref [i32], outbox: mut [u8], block: mut [u8]
     ) -> u8;
 
     /// Keeps a block until its slot is the turn. Refused by 1, 14, 15, 16, 17, 18, 19, 20.
     fn deliver = stemline_deliver(
-        turn: &Turn, counts: Counts, places: mut [u8], outbox: ref [u8], bytes: ref [u8]
+        turn: &Turn, counts: &Counts, places: mut [u8], outbox: ref [u8], bytes: ref [u8]
     ) -> u8;
 
     /// Takes one step at the block of the turn. Refused by 1, 21, 22.
     fn work = stemline_work(
-        table: mut [Txn], turn: &mut Turn, counts: Counts, queue: mut [u32], items: ref [u8],
+        table: mut [Txn], turn: &mut Turn, counts: &mut Counts, queue: mut [u32], items: ref [u8],
         values: mut [i32], stamps: mut [u32], places: mut [u8]
     ) -> WorkReply;
 }

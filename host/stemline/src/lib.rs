@@ -1,10 +1,35 @@
 //! A replica of the proved engine, for Rust.
 //!
 //! [`Replica`] has document 01's ten calls. A refused call gives a [`Refusal`] and changes nothing,
-//! but for [`Refusal::Stale`], which ends its transaction. Who has several replicas moves the blocks:
-//! what [`Replica::send`] gives goes to every replica of the group, the sender too, by
-//! [`Replica::deliver`]; then [`Replica::work`] takes one step at a time until it is refused by
-//! [`Refusal::NothingWaits`].
+//! but for [`Refusal::Stale`], which ends its transaction. A group has 2 to 6 replicas, numbered from 0;
+//! each holds 128 values, of the items 0 to 127.
+//!
+//! Who has several replicas moves the blocks. Slot s belongs to replica s mod n, and only its owner may
+//! send for it: when [`Replica::is_turn`] holds, what [`Replica::send`] gives goes to every replica of
+//! the group, the sender too, and each takes it with [`Replica::take`]. A replica at which nothing was
+//! asked sends too: until it does, the whole group waits.
+//!
+//! ```
+//! use stemline::{Refusal, Replica, ITEMS};
+//!
+//! fn main() -> Result<(), Refusal> {
+//!     let start = [0; ITEMS];
+//!     let mut group = [Replica::new(2, 0, &start)?, Replica::new(2, 1, &start)?];
+//!     let ticket = group[1].begin()?;
+//!     group[1].write(ticket, 5, 40)?;
+//!     group[1].ask(ticket)?;
+//!     // Slot 0 is replica 0's, which sends with nothing asked; slot 1 is replica 1's.
+//!     for k in 0..2 {
+//!         assert!(group[k].is_turn());
+//!         let block = group[k].send()?;
+//!         for replica in &mut group {
+//!             replica.take(&block)?;
+//!         }
+//!     }
+//!     assert_eq!(group[0].values()[5], 40);
+//!     Ok(())
+//! }
+//! ```
 
 pub mod ffi;
 mod memory;
@@ -14,18 +39,26 @@ pub use ffi::Report;
 pub use memory::Memory;
 pub use refusal::Refusal;
 
+// The limits, by the names and with the numbers that they have in C (`STEMLINE_` in front).
+
+/// The most replicas of a group. The fewest are 2.
+pub const REPLICAS: usize = 6;
+/// Slots of a run, numbered from 0. A replica at this turn has processed them all.
+pub const SLOTS: u32 = 100_000_000;
 /// Rows of the table: the most open transactions.
 pub const TABLE: usize = 6;
+/// Tickets of the queue: those asked and not yet sent.
+pub const QUEUE: usize = 6;
 /// Items of a replica, numbered from 0; as many values, stamps and values to start with.
 pub const ITEMS: usize = 128;
-/// Items and written values of all rows.
-pub const PLACED: usize = 48;
-/// Values of all snapshots.
+/// Written items of all rows, 8 for each; as many values beside them.
+pub const WRITTEN: usize = 48;
+/// Values of all snapshots, 128 for each row.
 pub const SNAPSHOTS: usize = 768;
-/// Tickets of the queue.
-pub const QUEUE: usize = 6;
 /// Bytes of a block. The places have so many for each replica of the group.
 pub const BLOCK: usize = 512;
+/// The most steps of one [`Replica::take`]: 6 blocks wait at most, of 6 writesets each.
+pub const STEPS: usize = 36;
 
 /// One replica of a group.
 #[derive(Clone, Debug, PartialEq, Eq)]
@@ -61,33 +94,36 @@ impl Work {
     }
 }
 
+/// What one [`Replica::take`] did.
+#[derive(Clone, Debug, PartialEq, Eq)]
+pub struct Taken {
+    /// The steps, in their order.
+    pub steps: Vec<Work>,
+    /// The refusal, other than [`Refusal::NothingWaits`], of a work that ended the steps. Only altered
+    /// memory leads to one.
+    pub refused: Option<Refusal>,
+}
+
 /// `Ok` of a value for 0, the refusal for any other number.
 #[inline]
 fn accepted<T>(number: u8, value: T) -> Result<T, Refusal> {
-    match number {
-        0 => Ok(value),
-        _ => Err(refusal(number)),
+    match Refusal::from_number(number) {
+        None => Ok(value),
+        Some(refusal) => Err(refusal),
     }
-}
-
-// Apart, and cold: an accepted call goes straight on.
-#[cold]
-#[inline(never)]
-fn refusal(number: u8) -> Refusal {
-    Refusal::from_number(number).unwrap_or(Refusal::Unknown(number))
 }
 
 impl Replica {
     /// Replica `own` of `n`, 2 to 6, with these values to start with. Refused by 2.
     pub fn new(n: u32, own: u32, values: &[i32; ITEMS]) -> Result<Replica, Refusal> {
         // An n out of range is refused whatever the places are.
-        let places = if n <= 6 { n as usize } else { 0 };
+        let places = REPLICAS.min(n as usize);
         let mut memory = Box::new(Memory::zero(places));
         let m = &mut *memory;
-        let reply = ffi::make(
+        let number = ffi::make(
             &mut m.table,
             &mut m.turn,
-            m.counts,
+            &mut m.counts,
             n,
             own,
             values,
@@ -100,8 +136,7 @@ impl Replica {
             &mut m.places,
             &mut m.outbox,
         );
-        m.counts = reply.counts;
-        accepted(reply.number, Replica { memory })
+        accepted(number, Replica { memory })
     }
 
     /// A replica of a memory that was taken from one before. Where its places have another length
@@ -126,8 +161,7 @@ impl Replica {
     #[inline]
     pub fn begin(&mut self) -> Result<u32, Refusal> {
         let m = &mut *self.memory;
-        let reply = ffi::begin(&mut m.table, m.counts, &m.values, &mut m.snapshots);
-        m.counts = reply.counts;
+        let reply = ffi::begin(&mut m.table, &mut m.counts, &m.values, &mut m.snapshots);
         accepted(reply.number, reply.ticket)
     }
 
@@ -144,27 +178,25 @@ impl Replica {
     #[inline]
     pub fn write(&mut self, ticket: u32, item: u32, value: i32) -> Result<(), Refusal> {
         let m = &mut *self.memory;
-        let reply = ffi::write(
+        let number = ffi::write(
             &mut m.table,
             &m.turn,
+            &mut m.counts,
             ticket,
-            m.counts,
             &mut m.items,
             &mut m.writes,
             &m.stamps,
             item,
             value,
         );
-        m.counts = reply.counts;
-        accepted(reply.number, ())
+        accepted(number, ())
     }
 
     /// Requests commit. Refused by 3, 4.
     #[inline]
     pub fn ask(&mut self, ticket: u32) -> Result<Asked, Refusal> {
         let m = &mut *self.memory;
-        let reply = ffi::ask(&mut m.table, ticket, m.counts, &mut m.queue);
-        m.counts = reply.counts;
+        let reply = ffi::ask(&mut m.table, &mut m.counts, ticket, &mut m.queue);
         let asked = match reply.read_only {
             true => Asked::ReadOnly,
             false => Asked::Waiting,
@@ -176,20 +208,29 @@ impl Replica {
     #[inline]
     pub fn withdraw(&mut self, ticket: u32) -> Result<(), Refusal> {
         let m = &mut *self.memory;
-        let reply = ffi::withdraw(&mut m.table, ticket, m.counts);
-        m.counts = reply.counts;
-        accepted(reply.number, ())
+        let number = ffi::withdraw(&mut m.table, &mut m.counts, ticket);
+        accepted(number, ())
     }
 
     /// The counts of the calls so far. The table has its length, so this is never refused.
     #[inline]
     pub fn report(&self) -> Report {
         let m = &*self.memory;
-        ffi::report(&m.table, &m.turn, m.counts).report
+        ffi::report(&m.table, &m.turn, &m.counts).report
     }
 
-    /// The block for the own slot, with the writesets of all transactions asked so far. It goes to
-    /// every replica of the group, this one too. Refused by 13, 11, 12.
+    /// Whether a [`Replica::send`] would be accepted now: the turn is a slot of this replica, its block
+    /// for that slot is not sent yet, and slots are left.
+    #[inline]
+    pub fn is_turn(&self) -> bool {
+        let (turn, counts) = (&self.memory.turn, &self.memory.counts);
+        // Only in altered memory are there no replicas; a slot mod 0 is then the slot itself.
+        let owner = turn.slot.checked_rem(counts.replicas.into());
+        turn.slot < SLOTS && owner.unwrap_or(turn.slot) == counts.own.into() && turn.sent == 0
+    }
+
+    /// The block for the own slot, with the writesets of all transactions asked so far, be it none. It
+    /// goes to every replica of the group, this one too. Refused by 13, 11, 12.
     #[inline]
     pub fn send(&mut self) -> Result<[u8; BLOCK], Refusal> {
         let mut block = [0; BLOCK];
@@ -197,7 +238,7 @@ impl Replica {
         let number = ffi::send(
             &mut m.table,
             &mut m.turn,
-            m.counts,
+            &m.counts,
             &mut m.queue,
             &m.items,
             &m.writes,
@@ -211,26 +252,25 @@ impl Replica {
     #[inline]
     pub fn deliver(&mut self, bytes: &[u8]) -> Result<(), Refusal> {
         let m = &mut *self.memory;
-        let number = ffi::deliver(&m.turn, m.counts, &mut m.places, &m.outbox, bytes);
+        let number = ffi::deliver(&m.turn, &m.counts, &mut m.places, &m.outbox, bytes);
         accepted(number, ())
     }
 
     /// Takes one step at the block of the turn: commits its next writeset, or passes over a block
-    /// without records. Refused by 21, 22.
+    /// without records. Refused by 1, 21, 22.
     #[inline]
     pub fn work(&mut self) -> Result<Work, Refusal> {
         let m = &mut *self.memory;
         let reply = ffi::work(
             &mut m.table,
             &mut m.turn,
-            m.counts,
+            &mut m.counts,
             &mut m.queue,
             &m.items,
             &mut m.values,
             &mut m.stamps,
             &mut m.places,
         );
-        m.counts = reply.counts;
         let work = Work {
             sender: reply.sender,
             ticket: reply.ticket,
@@ -239,5 +279,34 @@ impl Replica {
             count: reply.count,
         };
         accepted(reply.number, work)
+    }
+
+    /// What a replica does with a block that arrives: delivers it, then works until nothing waits for the
+    /// turn. Gives the steps in their order: none where the block is early and has to wait; those of
+    /// blocks that waited already too, where this is the one that they waited for.
+    ///
+    /// Refused by 1, 14, 15, 16, 17, 18, 19, 20, as the deliver is: nothing is worked, and what waits
+    /// already goes on waiting. So it is with a block that comes a second time (17 or 20), which a
+    /// host may pass over.
+    ///
+    /// A work that is refused by any other number than 21 ends the steps: [`Taken::refused`] says by
+    /// which, and the steps before it are done. Only altered memory leads to that, or to more than
+    /// [`STEPS`] steps, of which the rest is left to the next take.
+    pub fn take(&mut self, bytes: &[u8]) -> Result<Taken, Refusal> {
+        self.deliver(bytes)?;
+        let mut taken = Taken {
+            steps: Vec::new(),
+            refused: None,
+        };
+        while taken.steps.len() < STEPS {
+            match self.work() {
+                Ok(work) => taken.steps.push(work),
+                Err(refusal) => {
+                    taken.refused = Some(refusal).filter(|&r| r != Refusal::NothingWaits);
+                    break;
+                }
+            }
+        }
+        Ok(taken)
     }
 }

@@ -1,7 +1,7 @@
 //! The parts of a replica's memory in one value that owns them.
 
 use crate::ffi::{Counts, Turn, Txn};
-use crate::{BLOCK, ITEMS, PLACED, QUEUE, SNAPSHOTS, TABLE};
+use crate::{BLOCK, ITEMS, QUEUE, SNAPSHOTS, TABLE, WRITTEN};
 
 /// A replica's memory. Each call is defined on any content, so the fields are open to a host that
 /// stores and restores them; what the calls promise holds of a memory that only calls have changed.
@@ -11,9 +11,9 @@ pub struct Memory {
     pub turn: Turn,
     pub counts: Counts,
     /// Row r's written items, rising, from 8·r on.
-    pub items: [u8; PLACED],
+    pub items: [u8; WRITTEN],
     /// The value beside each item.
-    pub writes: [i32; PLACED],
+    pub writes: [i32; WRITTEN],
     /// Row r's copy of the values at its begin, from 128·r on.
     pub snapshots: [i32; SNAPSHOTS],
     /// The tickets asked and not yet sent, in the order asked, zeros behind.
@@ -35,8 +35,8 @@ impl Memory {
             table: [Txn::default(); TABLE],
             turn: Turn::default(),
             counts: Counts::default(),
-            items: [0; PLACED],
-            writes: [0; PLACED],
+            items: [0; WRITTEN],
+            writes: [0; WRITTEN],
             snapshots: [0; SNAPSHOTS],
             queue: [0; QUEUE],
             values: [0; ITEMS],

@@ -1,9 +1,13 @@
 //! Why a call is refused.
 
+use std::num::NonZeroU8;
 use std::{error, fmt};
 
 /// Why a call is refused: one case for each number of document 01's table.
-#[derive(Clone, Copy, Debug, PartialEq, Eq, Hash)]
+///
+/// Both `{}` and `{:?}` write the words and the number, so that a `main` that gives it back by `?` ends
+/// in `Error: the block's check does not match (14)`.
+#[derive(Clone, Copy, PartialEq, Eq, Hash)]
 #[non_exhaustive]
 pub enum Refusal {
     WrongLength,
@@ -33,7 +37,8 @@ pub enum Refusal {
     Unknown(u8),
 }
 
-/// The cases in the order of their numbers, from 1 on, and what each says.
+/// The cases in the order of their numbers, from 1 on, and what each says; `stemline_words` of the C
+/// header says the same.
 const TABLE: [(Refusal, &str); 22] = [
     (
         Refusal::WrongLength,
@@ -94,10 +99,17 @@ const TABLE: [(Refusal, &str); 22] = [
 
 impl Refusal {
     /// The refusal of a number; `None` for 0, which accepts.
+    #[inline]
     pub fn from_number(number: u8) -> Option<Refusal> {
-        let at = number.checked_sub(1)?;
-        let known = TABLE.get(usize::from(at));
-        Some(known.map_or(Refusal::Unknown(number), |&(refusal, _)| refusal))
+        NonZeroU8::new(number).map(Refusal::refused_by)
+    }
+
+    // Apart, and cold: an accepted call goes straight on.
+    #[cold]
+    #[inline(never)]
+    fn refused_by(number: NonZeroU8) -> Refusal {
+        let known = TABLE.get(usize::from(number.get() - 1));
+        known.map_or(Refusal::Unknown(number.get()), |&(refusal, _)| refusal)
     }
 
     /// The number in document 01's table.
@@ -106,6 +118,12 @@ impl Refusal {
             Refusal::Unknown(number) => number,
             known => 1 + known.entry() as u8,
         }
+    }
+
+    /// What the number stands for.
+    pub fn words(self) -> &'static str {
+        let known = TABLE.get(self.entry());
+        known.map_or("refused by an unknown number", |&(_, words)| words)
     }
 
     /// Where the table has it; behind its end for an unknown number.
@@ -117,10 +135,13 @@ impl Refusal {
 
 impl fmt::Display for Refusal {
     fn fmt(&self, f: &mut fmt::Formatter) -> fmt::Result {
-        match TABLE.get(self.entry()) {
-            Some((_, words)) => write!(f, "{words} ({})", self.number()),
-            None => write!(f, "refused by an unknown number ({})", self.number()),
-        }
+        write!(f, "{} ({})", self.words(), self.number())
+    }
+}
+
+impl fmt::Debug for Refusal {
+    fn fmt(&self, f: &mut fmt::Formatter) -> fmt::Result {
+        fmt::Display::fmt(self, f)
     }
 }
 
@@ -149,6 +170,9 @@ mod tests {
         assert!((1..23).all(|at| !said[..at].contains(&said[at])));
         let boxed: Box<dyn error::Error> = Box::new(Refusal::Stale);
         assert!(boxed.to_string().ends_with("(9)"));
+        // What std prints of a main that ends in an error.
+        let said = format!("Error: {:?}", Refusal::WrongCheck);
+        assert_eq!(said, "Error: the block's check does not match (14)");
     }
 
     /// By the table of document 01.

@@ -1,4 +1,4 @@
--- `abort_rows` meets its contract. The loop's invariant: the rows from r on that are hit are closed, and their tickets are listed. Assumes nothing.
+-- `abort_rows` meets its contract. The loop's invariant: the rows from r on that are hit are marked, and their tickets are listed. Assumes nothing.
 use Prim.Native.Nat.{_-_}
 use mathlib.Core.Path.{_≡_, refl}
 use native.Mathlib.Omega.{arith}
@@ -10,16 +10,16 @@ use Rattle.call_commit.proofs.abort_rows.Statement.{statement}
 use Rattle.call_commit.proofs.abort_rows.Tie as tie
 
 abbrev Inv-loop : tie.InvT-loop
-Inv-loop items block j table rows₀ tickets₀ count₀ r₀ rows tickets count r = Aborting (writesetAt block j .entries) items table rows tickets count r
+Inv-loop items block j table marks₀ tickets₀ count₀ r₀ marks tickets count r = Aborting (writesetAt block j .entries) items table marks tickets count r
 
 abbrev μ-loop : tie.MeasureT-loop
-μ-loop items block j table rows₀ tickets₀ count₀ r₀ rows tickets count r = r
+μ-loop items block j table marks₀ tickets₀ count₀ r₀ marks tickets count r = r
 
 loop-holds : tie.Need-loop-holds Inv-loop μ-loop
 loop-holds c =
     let a = c .before .before .args in
     let six : length (a .t1) ≡ 6 = search needs in
-    abort-none (writesetAt (a .block .now) (a .j) .entries) (a .items .now) (a .t1) six _ refl
+    abort-none (writesetAt (a .block .now) (a .j) .entries) (a .items .now) (a .t1) six _ _ refl refl
 
 sub-r : tie.Need-sub-r Inv-loop μ-loop
 sub-r c = search needs
@@ -33,11 +33,8 @@ array-copy-out-t c = omega arith
 is-hit-requires : tie.Need-is-hit-requires Inv-loop μ-loop
 is-hit-requires c κs = omega arith
 
-mul-rows : tie.Need-mul-rows Inv-loop μ-loop
-mul-rows c = omega arith
-
-array-set-from-rows : tie.Need-array-set-from-rows Inv-loop μ-loop
-array-set-from-rows c = omega arith
+array-write-marks : tie.Need-array-write-marks Inv-loop μ-loop
+array-write-marks c = omega arith
 
 insert-rising-requires : tie.Need-insert-rising-requires Inv-loop μ-loop
 insert-rising-requires c κs = omega arith
@@ -54,7 +51,7 @@ loop-again c =
     let b = h .before .before .before in
     let a = b .before .before .before .args in
     let six : length (a .t1) ≡ 6 = search needs in
-    abort-hit (writesetAt (a .block .now) (a .j) .entries) (a .items .now) (a .t1) six (b .loop .rows) (b .loop .tickets) (b .loop .count) (b .loop .r - 1) (b .loop .r)
+    abort-hit (writesetAt (a .block .now) (a .j) .entries) (a .items .now) (a .t1) six (b .loop .marks) (b .loop .tickets) (b .loop .count) (b .loop .r - 1) (b .loop .r)
     (omega arith) (b .loop .inv) (h .is-hit .result) (h .is-hit .ensures) (c .before .if1 .taken) (c .insert-rising .result) (c .insert-rising .ensures .0) (c .insert-rising .ensures .1)
 
 loop-less-2 : tie.Need-loop-less-2 Inv-loop μ-loop
@@ -66,14 +63,14 @@ loop-again-2 c =
     let b = h .before .before .before in
     let a = b .before .before .before .args in
     let six : length (a .t1) ≡ 6 = search needs in
-    abort-miss (writesetAt (a .block .now) (a .j) .entries) (a .items .now) (a .t1) six (b .loop .rows) (b .loop .tickets) (b .loop .count) (b .loop .r - 1) (b .loop .r)
+    abort-miss (writesetAt (a .block .now) (a .j) .entries) (a .items .now) (a .t1) six (b .loop .marks) (b .loop .tickets) (b .loop .count) (b .loop .r - 1) (b .loop .r)
     (omega arith) (b .loop .inv) (h .is-hit .result) (h .is-hit .ensures) (c .if1 .left)
 
 returns : tie.Need-returns Inv-loop μ-loop
 returns c =
     let b = c .before in
     let e : b .loop .r ≡ 0 = omega arith in
-    (rw e at (b .loop .inv .rows-are), rw e at (b .loop .inv .tickets-are), omega (arith, b .loop .inv .room), b .loop .inv .zeros)
+    (rw e at (b .loop .inv .marks-are), rw e at (b .loop .inv .tickets-are), omega (arith, b .loop .inv .room), b .loop .inv .zeros)
 
 pub abort-rows-spec : {M : Type 1} → statement M
 abort-rows-spec =
@@ -86,8 +83,7 @@ abort-rows-spec =
     mul-t
     array-copy-out-t
     is-hit-requires
-    mul-rows
-    array-set-from-rows
+    array-write-marks
     insert-rising-requires
     add-count
     loop-less

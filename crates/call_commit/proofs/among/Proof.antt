@@ -6,7 +6,7 @@ use borrow.Author.Needs.{needs}
 use lib.ListN.{length, take, drop}
 use lib.Seq.{getD-take, length-take-le}
 use Rattle.memory.specs.Rows.{has}
-use Rattle.call_commit.proofs.ListLaws.{has-here, has-later, has-none}
+use Rattle.memory.proofs.RowLaws.{has-here, has-later, has-none}
 use Rattle.call_commit.proofs.among.Statement.{statement}
 use Rattle.call_commit.proofs.among.Tie as tie
 

@@ -1,30 +1,37 @@
 -- `make` meets its contract: the refusal's number, or what clearing and copying leave.
 use mathlib.Core.Path.{_≡_, refl, sym, _∙_}
+use mathlib.Core.List.{List, []}
 use native.Mathlib.Omega.{arith}
+use lib.ListN.{replicate}
+use Rattle.memory.specs.declared.Counts.{Counts}
+use Rattle.memory.specs.declared.Turn.{Turn}
+use Rattle.memory.specs.declared.Txn.{Txn}
 use Rattle.memory.specs.Memory.{Memory}
-use Rattle.engine.specs.Make.{placesFit, makeRefusal}
+use Rattle.memory.specs.Rows.{closed}
+use Rattle.engine.specs.Make.{turnZero, countsFor, placesFit, makeRefusal}
 use Rattle.call_reply.specs.Parts.{allParts}
-use Rattle.call_reply.specs.Replies.{reply}
+use Rattle.call_reply.specs.Replies.{number}
 use Rattle.call_reply.proofs.ReplyLaws.{gives}
-use Rattle.call_make.proofs.MakeLaws.{Given, given, make-refused, make-taken}
+use Rattle.call_make.proofs.MakeLaws.{Given, given, if-refused, make-refused, make-taken}
 use borrow.Author.Needs.{needs}
 use Rattle.call_make.proofs.make.Statement.{statement}
 use Rattle.call_make.proofs.make.Tie as tie
 
--- the memory lent
-abbrev before : tie.Start → Memory
-before s =
+-- the memory lent, with any turn, counts and table
+abbrev before : tie.Start → Turn → Counts → List Txn → Memory
+before s turn counts rows =
     let a = s .args in
-    allParts (a .turn) (a .counts) (a .rows) (a .queue .now) (a .items .now) (a .writes .now) (a .snapshots .now) (a .values .now) (a .stamps .now) (a .places .now) (a .outbox .now)
+    allParts turn counts rows (a .queue .now) (a .items .now) (a .writes .now) (a .snapshots .now) (a .values .now) (a .stamps .now) (a .places .now) (a .outbox .now)
 
 -- the number is the refusal's
-said : (c : tie.After-refusal) → let s = c .before .before .before .before .before .before .before .before in c .refusal .result ≡ makeRefusal (before s) (s .args .n) (s .args .own) (s .args .start .now)
+said : (c : tie.After-refusal) (turn : Turn) (counts : Counts) (rows : List Txn)
+    → let s = c .before .before .before .before .before .before .before .before in c .refusal .result ≡ makeRefusal (before s turn counts rows) (s .args .n) (s .args .own) (s .args .start .now)
 unfolding placesFit
-said c =
+said c turn counts rows =
     let f = c .before in
     let p = f .before in
     let s = p .before .before .before .before .before .before in
-    c .refusal .ensures (before s) (s .args .start .now) refl (sym (p .parts-fit .ensures)) (sym (f .places-fit .ensures))
+    c .refusal .ensures (before s turn counts rows) (s .args .start .now) refl (sym (p .parts-fit .ensures)) (sym (f .places-fit .ensures))
 
 parts-fit-requires : tie.Need-parts-fit-requires
 parts-fit-requires c κs = search needs
@@ -35,15 +42,20 @@ places-fit-requires c κs = search needs
 refusal-requires : tie.Need-refusal-requires
 refusal-requires c κs = search needs
 
-refused-requires : tie.Need-refused-requires
-refused-requires c κs = search needs
+answer-requires : tie.Need-answer-requires
+answer-requires c κs = search needs
 
 returns : tie.Need-returns
 returns c =
     let r = c .before .before in
     let s = r .before .before .before .before .before .before .before .before in
-    rw (c .refused .ensures)
-    (gives reply (make-refused (before s) (s .args .n) (s .args .own) (s .args .start .now) (r .refusal .result) (said r) (c .before .if1 .taken)))
+    let k = r .refusal .result in
+    let no = c .before .if1 .taken in
+    rw (c .answer .ensures) (
+      λ turn counts rows. gives number (make-refused (before s turn counts rows) (s .args .n) (s .args .own) (s .args .start .now) k (said r turn counts rows) no turnZero (countsFor 0 0) (replicate 6 closed)),
+      refl,
+      if-refused k (countsFor (s .args .n) (s .args .own)) (countsFor 0 0) no,
+    )
 
 clear-numbers-requires : tie.Need-clear-numbers-requires
 clear-numbers-requires c κs = search needs
@@ -70,22 +82,22 @@ clear-bytes-requires-3 : tie.Need-clear-bytes-requires-3
 clear-bytes-requires-3 c κs = search needs
 
 -- what is known once the make is not refused
-taken : (c : tie.Else1) → let s = c .before .before .before .before .before .before .before .before .before in Given (before s) (s .args .n) (s .args .own) (s .args .start .now)
+taken : (c : tie.Else1) → let s = c .before .before .before .before .before .before .before .before .before in Given (before s turnZero (countsFor 0 0) []) (s .args .n) (s .args .own) (s .args .start .now)
 taken c =
     let r = c .before in
     let s = r .before .before .before .before .before .before .before .before in
-    given (before s) (s .args .n) (s .args .own) (s .args .start .now) (sym (said r) ∙ c .if1 .left)
+    given (before s turnZero (countsFor 0 0) []) (s .args .n) (s .args .own) (s .args .start .now) (sym (said r turnZero (countsFor 0 0) []) ∙ c .if1 .left)
 
-cast-fresh : tie.Need-cast-fresh
-cast-fresh c = omega (arith, taken (c .before .before .before .before .before .before .before .before .before .before .before .before .before .before .before .before .before .before .before .before .before .before .before .before .before .before .before .before .before) .most)
+cast-answer : tie.Need-cast-answer
+cast-answer c = omega (arith, taken (c .before .before .before .before .before .before .before .before .before .before .before .before .before .before .before .before .before .before .before .before .before .before .before .before .before .before .before .before .before) .most)
 
-cast-fresh-2 : tie.Need-cast-fresh-2
-cast-fresh-2 c =
+cast-answer-2 : tie.Need-cast-answer-2
+cast-answer-2 c =
     let g = taken (c .before .before .before .before .before .before .before .before .before .before .before .before .before .before .before .before .before .before .before .before .before .before .before .before .before .before .before .before .before) in
     omega (arith, g .most, g .own-low)
 
-fresh-requires : tie.Need-fresh-requires
-fresh-requires c κs = search needs
+answer-requires-2 : tie.Need-answer-requires-2
+answer-requires-2 c κs = search needs
 
 same-length : tie.Need-same-length
 same-length c = c .before .before .before .before .before .before .before .before .before .before .before .before .before .before .before .before .before .before .before .before .before .before .before .before .before .before .before .before .clear-numbers .kept .0
@@ -124,12 +136,16 @@ returns-2 c =
     let e = q .before .before in
     let r = e .before in
     let s = r .before .before .before .before .before .before .before .before in
-    rw (c .fresh .ensures)
-    (gives reply
-    (make-taken (before s) (s .args .n) (s .args .own) (s .args .start .now) (r .refusal .result) (said r) (e .if1 .left)
-    (q .clear-numbers .last .0) (i .clear-bytes .last .0) (w .clear-values .last .0) (n .clear-values2 .last .0) (v .copy-values .last .1 .0) (st .clear-numbers2 .last .0)
-    (pl .clear-bytes2 .last .0) (o .clear-bytes3 .last .0) (q .clear-numbers .ensures) (i .clear-bytes .ensures) (w .clear-values .ensures) (n .clear-values2 .ensures)
-    (v .copy-values .ensures) (st .clear-numbers2 .ensures) (pl .clear-bytes2 .ensures) (o .clear-bytes3 .ensures)))
+    rw (c .answer2 .ensures) (
+      λ turn counts rows.
+          gives number
+          (make-taken (before s turn counts rows) (s .args .n) (s .args .own) (s .args .start .now) (r .refusal .result) (said r turn counts rows) (e .if1 .left)
+          (q .clear-numbers .last .0) (i .clear-bytes .last .0) (w .clear-values .last .0) (n .clear-values2 .last .0) (v .copy-values .last .1 .0) (st .clear-numbers2 .last .0)
+          (pl .clear-bytes2 .last .0) (o .clear-bytes3 .last .0) (q .clear-numbers .ensures) (i .clear-bytes .ensures) (w .clear-values .ensures) (n .clear-values2 .ensures)
+          (v .copy-values .ensures) (st .clear-numbers2 .ensures) (pl .clear-bytes2 .ensures) (o .clear-bytes3 .ensures)),
+      refl,
+      refl,
+    )
 
 pub make-spec : {M : Type 1} → statement M
 make-spec =
@@ -138,7 +154,7 @@ make-spec =
     parts-fit-requires
     places-fit-requires
     refusal-requires
-    refused-requires
+    answer-requires
     returns
     clear-numbers-requires
     clear-bytes-requires
@@ -148,9 +164,9 @@ make-spec =
     clear-numbers-requires-2
     clear-bytes-requires-2
     clear-bytes-requires-3
-    cast-fresh
-    cast-fresh-2
-    fresh-requires
+    cast-answer
+    cast-answer-2
+    answer-requires-2
     same-length
     same-length-2
     same-length-3

@@ -1,4 +1,5 @@
 -- `pass_next` meets its contract.
+use mathlib.Core.Path.{refl}
 use Rattle.call_reply.specs.Replies.{workReply}
 use Rattle.call_reply.proofs.ReplyLaws.{gives}
 use Rattle.call_work.specs.Writesets.{turnParts}
@@ -23,10 +24,12 @@ same-length : tie.Need-same-length
 same-length c = search needs
 
 returns : tie.Need-returns
-returns c = λ m.
+returns c =
     let s = c .before .before .before in
-    let a = s .args in
-    gives workReply (next-passed (turnParts m (a .turn) (a .counts) (a .rows) (a .places .now)) (a .at) (s .pre .0) (c .advance .result) (c .advance .ensures))
+    let a = s .args in (
+      λ m. gives workReply (next-passed (turnParts m (a .turn) (a .counts) (m .txns .table) (a .places .now)) (a .at) (s .pre .0) (c .advance .result) (c .advance .ensures)),
+      refl,
+    )
 
 pub pass-next-spec : {M : Type 1} → statement M
 pass-next-spec =

@@ -19,19 +19,16 @@ abbrev before : tie.Start → Memory → Memory
 before s m = let a = s .args in turnParts m (a .turn) (a .counts) (a .rows) (a .places .now)
 
 -- past the second test the block at the turn lies in the places
-room : (c : tie.Else2) → let p = c .before .before in p .place-start .result + 512 ≤ length (p .before .before .before .args .places .now)
+room : (c : tie.Else2) → let a = c .before .before .before .before .args in a .at + 512 ≤ length (a .places .now)
 room c =
     let k = c .before in
-    let p = k .before in
-    let s = p .before .before .before in
-    place-within (s .args .counts .replicas) (s .args .turn .slot) (s .args .places .now) (s .pre (not-false _ (p .before .if1 .left)))
-    (p .place-start .result) (p .place-start .ensures) (k .byte-at .result) (k .byte-at .ensures) (c .if2 .left)
+    let e = k .before in
+    let s = e .before .before in
+    place-within (s .args .counts .replicas) (s .args .turn .slot) (s .args .places .now) (s .pre .0 (not-false _ (e .if1 .left)))
+    (s .args .at) (s .pre .1) (k .byte-at .result) (k .byte-at .ensures) (c .if2 .left)
 
 returns : tie.Need-returns
 returns c = λ m lent. refused-lengths (before (c .before .before) m) (lent ∙ not-true _ (c .if1 .taken))
-
-place-start-requires : tie.Need-place-start-requires
-place-start-requires c κs = search needs
 
 byte-at-requires : tie.Need-byte-at-requires
 byte-at-requires c κs = search needs
@@ -39,17 +36,17 @@ byte-at-requires c κs = search needs
 returns-2 : tie.Need-returns-2
 returns-2 c = λ m lent.
     let k = c .before in
-    let p = k .before in
-    let e = p .before in
-    refused-empty (before (e .before .before) m) (lent ∙ not-false _ (e .if1 .left)) (p .place-start .result) (p .place-start .ensures) (k .byte-at .result) (k .byte-at .ensures) (c .if2 .taken)
+    let e = k .before in
+    let s = e .before .before in
+    refused-empty (before s m) (lent ∙ not-false _ (e .if1 .left)) (s .args .at) (s .pre .1) (k .byte-at .result) (k .byte-at .ensures) (c .if2 .taken)
 
 returns-3 : tie.Need-returns-3
 returns-3 c = λ m lent.
     let l = c .before in
     let k = l .before in
-    let p = k .before in
-    let e = p .before in
-    refused-next (before (e .before .before) m) (lent ∙ not-false _ (e .if1 .left)) (p .place-start .result) (p .place-start .ensures) (k .byte-at .result) (k .byte-at .ensures) (l .if2 .left) (c .if3 .taken)
+    let e = k .before in
+    let s = e .before .before in
+    refused-next (before s m) (lent ∙ not-false _ (e .if1 .left)) (s .args .at) (s .pre .1) (k .byte-at .result) (k .byte-at .ensures) (l .if2 .left) (c .if3 .taken)
 
 add-sender : tie.Need-add-sender
 add-sender c = omega (arith, room (c .before))
@@ -80,14 +77,12 @@ own-unsent-requires c κs = search needs
 
 -- the ticket is that of the writeset next
 ticket : (c : tie.After-record-at) →
-    let p = c .before .before .before .before .before .before .before in
-    let a = p .before .before .before .args in
-    c .record-at .result .ticket ≡ recordAt (slice (p .place-start .result) (p .place-start .result + 512) (a .places .now)) (a .counts .done) .ticket
+    let a = c .before .before .before .before .before .before .before .before .before .args in
+    c .record-at .result .ticket ≡ recordAt (slice (a .at) (a .at + 512) (a .places .now)) (a .counts .done) .ticket
 ticket c =
     let l = c .before .before .before .before .before in
-    let p = l .before .before in
-    let a = p .before .before .before .args in
-    rw (c .record-at .ensures, lent-slice (p .place-start .result) (p .place-start .result + 512) (a .places .now) (omega (arith, room l)))
+    let a = l .before .before .before .before .args in
+    rw (c .record-at .ensures, lent-slice (a .at) (a .at + 512) (a .places .now) (omega (arith, room l)))
 
 returns-4 : tie.Need-returns-4
 returns-4 c = λ m lent.
@@ -96,9 +91,9 @@ returns-4 c = λ m lent.
     let o = r .before .before .before .before in
     let l = o .before in
     let k = l .before in
-    let p = k .before in
-    let e = p .before in
-    refused-unsent (before (e .before .before) m) (lent ∙ not-false _ (e .if1 .left)) (p .place-start .result) (p .place-start .ensures) (k .byte-at .result) (k .byte-at .ensures) (l .if2 .left) (o .if3 .left)
+    let e = k .before in
+    let s = e .before .before in
+    refused-unsent (before s m) (lent ∙ not-false _ (e .if1 .left)) (s .args .at) (s .pre .1) (k .byte-at .result) (k .byte-at .ensures) (l .if2 .left) (o .if3 .left)
     _ refl (r .record-at .result .ticket) (ticket r) (u .own-unsent .result) (u .own-unsent .ensures) (c .if4 .taken)
 
 returns-5 : tie.Need-returns-5
@@ -108,9 +103,9 @@ returns-5 c = λ m lent.
     let o = r .before .before .before .before in
     let l = o .before in
     let k = l .before in
-    let p = k .before in
-    let e = p .before in
-    refused-not (before (e .before .before) m) (lent ∙ not-false _ (e .if1 .left)) (p .place-start .result) (p .place-start .ensures) (k .byte-at .result) (k .byte-at .ensures) (l .if2 .left) (o .if3 .left)
+    let e = k .before in
+    let s = e .before .before in
+    refused-not (before s m) (lent ∙ not-false _ (e .if1 .left)) (s .args .at) (s .pre .1) (k .byte-at .result) (k .byte-at .ensures) (l .if2 .left) (o .if3 .left)
     _ refl (r .record-at .result .ticket) (ticket r) (u .own-unsent .result) (u .own-unsent .ensures) (c .if4 .left)
 
 pub refusal-spec : {M : Type 1} → statement M
@@ -118,7 +113,6 @@ refusal-spec =
     tie.close
     (tie.spec
     returns
-    place-start-requires
     byte-at-requires
     returns-2
     returns-3

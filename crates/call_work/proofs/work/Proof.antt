@@ -8,10 +8,11 @@ use Rattle.block.proofs.ListLaws.{lent-slice}
 use Rattle.memory.specs.Memory.{Memory}
 use Rattle.engine.specs.Make.{madeMemory}
 use Rattle.engine.specs.Moves.{workRefusal}
+use Rattle.call_commit.proofs.EndLaws.{end-none}
 use Rattle.call_reply.specs.Parts.{workParts}
 use Rattle.call_reply.specs.Replies.{workReply}
 use Rattle.call_reply.proofs.ReplyLaws.{gives}
-use Rattle.call_work.proofs.WorkLaws.{same-gives, places-long, work-refused, work-room, work-next, work-writeset, writeset-committed}
+use Rattle.call_work.proofs.WorkLaws.{same-gives, places-long, work-refused, marks-refused, work-room, work-next, marks-next, work-writeset, marks-writeset, writeset-committed}
 use borrow.Author.Needs.{needs}
 use Rattle.call_work.proofs.work.Statement.{statement}
 use Rattle.call_work.proofs.work.Tie as tie
@@ -22,18 +23,29 @@ before s m =
     let a = s .args in
     workParts m (a .turn) (a .counts) (a .rows) (a .queue .now) (a .items .now) (a .values .now) (a .stamps .now) (a .places .now)
 
+-- where a refusal's call stands: the start, and the place
+abbrev start : tie.After-refusal → tie.Start
+start r = r .before .before .before .before .before .before .before .before
+
+abbrev place : tie.After-refusal → tie.After-place-start
+place r = r .before .before
+
 -- the number is the refusal's
-said : (c : tie.After-refusal) (m : Memory) → c .refusal .result ≡ workRefusal (before (c .before .before .before .before .before .before .before) m)
-said c m = c .refusal .ensures (before (c .before .before .before .before .before .before .before) m) (sym (c .before .before .lengths-fit .ensures))
+said : (c : tie.After-refusal) (m : Memory) → c .refusal .result ≡ workRefusal (before (start c) m)
+said c m = c .refusal .ensures (before (start c) m) (sym (place c .before .lengths-fit .ensures))
 
 lengths-fit-requires : tie.Need-lengths-fit-requires
 lengths-fit-requires c κs = search needs
 
+place-start-requires : tie.Need-place-start-requires
+place-start-requires c κs = search needs
+
 refusal-requires : tie.Need-refusal-requires
-refusal-requires c κs = λ h.
-    let f = c .before in
+refusal-requires c κs =
+    let p = c .before in
+    let f = p .before in
     let a = f .before .before .before .before .before .args in
-    places-long (a .counts .replicas) (length (a .places .now)) (length (a .items .now)) (length (a .queue .now)) (length (a .values .now)) (length (a .stamps .now)) (sym (f .lengths-fit .ensures) ∙ h)
+    ((λ h. places-long (a .counts .replicas) (length (a .places .now)) (length (a .items .now)) (length (a .queue .now)) (length (a .values .now)) (length (a .stamps .now)) (sym (f .lengths-fit .ensures) ∙ h)), p .place-start .ensures)
 
 unchanged-requires : tie.Need-unchanged-requires
 unchanged-requires c κs = search needs
@@ -44,24 +56,22 @@ same-length c = search needs
 returns : tie.Need-returns
 returns c = λ m.
     let r = c .before .before in
-    rw (c .unchanged .ensures) (gives workReply (work-refused (before (r .before .before .before .before .before .before .before) m) (r .refusal .result) (said r m) (c .before .if1 .taken)))
-
-place-start-requires : tie.Need-place-start-requires
-place-start-requires c κs = search needs
+    let b = before (start r) m in
+    rw (c .unchanged .ensures, end-none 6 (start r .args .rows))
+    (gives workReply (work-refused b (r .refusal .result) (said r m) (c .before .if1 .taken)), marks-refused b (r .refusal .result) (said r m) (c .before .if1 .taken))
 
 -- past the refusals the block at the turn lies in the places
-room : (c : tie.After-place-start) → c .place-start .result + 512 ≤ length (c .before .before .before .before .before .before .before .before .before .args .places .now)
+room : (c : tie.Else1) → place (c .before) .place-start .result + 512 ≤ length (start (c .before) .args .places .now)
 room c =
-    let e = c .before in
-    let r = e .before in
+    let r = c .before in
     let m : Memory = madeMemory 0 0 [] in
-    work-room (before (r .before .before .before .before .before .before .before) m) (r .refusal .result) (said r m) (e .if1 .left) (c .place-start .result) (c .place-start .ensures)
+    work-room (before (start r) m) (r .refusal .result) (said r m) (c .if1 .left) (place r .place-start .result) (place r .place-start .ensures)
 
 slice-read-if2 : tie.Need-slice-read-if2
 slice-read-if2 c = omega (arith, room (c .before))
 
 pass-next-requires : tie.Need-pass-next-requires
-pass-next-requires c κs = let p = c .before .before .before in (p .place-start .ensures, room p)
+pass-next-requires c κs = let e = c .before .before .before in (place (e .before) .place-start .ensures, room e)
 
 same-length-2 : tie.Need-same-length-2
 same-length-2 c = search needs
@@ -70,11 +80,15 @@ returns-2 : tie.Need-returns-2
 returns-2 c = λ m.
     let n = c .before .before in
     let t = n .before .before in
-    let p = t .before .before in
-    let e = p .before in
+    let e = t .before .before in
     let r = e .before in
-    let b = before (r .before .before .before .before .before .before .before) m in
-    same-gives workReply (work-next b (r .refusal .result) (said r m) (e .if1 .left) (p .place-start .result) (p .place-start .ensures) (t .if2 .taken)) (n .pass-next .ensures b)
+    let b = before (start r) m in
+    let at = place r .place-start .result in
+    let placed = place r .place-start .ensures in
+    rw (n .pass-next .ensures .1, end-none 6 (start r .args .rows)) (
+      same-gives workReply (work-next b (r .refusal .result) (said r m) (e .if1 .left) at placed (t .if2 .taken)) (n .pass-next .ensures .0 b),
+      marks-next b (r .refusal .result) (said r m) (e .if1 .left) at placed (t .if2 .taken),
+    )
 
 add-end : tie.Need-add-end
 add-end c = omega (arith, room (c .before .before))
@@ -111,31 +125,35 @@ returns-3 c = λ m.
     let d = c .before .before in
     let w = d .before .before .before .before .before .before .before in
     let o = w .before .before .before .before .before .before in
-    let p = o .before .before in
-    let e = p .before in
+    let e = o .before .before in
     let r = e .before in
-    let s = r .before .before .before .before .before .before .before in
+    let s = start r in
     let a = s .args in
-    let at = p .place-start .result in
-    let block = lent-slice at (at + 512) (a .places .now) (omega (arith, room p)) in
-    rw (d .pass-writeset .ensures .0)
-    (same-gives workReply (work-writeset (before s m) (r .refusal .result) (said r m) (e .if1 .left) at (p .place-start .ensures) (o .if2 .left))
-    (writeset-committed m (a .turn) (a .counts) (a .rows) (a .queue .now) (a .items .now) (a .values .now) (a .stamps .now) (a .places .now) at (p .place-start .ensures)
-    (w .end-writeset .result) (rw block at (w .end-writeset .ensures .0))
-    (w .end-writeset .last .1 .1 .1 .0) (w .end-writeset .last .1 .1 .1 .1 .1 .0) (w .end-writeset .last .1 .1 .1 .1 .1 .1 .0)
-    (rw block at (w .end-writeset .ensures .1)) (rw block at (w .end-writeset .ensures .2)) (rw block at (w .end-writeset .ensures .3))
-    (d .pass-writeset .last .1 .0) (d .pass-writeset .ensures .1)))
+    let at = place r .place-start .result in
+    let placed = place r .place-start .ensures in
+    let block = lent-slice at (at + 512) (a .places .now) (omega (arith, room e)) in
+    let six : length (a .rows) ≡ 6 = search needs in
+    let is = rw block at (w .end-writeset .ensures .0) in
+    rw (d .pass-writeset .ensures .0) (
+      same-gives workReply (work-writeset (before s m) (r .refusal .result) (said r m) (e .if1 .left) at placed (o .if2 .left))
+          (writeset-committed m (a .turn) (a .counts) (a .rows) (a .queue .now) (a .items .now) (a .values .now) (a .stamps .now) (a .places .now) six at placed
+          (w .end-writeset .result) is
+          (w .end-writeset .last .1 .1 .1 .0) (w .end-writeset .last .1 .1 .1 .1 .1 .0) (w .end-writeset .last .1 .1 .1 .1 .1 .1 .0)
+          (rw block at (w .end-writeset .ensures .1)) (rw block at (w .end-writeset .ensures .2)) (rw block at (w .end-writeset .ensures .3))
+          (d .pass-writeset .last .1 .0) (d .pass-writeset .ensures .1)),
+      marks-writeset (before s m) (r .refusal .result) (said r m) (e .if1 .left) at placed (o .if2 .left) (w .end-writeset .result) is,
+    )
 
 pub work-spec : {M : Type 1} → statement M
 work-spec =
     tie.close
     (tie.spec
     lengths-fit-requires
+    place-start-requires
     refusal-requires
     unchanged-requires
     same-length
     returns
-    place-start-requires
     slice-read-if2
     pass-next-requires
     same-length-2

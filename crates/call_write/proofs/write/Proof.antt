@@ -7,7 +7,7 @@ use Rattle.memory.specs.declared.Txn.{Txn}
 use Rattle.memory.specs.Memory.{Memory}
 use Rattle.memory.specs.Rows.{closed}
 use Rattle.call_reply.specs.Parts.{writeParts}
-use Rattle.call_reply.specs.Replies.{reply}
+use Rattle.call_reply.specs.Replies.{number}
 use Rattle.call_reply.proofs.ReplyLaws.{gives}
 use Rattle.call_client.proofs.RowLaws.{same-row}
 use Rattle.call_write.proofs.WriteLaws.{write-refused}
@@ -41,7 +41,7 @@ returns c =
       λ m.
           let p = writeParts m (a .turn) (a .counts) (a .rows) (a .items .now) (a .writes .now) (a .stamps .now) in
           rw (c .changed .ensures, same-row (a .rows) (a .at) t here)
-          (gives reply (write-refused (e .early-refusal .result) p _ _ (c .before .if1 .taken) (e .early-refusal .ensures .0 p (a .value) (ap (λ (x : Txn). x .stage) here) refl refl refl refl))),
+          (gives number (write-refused (e .early-refusal .result) p _ _ (c .before .if1 .taken) (e .early-refusal .ensures .0 p (a .value) (ap (λ (x : Txn). x .stage) here) refl refl refl refl))),
       λ past. rw (c .changed .ensures) (here ∙ List·getD-eq-default (a .rows) closed (omega arith)),
     )
 

@@ -3,7 +3,7 @@ use mir.Facts.{toZ-ofZ}
 use Rattle.engine.specs.Client.{rewriteAt, staleAt}
 use Rattle.call_write.specs.Parts.{inserted}
 use lib.ListN.{set}
-use Rattle.call_reply.specs.Replies.{reply}
+use Rattle.call_reply.specs.Replies.{number}
 use Rattle.call_reply.proofs.ReplyLaws.{gives}
 use Rattle.call_client.proofs.RowLaws.{same-row}
 use Rattle.call_write.proofs.WriteLaws.{write-mine, write-held, write-stale, write-full, write-new}
@@ -53,16 +53,15 @@ same-length-2 c = search needs
 returns : tie.Need-returns
 unfolding rewriteAt
 returns c = λ m here.
-    let s = c .before .before .before .before .before .before .before .before in
+    let i = c .before .before in
+    let w = i .before .before .before in
+    let s = w .before .before .before in
     let a = s .args in
     rw (c .changed .ensures, same-row (a .rows) (a .at) (a .t) here, toZ-ofZ (s .fits .value))
-    (gives reply (write-mine _ (a .at) (a .item) (a .value) (c .before .before .before .before .before .write-count .result) (c .before .before .index-of .result) (rw here at (c .before .before .before .before .before .write-count .ensures)) (c .before .before .index-of .ensures) (c .before .if1 .taken)))
+    (gives number (write-mine _ (a .at) (a .item) (a .value) (w .write-count .result) (i .index-of .result) (rw here at (w .write-count .ensures)) (i .index-of .ensures) (c .before .if1 .taken)))
 
-holder-requires : tie.Need-holder-requires
-holder-requires c κs = search needs
-
-enum-told : tie.Need-enum-told
-enum-told c = search needs
+held-requires : tie.Need-held-requires
+held-requires c κs = search needs
 
 changed-requires-2 : tie.Need-changed-requires-2
 changed-requires-2 c κs = search needs
@@ -72,19 +71,19 @@ same-length-3 c = search needs
 
 returns-2 : tie.Need-returns-2
 returns-2 c = λ m here.
-    let s = c .before .before .before .before .before .before .before .before .before .before .before .before in
+    let h = c .before .before in
+    let i = h .before .before .before in
+    let w = i .before .before .before in
+    let s = w .before .before .before in
     let a = s .args in
     rw (c .changed2 .ensures, same-row (a .rows) (a .at) (a .t) here)
-    (gives reply (write-held _ (a .at) (a .item) (a .value) (c .before .before .before .before .before .before .before .before .before .write-count .result) (c .before .before .before .before .before .before .index-of .result) (rw here at (c .before .before .before .before .before .before .before .before .before .write-count .ensures)) (c .before .before .before .before .before .before .index-of .ensures) (c .before .before .before .before .before .if1 .left) (c .before .before .before .holder .result) (c .before .before .before .holder .ensures) _ (c .before .enum-told .given .1)))
+    (gives number (write-held _ (a .at) (a .item) (a .value) (w .write-count .result) (i .index-of .result) (rw here at (w .write-count .ensures)) (i .index-of .ensures) (h .before .before .if1 .left) (h .held .result) (h .held .ensures) (c .before .if2 .taken)))
 
-enum-told-2 : tie.Need-enum-told-2
-enum-told-2 c = search needs
+mul-if3 : tie.Need-mul-if3
+mul-if3 c = search needs
 
-mul-if2 : tie.Need-mul-if2
-mul-if2 c = search needs
-
-shared-slice-read-if2 : tie.Need-shared-slice-read-if2
-shared-slice-read-if2 c = search needs
+shared-slice-read-if3 : tie.Need-shared-slice-read-if3
+shared-slice-read-if3 c = search needs
 
 stale-requires : tie.Need-stale-requires
 stale-requires c κs = search needs
@@ -95,10 +94,13 @@ same-length-4 c = search needs
 returns-3 : tie.Need-returns-3
 unfolding staleAt
 returns-3 c = λ m here.
-    let s = c .before .before .before .before .before .before .before .before .before .before .before .before .before .before .before in
+    let h = c .before .before .before .before .before in
+    let i = h .before .before .before in
+    let w = i .before .before .before in
+    let s = w .before .before .before in
     let a = s .args in
     rw (c .stale .ensures)
-    (gives reply (write-stale _ (a .at) (a .item) (a .value) (c .before .before .before .before .before .before .before .before .before .before .before .before .write-count .result) (c .before .before .before .before .before .before .before .before .before .index-of .result) (rw here at (c .before .before .before .before .before .before .before .before .before .before .before .before .write-count .ensures)) (c .before .before .before .before .before .before .before .before .before .index-of .ensures) (c .before .before .before .before .before .before .before .before .if1 .left) (c .before .before .before .before .before .before .holder .result) (c .before .before .before .before .before .before .holder .ensures) (c .before .before .before .before .enum-told2 .given .1) (rw here at (c .before .if2 .taken))))
+    (gives number (write-stale _ (a .at) (a .item) (a .value) (w .write-count .result) (i .index-of .result) (rw here at (w .write-count .ensures)) (i .index-of .ensures) (h .before .before .if1 .left) (h .held .result) (h .held .ensures) (c .before .before .before .before .if2 .left) (rw here at (c .before .if3 .taken))))
 
 changed-requires-3 : tie.Need-changed-requires-3
 changed-requires-3 c κs = search needs
@@ -108,10 +110,13 @@ same-length-5 c = search needs
 
 returns-4 : tie.Need-returns-4
 returns-4 c = λ m here.
-    let s = c .before .before .before .before .before .before .before .before .before .before .before .before .before .before .before .before in
+    let h = c .before .before .before .before .before .before in
+    let i = h .before .before .before in
+    let w = i .before .before .before in
+    let s = w .before .before .before in
     let a = s .args in
     rw (c .changed3 .ensures, same-row (a .rows) (a .at) (a .t) here)
-    (gives reply (write-full _ (a .at) (a .item) (a .value) (c .before .before .before .before .before .before .before .before .before .before .before .before .before .write-count .result) (c .before .before .before .before .before .before .before .before .before .before .index-of .result) (rw here at (c .before .before .before .before .before .before .before .before .before .before .before .before .before .write-count .ensures)) (c .before .before .before .before .before .before .before .before .before .before .index-of .ensures) (c .before .before .before .before .before .before .before .before .before .if1 .left) (c .before .before .before .before .before .before .before .holder .result) (c .before .before .before .before .before .before .before .holder .ensures) (c .before .before .before .before .before .enum-told2 .given .1) (rw here at (c .before .before .if2 .left)) (c .before .if3 .taken)))
+    (gives number (write-full _ (a .at) (a .item) (a .value) (w .write-count .result) (i .index-of .result) (rw here at (w .write-count .ensures)) (i .index-of .ensures) (h .before .before .if1 .left) (h .held .result) (h .held .ensures) (c .before .before .before .before .before .if2 .left) (rw here at (c .before .before .if3 .left)) (c .before .if4 .taken)))
 
 insert-requires : tie.Need-insert-requires
 insert-requires c κs = search needs
@@ -127,13 +132,17 @@ same-length-7 c = search needs
 
 returns-5 : tie.Need-returns-5
 returns-5 c = λ m here.
-    let s = c .before .before .before .before .before .before .before .before .before .before .before .before .before .before .before .before .before .before .before .before .before .before in
+    let n = c .before .before .before .before in
+    let f = n .before .before .before in
+    let h = f .before .before .before .before .before in
+    let i = h .before .before .before in
+    let w = i .before .before .before in
+    let s = w .before .before .before in
     let a = s .args in
-    let i = c .before .before .before .before .insert in
     rw (c .changed4 .ensures)
-    (gives reply
-    (write-new _ (a .at) (a .item) (a .value) (c .before .before .before .before .before .before .before .before .before .before .before .before .before .before .before .before .before .before .before .write-count .result) (c .before .before .before .before .before .before .before .before .before .before .before .before .before .before .before .before .index-of .result) (rw here at (c .before .before .before .before .before .before .before .before .before .before .before .before .before .before .before .before .before .before .before .write-count .ensures)) (c .before .before .before .before .before .before .before .before .before .before .before .before .before .before .before .before .index-of .ensures) (c .before .before .before .before .before .before .before .before .before .before .before .before .before .before .before .if1 .left) (c .before .before .before .before .before .before .before .before .before .before .before .before .before .holder .result) (c .before .before .before .before .before .before .before .before .before .before .before .before .before .holder .ensures) (c .before .before .before .before .before .before .before .before .before .before .before .enum-told2 .given .1) (rw here at (c .before .before .before .before .before .before .before .before .if2 .left)) (c .before .before .before .before .before .before .before .if3 .left)
-    (inserted (set (a .rows) (a .at) (i .result)) (i .last .1 .0) (i .last .1 .1 .0)) (rw (toZ-ofZ (s .fits .value)) at (i .ensures (a .rows) here))))
+    (gives number
+    (write-new _ (a .at) (a .item) (a .value) (w .write-count .result) (i .index-of .result) (rw here at (w .write-count .ensures)) (i .index-of .ensures) (h .before .before .if1 .left) (h .held .result) (h .held .ensures) (f .before .before .before .before .if2 .left) (rw here at (f .before .if3 .left)) (f .if4 .left)
+    (inserted (set (a .rows) (a .at) (n .insert .result)) (n .insert .last .1 .0) (n .insert .last .1 .1 .0)) (rw (toZ-ofZ (s .fits .value)) at (n .insert .ensures (a .rows) here))))
 
 pub write-at-spec : {M : Type 1} → statement M
 write-at-spec =
@@ -153,14 +162,12 @@ write-at-spec =
     same-length
     same-length-2
     returns
-    holder-requires
-    enum-told
+    held-requires
     changed-requires-2
     same-length-3
     returns-2
-    enum-told-2
-    mul-if2
-    shared-slice-read-if2
+    mul-if3
+    shared-slice-read-if3
     stale-requires
     same-length-4
     returns-3

@@ -3,8 +3,8 @@ use Prim.Native.Nat.{_+_, _≤_}
 use borrow.Author.Needs.{needs}
 use lib.ListN.{length}
 use Rattle.block.proofs.ListLaws.{lent}
-use Rattle.replay.specs.Deliveries.{namesBytes, bytesNamed}
-use Rattle.replay.proofs.DeliveryLaws.{delivery-short}
+use Rattle.replay_text.specs.Deliveries.{namesBytes, bytesNamed}
+use Rattle.replay_text.proofs.DeliveryLaws.{delivery-short}
 use Rattle.replay.proofs.request_of.Statement.{statement}
 use Rattle.replay.proofs.request_of.Tie as tie
 

@@ -47,7 +47,6 @@ use Rattle.host_table.proofs.Steps.{when, equal, unequal, frees-all}
 use Rattle.host_table.proofs.Steps.Held.{cell, room}
 use Rattle.host_table.proofs.Rows.{R, vals, tells, makes, copies, lawful}
 use Rattle.host_table.proofs.Answers.{answers}
-use Rattle.host_table.proofs.Callees.{Find, Row, to-find, asks-find, gives-find, to-row, asks-row, gives-row}
 use Rattle.replica.proofs.Handed.{handed, goes-handed}
 use Rattle.replica.proofs.ClientFacts.{ReadOn, ReadDid, read-not, read-did}
 use Rattle.call_reply.specs.declared.ReadReply.{ReadReply}
@@ -67,6 +66,7 @@ use Rattle.call_client.proofs.read as call
 use Rattle.call_client.proofs.read.Symbol as call-def
 use Rattle.call_client.proofs.read.Symbol.{name as #call}
 use Rattle.call_client.proofs.read.Met as call-thm
+use Rattle.host_table.proofs.Callees.{Find, Row, to-find, asks-find, gives-find, to-row, asks-row, gives-row}
 use Rattle.replica.proofs.stemline_read.Key.{name as #own}
 use Rattle.replica.proofs.stemline_read as own
 use Rattle.replica.proofs.stemline_read.Statement as stated

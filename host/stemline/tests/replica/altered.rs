@@ -1,14 +1,14 @@
 //! Memory altered by something else than a call: every call returns, the same call on the same
-//! memory gives the same, and a refused one changes nothing.
+//! memory gives the same, and a refused one changes nothing and answers no more than its number.
 
 use model::block::{self, BLOCK, MAX_TICKET};
 use model::drive::{start_values, Peers, Subject, STYLES};
 use model::samples::{self, Random};
 use stemline::ffi::Txn;
-use stemline::{Memory, Refusal, Replica};
+use stemline::{Memory, Refusal, Replica, Taken, STEPS};
 
 use crate::both::Both;
-use crate::lent::Lent;
+use crate::lent::{refused, Lent};
 use crate::seeds::Seeds;
 
 const RUNS: u64 = 2_000;
@@ -170,16 +170,48 @@ fn every_call_returns() {
             let place = format!("call {call}: {name}");
             assert_eq!(answer, again, "{place}");
             assert!(memory == copy, "{place}: the memories differ");
-            if answer.0 != 0 && answer.0 != 9 {
-                assert!(memory == before, "{place}: {answer:?} changed something");
+            if answer.0 != 0 {
+                assert_eq!(answer, refused(name, answer.0), "{place}");
+                assert!(answer.0 == 9 || memory == before, "{place}: {answer:?}");
             }
-            assert!(name != "report" || answer.0 == 0, "{place}: {answer:?}");
+            match name {
+                "report" => assert_eq!(answer.0, 0, "{place}"),
+                "send" => {
+                    let is_turn = Replica::from_memory(before.memory()).is_turn();
+                    assert_eq!(is_turn, answer.0 == 0, "{place}: is_turn");
+                }
+                "deliver" => same_take(&before),
+                _ => (),
+            }
             numbers[usize::from(answer.0)] += 1;
         }
     });
     // Every number of the table is met here too, unless fewer runs are asked for.
     let missing: Vec<usize> = (0..23).filter(|&number| numbers[number] == 0).collect();
     assert!(seeds.runs < RUNS || missing.is_empty(), "{numbers:?}");
+}
+
+/// A take is a deliver and its works, as many as a take has at most; all return.
+fn same_take(memory: &Lent) {
+    let mut calling = Replica::from_memory(memory.memory());
+    let mut due = calling.deliver(&memory.bytes).map(|()| Taken {
+        steps: Vec::new(),
+        refused: None,
+    });
+    if let Ok(due) = &mut due {
+        while due.steps.len() < STEPS && due.refused.is_none() {
+            match calling.work() {
+                Ok(step) => due.steps.push(step),
+                Err(refusal) => due.refused = Some(refusal),
+            }
+        }
+        if due.refused == Some(Refusal::NothingWaits) {
+            due.refused = None;
+        }
+    }
+    let mut taking = Replica::from_memory(memory.memory());
+    assert_eq!(taking.take(&memory.bytes), due);
+    assert!(taking == calling, "take: another memory");
 }
 
 /// A replica 0 of 2 with one transaction open, and its memory altered.

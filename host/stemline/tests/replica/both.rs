@@ -5,8 +5,9 @@ use model::block::{self, BLOCK};
 use model::drive::Subject;
 use model::replica::{self as second, Stage, ITEMS};
 use model::trace::{Answer, Call};
-use stemline::{Asked, Memory, Refusal, Replica};
+use stemline::{Asked, Memory, Refusal, Replica, Work};
 
+#[derive(Clone)]
 pub struct Both {
     pub library: Replica,
     pub model: second::Replica,
@@ -45,10 +46,12 @@ impl Both {
 impl Subject for Both {
     fn call(&mut self, call: &Call) -> Result<Answer, u8> {
         self.before.clone_from(self.library.memory());
+        let is_turn = self.library.is_turn();
         let answer = play(&mut self.library, call);
         let due = self.model.call(call);
         assert_eq!(answer, due, "{call:?}: the library's answer, the model's");
         same(&self.model, self.library.memory());
+        assert!(*call != Call::Send || is_turn == answer.is_ok(), "is_turn");
         // The interface shows more than the model has: what is left in free rows, and the like.
         if answer.is_err() && answer != Err(9) || matches!(call, Call::Read { .. } | Call::Report) {
             let after = self.library.memory();
@@ -98,16 +101,19 @@ pub fn play(replica: &mut Replica, call: &Call) -> Result<Answer, u8> {
         Call::Report => Ok(Answer::Report(report(replica))),
         Call::Send => replica.send().map(|block| Answer::Block(Box::new(block))),
         Call::Deliver { ref bytes } => replica.deliver(bytes).map(|()| Answer::Done),
-        Call::Work => replica.work().map(|work| {
-            Answer::Work(second::Work {
-                sender: work.sender,
-                ticket: work.ticket,
-                moved: work.moved,
-                aborted: work.aborted().to_vec(),
-            })
-        }),
+        Call::Work => replica.work().map(|work| Answer::Work(worked(&work))),
     };
     played.map_err(Refusal::number)
+}
+
+/// A step, as the model gives it.
+pub fn worked(work: &Work) -> second::Work {
+    second::Work {
+        sender: work.sender,
+        ticket: work.ticket,
+        moved: work.moved,
+        aborted: work.aborted().to_vec(),
+    }
 }
 
 /// Stops where the library's memory is not the model's.

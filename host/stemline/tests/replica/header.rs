@@ -1,44 +1,24 @@
-//! The C header beside the Rust declarations: sizes, offsets, lengths and numbers.
+//! The C header beside the Rust crate: layouts, lengths, limits, numbers and words; and the header in each
+//! language that it is for.
 
-use std::fs;
+use std::collections::BTreeMap;
 use std::mem::offset_of;
-use std::path::Path;
-use std::process::Command;
 
 use stemline::ffi::{
-    AskReply, BeginReply, Counts, ReadReply, Reply, Report, ReportReply, Turn, Txn, WorkReply,
+    AskReply, BeginReply, Counts, ReadReply, Report, ReportReply, Turn, Txn, WorkReply,
 };
-use stemline::{Refusal, Replica, BLOCK, ITEMS};
+use stemline::{Refusal, Replica, ITEMS, REPLICAS};
 
-/// Compiles a C program against the header and the static library, and gives what it prints.
-pub fn run_c(source: &str, name: &str) -> String {
-    let host = Path::new(env!("CARGO_MANIFEST_DIR")).join("..");
-    let room = Path::new(env!("CARGO_TARGET_TMPDIR")).join(name);
-    fs::create_dir_all(&room).unwrap();
-    let (file, program) = (room.join("program.c"), room.join("program"));
-    fs::write(&file, source).unwrap();
-    let compiled = Command::new("cc")
-        .args([
-            "-std=c11",
-            "-Wall",
-            "-Wextra",
-            "-Werror",
-            "-pedantic",
-            "-O2",
-        ])
-        .arg("-I")
-        .arg(host.join("include"))
-        .arg(&file)
-        .arg(host.join("../target/staticlib/libreplica.a"))
-        .arg("-o")
-        .arg(&program)
-        .output()
-        .expect("cc, the C compiler, is on the PATH");
-    let said = String::from_utf8_lossy(&compiled.stderr);
-    assert!(compiled.status.success(), "cc: {said}");
-    let ran = Command::new(&program).output().unwrap();
-    assert!(ran.status.success(), "{:?}", ran);
-    String::from_utf8(ran.stdout).unwrap()
+use crate::c::{build, has_cpp, printed, run, run_c};
+
+const HEADER: &str = include_str!("../../../include/stemline.h");
+const FIRST: &str = include_str!("../../../examples/first.c");
+
+/// A program of these lines.
+fn program(lines: &str) -> String {
+    format!(
+        "#include <stdio.h>\n#include \"stemline.h\"\nint main(void) {{\n{lines}return 0;\n}}\n"
+    )
 }
 
 /// The lines that a C program must print of a struct: its size and the offset of each field.
@@ -66,152 +46,139 @@ fn structs_have_one_layout() {
         replicas own commits done tickets committed read_only aborted withdrawn);
     layout!(due, lines, "stemline_report_values", Report,
         turn commits tickets open_count committed read_only aborted withdrawn);
-    layout!(due, lines, "stemline_reply", Reply, counts number);
-    layout!(due, lines, "stemline_begin_reply", BeginReply, counts ticket number);
+    layout!(due, lines, "stemline_begin_reply", BeginReply, number ticket);
     layout!(due, lines, "stemline_read_reply", ReadReply, number value);
-    layout!(due, lines, "stemline_ask_reply", AskReply, counts number read_only);
+    layout!(due, lines, "stemline_ask_reply", AskReply, number read_only);
     layout!(due, lines, "stemline_report_reply", ReportReply, number report);
     layout!(due, lines, "stemline_work_reply", WorkReply,
-        number sender moved count ticket aborted counts);
-    let source = format!(
-        "#include <stdio.h>\n#include \"stemline.h\"\nint main(void) {{\n{lines}return 0;\n}}\n"
-    );
-    assert_eq!(run_c(&source, "layout"), due);
+        number sender moved count ticket aborted);
+    assert_eq!(run_c("layout", &program(&lines), b""), due);
+}
+
+/// A part of the struct is as long as the crate's, its places for the largest group.
+#[test]
+fn parts_have_one_length() {
+    let replica = Replica::new(REPLICAS as u32, 0, &[0; ITEMS]).unwrap();
+    let (mut due, mut lines) = (String::new(), String::new());
+    macro_rules! part {
+        ($($part:ident)*) => {$(
+            let (name, bytes) = (stringify!($part), size_of_val(&replica.memory().$part[..]));
+            due.push_str(&format!("{name} {bytes}\n"));
+            lines.push_str(&format!(
+                "printf(\"{name} %zu\\n\", sizeof ((stemline_replica *)0)->{name});\n"
+            ));
+        )*};
+    }
+    part!(table queue items writes snapshots values stamps places outbox);
+    lines.push_str("printf(\"%zu %zu\\n\", STEMLINE_PLACES(0), STEMLINE_PLACES(5));\n");
+    due.push_str("0 2560\n");
+    assert_eq!(run_c("lengths", &program(&lines), b""), due);
+}
+
+/// The words behind each `start` up to each `end`, as a name and a number.
+fn limits(text: &str, start: &str, between: &[char], end: char) -> BTreeMap<String, u64> {
+    let lines = text.lines().filter_map(|line| line.strip_prefix(start));
+    let limit = |line: &str| {
+        let (name, rest) = line.split_once(between)?;
+        let number = rest.split(end).next()?.trim().rsplit(' ').next()?;
+        Some((name.to_string(), number.replace('_', "").parse().ok()?))
+    };
+    lines.filter_map(limit).collect()
+}
+
+/// STEMLINE_ITEMS in C is ITEMS in Rust, and so with every limit.
+#[test]
+fn limits_have_one_name() {
+    let c = limits(HEADER, "#define STEMLINE_", &[' '], '/');
+    let rust = limits(include_str!("../../src/lib.rs"), "pub const ", &[':'], ';');
+    assert_eq!(c, rust);
+    assert!(rust.len() == 9 && rust["ITEMS"] == ITEMS as u64, "{rust:?}");
 }
 
 /// STEMLINE_NOT_OPEN in C is Refusal::NotOpen in Rust, by the same number.
 #[test]
 fn numbers_have_one_name() {
-    let header = include_str!("../../../include/stemline.h");
-    for number in 1..=22 {
-        let case = format!("{:?}", Refusal::from_number(number).unwrap());
-        let mut name = String::from("STEMLINE");
+    macro_rules! cases {
+        ($($case:ident)*) => { [$((stringify!($case), Refusal::$case)),*] };
+    }
+    let cases = cases!(WrongLength OutOfRange NotOpen NotActive AllOpen TicketsSpent Applying Locked Stale
+        WritesetFull NotOurTurn AlreadySent SlotsSpent WrongCheck WrongForm WrongGroup PastSlot FarSlot
+        NotSent SlotTaken NothingWaits NotOpenAsSent);
+    let (mut due, mut lines) = (String::new(), String::new());
+    for (case, refusal) in cases {
+        let mut name = String::new();
         for letter in case.chars() {
             if letter.is_uppercase() {
                 name.push('_');
             }
             name.push(letter.to_ascii_uppercase());
         }
-        assert!(
-            header.contains(&format!("    {name} = {number}, ")) || number == 22,
-            "{name} = {number}"
+        lines.push_str(&format!("printf(\"%d\\n\", STEMLINE{name});\n"));
+        due.push_str(&format!("{}\n", refusal.number()));
+    }
+    assert_eq!(run_c("numbers", &program(&lines), b""), due);
+    // And C has no others.
+    let named = HEADER
+        .lines()
+        .filter(|line| line.starts_with("    STEMLINE_"));
+    assert_eq!(named.count(), 1 + cases.len());
+}
+
+/// `stemline_words` says what the crate's refusals say.
+#[test]
+fn numbers_have_the_same_words() {
+    let lines = "for (int number = -1; number <= 256; number++) {\n\
+                 printf(\"%s\\n\", stemline_words(number));\n}\n";
+    let c = run_c("words", &program(lines), b"");
+    let words = |number: i32| match u8::try_from(number) {
+        Ok(number) => Refusal::from_number(number).map_or("accepted", Refusal::words),
+        Err(_) => "refused by an unknown number",
+    };
+    let due: Vec<&str> = (-1..=256).map(words).collect();
+    assert_eq!(c.lines().collect::<Vec<_>>(), due);
+}
+
+/// The header and the first program, without a warning, in each language that it is for.
+#[test]
+fn every_language() {
+    let mut languages = vec![("cc", "-std=c99"), ("cc", "-std=c11")];
+    if has_cpp() {
+        languages.extend([("c++", "-std=c++98"), ("c++", "-std=c++17")]);
+    }
+    for (compiler, standard) in languages {
+        let file = if compiler == "cc" {
+            "first.c"
+        } else {
+            "first.cpp"
+        };
+        let program = build(
+            &format!("first{standard}"),
+            &[(file, compiler, standard, FIRST)],
+        );
+        let said = printed(&run(&program, b""));
+        assert_eq!(
+            said, "the write: accepted\nitem 5: 40 and 40\n",
+            "{standard}"
         );
     }
-    assert!(header.contains("    STEMLINE_NOT_OPEN_AS_SENT = 22 "));
-    assert!(!header.contains(" = 23"));
 }
 
+/// Two files of one program include the header, one of them twice.
 #[test]
-fn lengths_are_the_same() {
-    let names = "TABLE ITEMS WRITES SNAPSHOTS QUEUE VALUES STAMPS PLACES(3) OUTBOX BLOCK";
-    let lines: String = names
-        .split(' ')
-        .map(|name| format!("printf(\"%zu\\n\", (size_t)STEMLINE_{name});\n"))
-        .collect();
-    let source = format!(
-        "#include <stdio.h>\n#include \"stemline.h\"\nint main(void) {{\n{lines}return 0;\n}}\n"
-    );
-    let replica = Replica::new(3, 0, &[0; ITEMS]).unwrap();
-    let memory = replica.memory();
-    let due = [
-        memory.table.len(),
-        memory.items.len(),
-        memory.writes.len(),
-        memory.snapshots.len(),
-        memory.queue.len(),
-        memory.values.len(),
-        memory.stamps.len(),
-        memory.places.len(),
-        memory.outbox.len(),
-        BLOCK,
-    ];
-    let due: String = due.iter().map(|length| format!("{length}\n")).collect();
-    assert_eq!(run_c(&source, "lengths"), due);
-}
-
-/// A host that stores the counts of every reply has the same replica after a second make that is
-/// refused, be it by 1 or by 2.
-#[test]
-fn a_refused_make_from_c() {
-    let source = r#"
-        #include <stdio.h>
-        #include <string.h>
-        #include "stemline.h"
-        static struct {
-            stemline_txn table[STEMLINE_TABLE];
-            stemline_turn turn;
-            uint8_t items[STEMLINE_ITEMS];
-            int32_t writes[STEMLINE_WRITES];
-            int32_t snapshots[STEMLINE_SNAPSHOTS];
-            uint32_t queue[STEMLINE_QUEUE];
-            int32_t values[STEMLINE_VALUES];
-            uint32_t stamps[STEMLINE_STAMPS];
-            uint8_t places[STEMLINE_PLACES(2)];
-            uint8_t outbox[STEMLINE_OUTBOX];
-        } s, before;
-        static stemline_counts counts;
-        static int32_t start[STEMLINE_VALUES] = {7};
-        static void make(uint32_t n, uint32_t own) {
-            stemline_reply r = stemline_make(
-                s.table, STEMLINE_TABLE, &s.turn, counts, n, own, start, STEMLINE_VALUES,
-                s.queue, STEMLINE_QUEUE, s.items, STEMLINE_ITEMS, s.writes, STEMLINE_WRITES,
-                s.snapshots, STEMLINE_SNAPSHOTS, s.values, STEMLINE_VALUES,
-                s.stamps, STEMLINE_STAMPS, s.places, sizeof s.places, s.outbox, STEMLINE_OUTBOX);
-            counts = r.counts;
-            printf("make %u %u: %d", (unsigned)n, (unsigned)own, r.number);
-        }
-        static void begin(void) {
-            stemline_begin_reply r = stemline_begin(
-                s.table, STEMLINE_TABLE, counts, s.values, STEMLINE_VALUES,
-                s.snapshots, STEMLINE_SNAPSHOTS);
-            counts = r.counts;
-            printf("begin: %d, %u\n", r.number, (unsigned)r.ticket);
-        }
-        int main(void) {
-            make(2, 1);
-            printf(", %d\n", (int)s.values[0]);
-            begin();
-            memcpy(&before, &s, sizeof s);
-            const uint32_t sizes[] = {2, 3, 7};
-            for (int i = 0; i < 3; i++) {
-                make(sizes[i], 2);
-                printf(", %s, replica %d of %d\n", memcmp(&before, &s, sizeof s) ? "changed" : "kept",
-                       counts.own, counts.replicas);
-            }
-            begin();
-            return 0;
-        }
-    "#;
-    let due = "make 2 1: 0, 7\nbegin: 0, 1\n\
-               make 2 2: 2, kept, replica 1 of 2\nmake 3 2: 1, kept, replica 1 of 2\n\
-               make 7 2: 2, kept, replica 1 of 2\n\
-               begin: 0, 2\n";
-    assert_eq!(run_c(source, "make"), due);
-}
-
-/// The one call that the story does not make: withdraw, at a right length and at a wrong one.
-#[test]
-fn withdraw_from_c() {
-    let source = r#"
-        #include <stdio.h>
-        #include "stemline.h"
-        int main(void) {
-            stemline_txn table[STEMLINE_TABLE + 1] = {{7, 0, 3, 0}, {9, 1, 3, 1}};
-            stemline_counts counts = {2, 0, 5, 0, 9, 1, 2, 3, 4};
-            for (size_t length = 5; length < 8; length++) {
-                for (uint32_t ticket = 7; ticket < 10; ticket++) {
-                    stemline_reply r = stemline_withdraw(table, length, ticket, counts);
-                    counts = r.counts;
-                    printf("%zu %u: %d, %u %u, %u\n", length, (unsigned)ticket, r.number,
-                           (unsigned)counts.withdrawn, (unsigned)counts.tickets,
-                           (unsigned)table[0].ticket);
-                }
-            }
-            return 0;
-        }
-    "#;
-    let due = "5 7: 1, 4 9, 7\n5 8: 1, 4 9, 7\n5 9: 1, 4 9, 7\n\
-               6 7: 0, 5 9, 0\n6 8: 3, 5 9, 0\n6 9: 4, 5 9, 0\n\
-               7 7: 1, 5 9, 0\n7 8: 1, 5 9, 0\n7 9: 1, 5 9, 0\n";
-    assert_eq!(run_c(source, "withdraw"), due);
+fn two_files_of_one_program() {
+    let main = "#include \"stemline.h\"\n#include \"stemline.h\"\n\
+        #ifdef __cplusplus\nextern \"C\"\n#endif\n\
+        uint32_t begin_there(stemline_replica *r);\n\
+        int main(void) {\nstatic stemline_replica r;\nstatic int32_t start[STEMLINE_ITEMS];\n\
+        if (stemline_replica_make(&r, 2, 0, start) != 0 || begin_there(&r) != 1) return 1;\n\
+        return stemline_replica_begin(&r).ticket != 2;\n}\n";
+    let there = "#include \"stemline.h\"\nuint32_t begin_there(stemline_replica *r);\n\
+        uint32_t begin_there(stemline_replica *r) { return stemline_replica_begin(r).ticket; }\n";
+    let there = ("there.c", "cc", "-std=c99", there);
+    let program = build("two", &[("main.c", "cc", "-std=c99", main), there]);
+    printed(&run(&program, b""));
+    if has_cpp() {
+        let main = ("main.cpp", "c++", "-std=c++98", main);
+        printed(&run(&build("twocpp", &[main, there]), b""));
+    }
 }

@@ -2,10 +2,10 @@
 
 use model::drive::start_values;
 use model::samples::{block_of, Random};
-use stemline::ffi::{AskReply, BeginReply, Counts, ReadReply, Reply, ReportReply, Txn, WorkReply};
-use stemline::{Replica, Report};
+use stemline::ffi::Txn;
+use stemline::Replica;
 
-use crate::lent::Lent;
+use crate::lent::{refused, Lent};
 
 /// The parts with a length, by name; a call is lent some of them.
 const PARTS: [&str; 12] = [
@@ -60,7 +60,7 @@ fn resize(lent: &mut Lent, part: &str, length: usize) {
 }
 
 /// The ten calls and the parts that each is lent.
-const CALLS: [(&str, &str); 10] = [
+pub const CALLS: [(&str, &str); 10] = [
     (
         "make",
         "table queue items writes snapshots values stamps places outbox start",
@@ -76,49 +76,8 @@ const CALLS: [(&str, &str); 10] = [
     ("work", "table queue items values stamps places"),
 ];
 
-/// What a call answers beside its 1: the counts as they were, and zeros.
-fn answer_of_one(name: &str, counts: Counts) -> String {
-    let number = 1;
-    match name {
-        "begin" => {
-            let ticket = 0;
-            let reply = BeginReply {
-                number,
-                ticket,
-                counts,
-            };
-            format!("{reply:?}")
-        }
-        "read" => format!("{:?}", ReadReply { number, value: 0 }),
-        "make" | "write" | "withdraw" => format!("{:?}", Reply { number, counts }),
-        "ask" => {
-            let read_only = false;
-            let reply = AskReply {
-                number,
-                read_only,
-                counts,
-            };
-            format!("{reply:?}")
-        }
-        "report" => {
-            let report = Report::default();
-            format!("{:?}", ReportReply { number, report })
-        }
-        "send" | "deliver" => String::from("1"),
-        "work" => {
-            let reply = WorkReply {
-                number,
-                counts,
-                ..WorkReply::default()
-            };
-            format!("{reply:?}")
-        }
-        _ => panic!("no call {name}"),
-    }
-}
-
 /// A replica 0 of 2 at which the call is accepted; and one at which it is refused, by the number.
-fn states(name: &str) -> [(Lent, u8); 2] {
+pub fn states(name: &str) -> [(Lent, u8); 2] {
     let mut replica = Replica::new(2, 0, &start_values()).unwrap();
     let ticket = replica.begin().unwrap();
     replica.write(ticket, 5, 40).unwrap();
@@ -179,8 +138,7 @@ fn check(name: &str, lent: &str, good: &Lent, number: u8, wrong: &[(&str, usize)
         lent.split(' ').any(|of_call| of_call == part) && !any
     };
     if wrong.iter().any(|&(part, _)| seen(part)) {
-        let due = (1, answer_of_one(name, before.counts));
-        assert_eq!(answer, due, "{name}, {wrong:?}");
+        assert_eq!(answer, refused(name, 1), "{name}, {wrong:?}");
         assert!(state == before, "{name}, {wrong:?}: something is changed");
     } else {
         assert_eq!(answer, good.clone().call(name), "{name}, {wrong:?}");

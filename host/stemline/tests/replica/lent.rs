@@ -56,7 +56,25 @@ impl Lent {
         }
     }
 
-    /// A call by name: its number, and all it answers as text. The counts that it gives are kept.
+    /// The memory of a crate's replica, where the parts have the lengths of one.
+    pub fn memory(&self) -> Memory {
+        let wrong = "a part of another length";
+        Memory {
+            turn: self.turn,
+            counts: self.counts,
+            table: self.table[..].try_into().expect(wrong),
+            queue: self.queue[..].try_into().expect(wrong),
+            items: self.items[..].try_into().expect(wrong),
+            writes: self.writes[..].try_into().expect(wrong),
+            snapshots: self.snapshots[..].try_into().expect(wrong),
+            values: self.values[..].try_into().expect(wrong),
+            stamps: self.stamps[..].try_into().expect(wrong),
+            places: self.places.clone().into_boxed_slice(),
+            outbox: self.outbox[..].try_into().expect(wrong),
+        }
+    }
+
+    /// A call by name: its number, and all it answers as text.
     pub fn call(&mut self, name: &str) -> (u8, String) {
         let l = self;
         macro_rules! said {
@@ -65,18 +83,11 @@ impl Lent {
                 (reply.number, format!("{reply:?}"))
             }};
         }
-        macro_rules! kept {
-            ($reply:expr) => {{
-                let reply = $reply;
-                l.counts = reply.counts;
-                said!(reply)
-            }};
-        }
-        match name {
-            "make" => kept!(ffi::make(
+        let number = match name {
+            "make" => ffi::make(
                 &mut l.table,
                 &mut l.turn,
-                l.counts,
+                &mut l.counts,
                 l.n,
                 l.own,
                 &l.start,
@@ -87,64 +98,91 @@ impl Lent {
                 &mut l.values,
                 &mut l.stamps,
                 &mut l.places,
-                &mut l.outbox
-            )),
-            "begin" => kept!(ffi::begin(
-                &mut l.table,
-                l.counts,
-                &l.values,
-                &mut l.snapshots
-            )),
-            "read" => said!(ffi::read(
-                &l.table,
-                l.ticket,
-                &l.items,
-                &l.writes,
-                &l.snapshots,
-                l.item
-            )),
-            "write" => kept!(ffi::write(
+                &mut l.outbox,
+            ),
+            "begin" => {
+                return said!(ffi::begin(
+                    &mut l.table,
+                    &mut l.counts,
+                    &l.values,
+                    &mut l.snapshots
+                ))
+            }
+            "read" => {
+                return said!(ffi::read(
+                    &l.table,
+                    l.ticket,
+                    &l.items,
+                    &l.writes,
+                    &l.snapshots,
+                    l.item
+                ))
+            }
+            "write" => ffi::write(
                 &mut l.table,
                 &l.turn,
+                &mut l.counts,
                 l.ticket,
-                l.counts,
                 &mut l.items,
                 &mut l.writes,
                 &l.stamps,
                 l.item,
-                l.value
-            )),
-            "ask" => kept!(ffi::ask(&mut l.table, l.ticket, l.counts, &mut l.queue)),
-            "withdraw" => kept!(ffi::withdraw(&mut l.table, l.ticket, l.counts)),
-            "report" => said!(ffi::report(&l.table, &l.turn, l.counts)),
-            "send" => {
-                let number = ffi::send(
+                l.value,
+            ),
+            "ask" => {
+                return said!(ffi::ask(
                     &mut l.table,
-                    &mut l.turn,
-                    l.counts,
-                    &mut l.queue,
-                    &l.items,
-                    &l.writes,
-                    &mut l.outbox,
-                    &mut l.block,
-                );
-                (number, format!("{number}"))
+                    &mut l.counts,
+                    l.ticket,
+                    &mut l.queue
+                ))
             }
-            "deliver" => {
-                let number = ffi::deliver(&l.turn, l.counts, &mut l.places, &l.outbox, &l.bytes);
-                (number, format!("{number}"))
-            }
-            "work" => kept!(ffi::work(
+            "withdraw" => ffi::withdraw(&mut l.table, &mut l.counts, l.ticket),
+            "report" => return said!(ffi::report(&l.table, &l.turn, &l.counts)),
+            "send" => ffi::send(
                 &mut l.table,
                 &mut l.turn,
-                l.counts,
+                &l.counts,
                 &mut l.queue,
                 &l.items,
-                &mut l.values,
-                &mut l.stamps,
-                &mut l.places
-            )),
+                &l.writes,
+                &mut l.outbox,
+                &mut l.block,
+            ),
+            "deliver" => ffi::deliver(&l.turn, &l.counts, &mut l.places, &l.outbox, &l.bytes),
+            "work" => {
+                return said!(ffi::work(
+                    &mut l.table,
+                    &mut l.turn,
+                    &mut l.counts,
+                    &mut l.queue,
+                    &l.items,
+                    &mut l.values,
+                    &mut l.stamps,
+                    &mut l.places
+                ))
+            }
             _ => panic!("no call {name}"),
-        }
+        };
+        (number, format!("{number}"))
     }
+}
+
+/// What a call answers where it is refused by a number: zeros beside it.
+pub fn refused(name: &str, number: u8) -> (u8, String) {
+    macro_rules! zeros {
+        ($reply:ident) => {{
+            let reply = ffi::$reply::default();
+            format!("{:?}", ffi::$reply { number, ..reply })
+        }};
+    }
+    let text = match name {
+        "begin" => zeros!(BeginReply),
+        "read" => zeros!(ReadReply),
+        "ask" => zeros!(AskReply),
+        "report" => zeros!(ReportReply),
+        "work" => zeros!(WorkReply),
+        _ => format!("{number}"),
+    };
+    (number, text)
 }

@@ -3,11 +3,16 @@
 mod altered;
 mod blocks;
 mod both;
+mod c;
+mod c_replica;
+mod counts;
 mod ends;
 mod groups;
 mod header;
 mod lengths;
 mod lent;
 mod marks;
+mod prototypes;
 mod seeds;
 mod story;
+mod takes;

@@ -1,5 +1,6 @@
 -- `ending::end_other` meets its contract: what the rows hit leave.
-use mathlib.Core.Path.{_≡_}
+use mathlib.Core.Path.{_≡_, ap, _∙_}
+use mathlib.Core.Logic.{⊎-elim, inl, inr}
 use lib.ListN.{length}
 use Rattle.engine.specs.Moves.{writesetAt}
 use Rattle.call_work.proofs.WorkLaws.{other-ended, other-queue}
@@ -22,11 +23,11 @@ cast-add c = search needs
 add-requires : tie.Need-add-requires
 add-requires c κs = search needs
 
-cast-t19 : tie.Need-cast-t19
-cast-t19 c = search needs
+cast-t20 : tie.Need-cast-t20
+cast-t20 c = search needs
 
 same-length : tie.Need-same-length
-same-length c = search needs
+same-length c = ⊎-elim (λ w. ap length (w .5) ∙ w .3 .given) (λ w. ap length (w .1)) (c .before .before .if1 .came)
 
 six : (c : tie.After-abort-rows) → length (c .abort-rows .result .tickets) ≡ 6
 six c = search needs
@@ -34,17 +35,18 @@ six c = search needs
 returns : tie.Need-returns
 returns c =
     let b = c .before in
-    let q = b .before .before .before in
-    let h = q .before .before .before .before in
+    let q = b .before in
+    let h = q .before .before .before in
     let s = h .before .before .before .before in
     let a = s .args in
     let o = h .abort-rows .result in
     let hit = h .abort-rows .ensures in (
       rw (s .pre)
           (other-ended (writesetAt (a .block .now) (a .j)) (a .turn) (a .counts) (a .rows) (a .items .now) (o .tickets) (o .count) (hit .2) (hit .1)
-          (six h) (hit .3) (o .table) (b .bump .result) (c .add .result) (hit .0) (b .bump .ensures) (c .add .ensures)),
+          (six h) (hit .3) (o .marks) (hit .0) (b .bump .result) (c .add .result) (b .bump .ensures) (c .add .ensures)),
       other-queue (writesetAt (a .block .now) (a .j)) (a .turn) (a .counts) (a .rows) (a .items .now) (o .tickets) (o .count) (hit .2) (hit .1)
-          (q .queue-without .last .0) (a .queue .now) (q .queue-without .ensures),
+          (q .if1 .queue) (a .queue .now)
+          (⊎-elim (λ w. inl (w .5 ∙ w .2 .ensures)) (λ w. inr (w .0 .left, w .1)) (q .if1 .came)),
     )
 
 pub end-other-spec : {M : Type 1} → statement M
@@ -56,6 +58,6 @@ end-other-spec =
     bump-requires
     cast-add
     add-requires
-    cast-t19
+    cast-t20
     same-length
     returns)

@@ -12,14 +12,11 @@ byte-at-requires c κs = search needs
 record-at-requires : tie.Need-record-at-requires
 record-at-requires c κs = search needs
 
-end-rows-requires : tie.Need-end-rows-requires
-end-rows-requires c κs = rw (c .before .record-at .ensures)
+end-transactions-requires : tie.Need-end-transactions-requires
+end-transactions-requires c κs = rw (c .before .record-at .ensures)
 
-apply-values-requires : tie.Need-apply-values-requires
-apply-values-requires c κs = search needs
-
-apply-stamps-requires : tie.Need-apply-stamps-requires
-apply-stamps-requires c κs = search needs
+apply-requires : tie.Need-apply-requires
+apply-requires c κs = search needs
 
 same-length : tie.Need-same-length
 same-length c = search needs
@@ -32,10 +29,9 @@ same-length-3 c = search needs
 
 returns : tie.Need-returns
 returns c =
-    let t = c .before .before in
-    let v = t .before .before .before in
-    let e = v .before .before .before .before .before in
-    rw (← e .before .before .before .before .byte-at .ensures) (e .end-rows .ensures .0, e .end-rows .ensures .1, v .apply-values .ensures, t .apply-stamps .ensures)
+    let p = c .before .before .before in
+    let e = p .before .before .before .before .before .before in
+    rw (← e .before .before .before .before .byte-at .ensures) (e .end-transactions .ensures .0, e .end-transactions .ensures .1, p .apply .ensures .0, p .apply .ensures .1)
 
 pub end-writeset-spec : {M : Type 1} → statement M
 end-writeset-spec =
@@ -44,9 +40,8 @@ end-writeset-spec =
     cast-j
     byte-at-requires
     record-at-requires
-    end-rows-requires
-    apply-values-requires
-    apply-stamps-requires
+    end-transactions-requires
+    apply-requires
     same-length
     same-length-2
     same-length-3

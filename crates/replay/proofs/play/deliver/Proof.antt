@@ -5,7 +5,7 @@ use borrow.Author.Needs.{needs}
 use lib.ListN.{length, drop, replicate}
 use lib.Seq.{length-take-le, take-at, drop-at}
 use Rattle.replay.specs.Effects.{memoryOf}
-use Rattle.replay.proofs.EffectLaws.{plays-bare, bare-number, bare-deliver}
+use Rattle.replay.proofs.EffectLaws.{plays-bare, bare-effect, bare-deliver}
 use Rattle.replay.proofs.play.deliver.Statement.{statement}
 use Rattle.replay.proofs.play.deliver.Tie as tie
 
@@ -46,7 +46,7 @@ returns c =
     (λ lent.
     plays-bare
     (c .bare .ensures)
-    (rw (take-at left (drop size (s .places)) size l) (bare-number lent (bare-deliver lent (memoryOf size s) (c .before .before .before .before .before .before .before .before .before .before .before .before .args .bytes .now)) (c .before .before .deliver .ensures (memoryOf size s))))
+    (rw (take-at left (drop size (s .places)) size l) (bare-effect lent (bare-deliver lent (memoryOf size s) (c .before .before .before .before .before .before .before .before .before .before .before .before .args .bytes .now)) (c .before .before .deliver .ensures (memoryOf size s))))
     (drop-at left (drop size (s .places)) size l))
 
 pub deliver-spec : {M : Type 1} → statement M

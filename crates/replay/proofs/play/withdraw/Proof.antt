@@ -26,11 +26,11 @@ bare-requires c κs = search needs
 returns : tie.Need-returns
 returns c =
     λ size lent.
-    let s = c .before .before .before .before .before .before .before .before .before .before .args .replica in
-    let g = c .before .before .before .before .before .withdraw .ensures (memoryOf size s) (s .rows) (c .before .before .before .before .before .before .row-at .ensures) in
+    let s = c .before .before .before .before .before .before .before .before .before .args .replica in
+    let g = c .before .before .before .before .withdraw .ensures (memoryOf size s) (s .rows) (c .before .before .before .before .before .row-at .ensures) in
     plays-bare
     (c .bare .ensures)
-    (rw (c .before .with-row .ensures, ← c .before .before .before .before .before .before .before .row-of .ensures) (bare-effect lent (bare-withdraw lent (memoryOf size s) (c .before .before .before .before .before .before .before .row-of .result)) g))
+    (rw (c .before .with-row .ensures, ← c .before .before .before .before .before .before .row-of .ensures) (bare-effect lent (bare-withdraw lent (memoryOf size s) (c .before .before .before .before .before .before .row-of .result)) g))
     (ap (λ (r : Replica). drop size (r .places)) (c .before .with-row .ensures))
 
 pub withdraw-spec : {M : Type 1} → statement M

@@ -22,7 +22,10 @@ places-long : (c : tie.Start) → length (c .args .replica .places) ≡ 3072
 places-long c = search needs
 
 aborted-long : (c : tie.After-work) → length (c .work .result .reply .aborted) ≡ 6
-aborted-long c = search needs
+aborted-long c =
+    -- what owning the reply's array tells
+    let array = c .work .ok .1 .1 .0 .1 .1 .1 .1 .1 .1 .1 .0 in
+    search needs
 
 cast-places-size : tie.Need-cast-places-size
 cast-places-size c = search needs
@@ -51,23 +54,28 @@ slice-aggregate-work-5 c = sym (length-take-le (c .before .before .before .befor
 work-requires : tie.Need-work-requires
 work-requires c κs = search needs
 
+end-rows-requires : tie.Need-end-rows-requires
+end-rows-requires c κs = search needs
+
 step-of-requires : tie.Need-step-of-requires
 step-of-requires c κs = search needs
 
 returns : tie.Need-returns
 returns c =
-    let s = c .before .before .before .before .before .before .before .before .before .before .before .before .before .before .before .before .before .before .before .before .before .before .before .before .before .args .replica in
-    let size = c .before .before .before .before .before .before .before .before .before .before .before .before .before .before .before .places-size .result in
-    let left = c .before .before .before .before .before .before .before .before .before .work .last .1 .1 .1 .1 .1 .1 .1 .0 in
-    let l : length left ≡ size = c .before .before .before .before .before .before .before .before .before .work .kept .1 .1 .1 .1 .1 .1 .1 .0 ∙ length-take-le size (s .places) (omega (arith, c .before .before .before .before .before .before .before .before .before .before .before .before .before .before .before .places-size .ensures .1, places-long (c .before .before .before .before .before .before .before .before .before .before .before .before .before .before .before .before .before .before .before .before .before .before .before .before .before))) in
-    let g = c .before .before .before .before .before .before .before .before .before .work .ensures (memoryOf size s) in
-    let few : c .before .before .before .before .before .before .before .before .before .work .result .reply .count ≤ 6 = work-few (workStep (memoryOf size s)) g (aborted-long (c .before .before .before .before .before .before .before .before .before)) in
+    let w = c .before .before .before .before .before .before .before .before .before .before in
+    let z = w .before .before .before .before .before .before in
+    let s = z .before .before .before .before .before .before .before .before .before .before .args .replica in
+    let size = z .places-size .result in
+    let left = w .work .last .1 .1 .1 .1 .1 .1 .1 .0 in
+    let l : length left ≡ size = w .work .kept .1 .1 .1 .1 .1 .1 .1 .0 ∙ length-take-le size (s .places) (omega (arith, z .places-size .ensures .1, places-long (z .before .before .before .before .before .before .before .before .before .before))) in
+    let g = w .work .ensures (memoryOf size s) .0 in
+    let few : w .work .result .reply .count ≤ 6 = work-few (workStep (memoryOf size s)) g (aborted-long w) in
     let short : c .step-of .result .count ≤ 10 = omega (arith, c .step-of .ensures .1, few) in
-    rw (← c .before .before .before .before .before .before .before .before .before .before .before .before .before .before .before .places-size .ensures .0)
+    rw (← z .places-size .ensures .0)
     (λ lent.
     plays-numbers
     (c .step-of .ensures .0)
-    (rw (take-at left (drop size (s .places)) size l) (work-effect (memoryOf size s) lent g))
+    (rw (c .before .end-rows .ensures, take-at left (drop size (s .places)) size l) (work-effect (memoryOf size s) lent g))
     (drop-at left (drop size (s .places)) size l)
     (rw (ap (λ (p : Played). p .count) (c .step-of .ensures .0)) at short))
 
@@ -84,5 +92,6 @@ work-spec =
     array-borrow-prefix-places
     slice-aggregate-work-5
     work-requires
+    end-rows-requires
     step-of-requires
     returns)

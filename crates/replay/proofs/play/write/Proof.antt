@@ -33,11 +33,11 @@ bare-requires c κs = search needs
 returns : tie.Need-returns
 returns c =
     λ size lent.
-    let s = c .before .before .before .before .before .before .before .before .before .before .before .before .before .before .before .before .before .before .args .replica in
-    let g = rw (toZ-ofZ (c .before .before .before .before .before .before .before .before .before .before .before .before .before .before .before .before .before .before .fits .value)) at (c .before .before .before .before .before .before .before .write .ensures .0 (memoryOf size s)) in
+    let s = c .before .before .before .before .before .before .before .before .before .before .before .before .before .before .before .before .before .args .replica in
+    let g = rw (toZ-ofZ (c .before .before .before .before .before .before .before .before .before .before .before .before .before .before .before .before .before .fits .value)) at (c .before .before .before .before .before .before .write .ensures .0 (memoryOf size s)) in
     plays-bare
     (c .bare .ensures)
-    (rw (c .before .with-row .ensures, ← c .before .before .before .before .before .before .before .before .before .before .before .row-of .ensures) (bare-effect lent (bare-write lent (memoryOf size s) (c .before .before .before .before .before .before .before .before .before .before .before .row-of .result) (c .before .before .before .before .before .before .before .before .before .before .before .before .before .before .before .before .before .before .args .item) (c .before .before .before .before .before .before .before .before .before .before .before .before .before .before .before .before .before .before .args .value)) g))
+    (rw (c .before .with-row .ensures, ← c .before .before .before .before .before .before .before .before .before .before .row-of .ensures) (bare-effect lent (bare-write lent (memoryOf size s) (c .before .before .before .before .before .before .before .before .before .before .row-of .result) (c .before .before .before .before .before .before .before .before .before .before .before .before .before .before .before .before .before .args .item) (c .before .before .before .before .before .before .before .before .before .before .before .before .before .before .before .before .before .args .value)) g))
     (ap (λ (r : Replica). drop size (r .places)) (c .before .with-row .ensures))
 
 pub write-spec : {M : Type 1} → statement M

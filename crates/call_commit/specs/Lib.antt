@@ -1,0 +1,2 @@
+-- What the contract of the aborts says beside the definition of a commit.
+pub mod Marks

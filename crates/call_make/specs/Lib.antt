@@ -1,0 +1,2 @@
+-- What the contract of a make says beside the definition.
+pub mod Made

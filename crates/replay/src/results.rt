@@ -1,0 +1,82 @@
+// What a call gave, put together.
+ghost use Prim.Native.Nat.{_≤_};
+ghost use mathlib.Core.Path.{_≡_};
+ghost use mathlib.Core.Bool.{cond};
+ghost use mathlib.Core.List.{_∷_};
+ghost use lib.Dec.{eqb};
+ghost use lib.ListN.{drop, replicate};
+use super::Played;
+use super::Replica;
+
+// Where the call is accepted, n.
+pub fn accepted(number: u8, n: usize) -> usize
+    ensures { λ r. ⌜ (r ≡ cond (eqb number 0) n 0) × (r ≤ n) ⌝ }
+{
+    if number == 0 { n } else { 0 }
+}
+
+// Numbers behind the call's own.
+pub fn with_numbers(replica: Replica, number: u8, count: usize, numbers: [u32; 10]) -> Played
+    ensures { λ r. ⌜ r ≡ record { replica = replica; number = number; count = count; numbers = numbers; shown = 0; values = r .values } ⌝ }
+{
+    Played {
+        replica: replica,
+        number: number,
+        count: count,
+        numbers: numbers,
+        shown: 0,
+        values: [0; 128],
+    }
+}
+
+// Values behind the call's number.
+pub fn with_values(replica: Replica, number: u8, shown: usize, values: [i32; 128]) -> Played
+    ensures { λ r. ⌜ r ≡ record { replica = replica; number = number; count = 0; numbers = r .numbers; shown = shown; values = values } ⌝ }
+{
+    Played {
+        replica: replica,
+        number: number,
+        count: 0,
+        numbers: [0; 10],
+        shown: shown,
+        values: values,
+    }
+}
+
+// Nothing behind the call's number.
+pub fn bare(replica: Replica, number: u8) -> Played
+    ensures { λ r. ⌜ r ≡ record { replica = replica; number = number; count = 0; numbers = r .numbers; shown = 0; values = r .values } ⌝ }
+{
+    Played {
+        replica: replica,
+        number: number,
+        count: 0,
+        numbers: [0; 10],
+        shown: 0,
+        values: [0; 128],
+    }
+}
+
+pub fn repeated(value: i32) -> [i32; 128]
+    ensures { λ r. ⌜ r ≡ replicate 128 value ⌝ }
+{
+    [value; 128]
+}
+
+pub fn flag(set: bool) -> u32
+    ensures { λ r. ⌜ r ≡ cond set 1 0 ⌝ }
+{
+    if set { 1 } else { 0 }
+}
+
+// One number behind the call's own, where it is accepted.
+pub fn with_number(replica: Replica, number: u8, first: u32) -> Played
+    ensures { λ r. ⌜ r ≡ record { replica = replica; number = number; count = cond (eqb number 0) 1 0; numbers = first ∷ drop 1 (r .numbers); shown = 0; values = r .values } ⌝ }
+{
+    with_numbers(
+        replica,
+        number,
+        accepted(number, 1),
+        [first, 0, 0, 0, 0, 0, 0, 0, 0, 0],
+    )
+}

@@ -1,0 +1,87 @@
+-- `parse::call_of` meets its contract.
+use mathlib.Core.Logic.{inl, inr, ⊎-elim}
+use mathlib.Core.Path.{_∙_}
+use borrow.Author.Needs.{needs}
+use lib.ListN.{getD, drop}
+use Rattle.replay_text.proofs.LineLaws.{call-short, call-long, behind-value, behind-two, behind-one, behind-bytes, behind-bare, behind-none}
+use Rattle.replay_text.proofs.parse.call_of.Statement.{statement}
+use Rattle.replay_text.proofs.parse.call_of.Tie as tie
+
+no-call-requires : tie.Need-no-call-requires
+no-call-requires c κs = search needs
+
+returns : tie.Need-returns
+returns c = c .no-call .ensures ∙ call-short (c .before .before .before .args .line .now) (c .before .if1 .taken)
+
+shared-slice-read-letter : tie.Need-shared-slice-read-letter
+shared-slice-read-letter c = search needs
+
+with-value-requires : tie.Need-with-value-requires
+with-value-requires c κs = search needs
+
+with-two-requires : tie.Need-with-two-requires
+with-two-requires c κs = search needs
+
+with-one-requires : tie.Need-with-one-requires
+with-one-requires c κs = search needs
+
+with-one-requires-2 : tie.Need-with-one-requires-2
+with-one-requires-2 c κs = search needs
+
+with-bytes-requires : tie.Need-with-bytes-requires
+with-bytes-requires c κs = search needs
+
+made-requires : tie.Need-made-requires
+made-requires c κs = search needs
+
+at-end-requires : tie.Need-at-end-requires
+at-end-requires c κs = search needs
+
+no-call-requires-2 : tie.Need-no-call-requires-2
+no-call-requires-2 c κs = search needs
+
+returns-2 : tie.Need-returns-2
+returns-2 c = call-long (c .before .before .before .before .before .args .line .now) (c .before .before .before .if1 .left) (c .with-value .ensures ∙ behind-value (getD (c .before .before .before .before .before .args .line .now) 0 0) (drop 3 (c .before .before .before .before .before .args .line .now)) (c .before .match .keys1))
+
+returns-3 : tie.Need-returns-3
+returns-3 c = call-long (c .before .before .before .before .before .args .line .now) (c .before .before .before .if1 .left) (c .with-two .ensures ∙ behind-two (getD (c .before .before .before .before .before .args .line .now) 0 0) (drop 3 (c .before .before .before .before .before .args .line .now)) (c .before .match .keys2))
+
+returns-4 : tie.Need-returns-4
+returns-4 c = call-long (c .before .before .before .before .before .args .line .now) (c .before .before .before .if1 .left) (c .with-one .ensures ∙ behind-one (getD (c .before .before .before .before .before .args .line .now) 0 0) (drop 3 (c .before .before .before .before .before .args .line .now)) (⊎-elim (λ e. inl e) (λ e. inr (inl e)) (c .before .match .keys3)))
+
+returns-5 : tie.Need-returns-5
+returns-5 c = call-long (c .before .before .before .before .before .args .line .now) (c .before .before .before .if1 .left) (c .with-one2 .ensures ∙ behind-one (getD (c .before .before .before .before .before .args .line .now) 0 0) (drop 3 (c .before .before .before .before .before .args .line .now)) (inr (inr (c .before .match .keys4))))
+
+returns-6 : tie.Need-returns-6
+returns-6 c = call-long (c .before .before .before .before .before .args .line .now) (c .before .before .before .if1 .left) (c .with-bytes .ensures ∙ behind-bytes (getD (c .before .before .before .before .before .args .line .now) 0 0) (drop 3 (c .before .before .before .before .before .args .line .now)) (c .before .match .keys5))
+
+returns-7 : tie.Need-returns-7
+returns-7 c = call-long (c .before .before .before .before .before .before .args .line .now) (c .before .before .before .before .if1 .left) (rw (c .before .made .ensures) at (c .at-end .ensures) ∙ behind-bare (getD (c .before .before .before .before .before .before .args .line .now) 0 0) (drop 3 (c .before .before .before .before .before .before .args .line .now)) (c .before .before .match .keys6))
+
+returns-8 : tie.Need-returns-8
+returns-8 c =
+    let n = c .before .match .rest in
+    call-long (c .before .before .before .before .before .args .line .now) (c .before .before .before .if1 .left) (c .no-call2 .ensures ∙ behind-none (getD (c .before .before .before .before .before .args .line .now) 0 0) (drop 3 (c .before .before .before .before .before .args .line .now)) (n .0 .0 .0 .0 .0 .1) (n .0 .0 .0 .0 .1) (n .0 .0 .0 .1) (n .0 .0 .1) (n .0 .1) (n .1))
+
+pub call-of-spec : {M : Type 1} → statement M
+call-of-spec =
+    tie.close
+    (tie.spec
+    no-call-requires
+    returns
+    shared-slice-read-letter
+    with-value-requires
+    with-two-requires
+    with-one-requires
+    with-one-requires-2
+    with-bytes-requires
+    made-requires
+    at-end-requires
+    no-call-requires-2
+    returns-2
+    returns-3
+    returns-4
+    returns-5
+    returns-6
+    returns-7
+    returns-8)

@@ -1,0 +1,234 @@
+// A line as a call. A number is read only as the program would print it.
+ghost use Prim.Native.Nat.{ℕ, _≤_};
+ghost use mathlib.Core.Path.{_≡_};
+ghost use mathlib.Core.List.{List};
+ghost use lib.ListN.{drop};
+ghost use Rattle.replay_text.specs.Lines.{digitNumber, upTo, readDigits, readNumber, negative, readSigned, readValue, callWith, noCall, atEnd, oneNumber, twoNumbers, numbersAndValue, bytesBehind, callOf, replicaNamed};
+ghost use Rattle.replay_text.specs.Lines.{numberField, valueField};
+use super::Call;
+use super::Number;
+use super::Value;
+
+fn made(letter: u8, first: u32, second: u32, value: i32) -> Call
+    ensures { λ r. ⌜ r ≡ callWith letter first second value ⌝ }
+{
+    Call {
+        letter: letter,
+        first: first,
+        second: second,
+        value: value,
+    }
+}
+
+fn no_call() -> Call
+    ensures { λ r. ⌜ r ≡ noCall ⌝ }
+{
+    made(0, 0, 0, 0)
+}
+
+// A decimal digit's number, 10 for any other byte.
+fn digit(byte: u8) -> u64
+    ensures { λ r. ⌜ r ≡ digitNumber byte ⌝ }
+{
+    if byte < 48 {
+        return 10;
+    }
+    if 57 < byte {
+        return 10;
+    }
+    (byte - 48) as u64
+}
+
+// The number, where it is not above `most`.
+fn up_to(most: u64, n: u64, end: usize) -> Number
+    requires { ⌜ most ≤ 4294967295 ⌝ }
+    ensures { λ r. ⌜ ((line : List ℕ) → numberField r line ≡ upTo most n (drop end line)) ⌝ }
+{
+    if most < n {
+        return Number::Missing;
+    }
+    Number::Is(n as u32, end)
+}
+
+// The number whose digits begin at `from`. A 0 in front stands alone: a digit behind it is then no separator.
+fn take_digits(line: &[u8], from: usize, most: u64) -> Number
+    requires { ⌜ most ≤ 4294967295 ⌝ }
+    ensures { λ r. ⌜ numberField r (now (line .entry)) ≡ readDigits most (drop from (now (line .entry))) ⌝ }
+{
+    if line.len() <= from {
+        return Number::Missing;
+    }
+    let mut n = digit(line[from]);
+    if 9 < n {
+        return Number::Missing;
+    }
+    let mut i = from + 1;
+    if n == 0 {
+        return Number::Is(0, i);
+    }
+    while i < line.len() {
+        let next = digit(line[i]);
+        if 9 < next {
+            return up_to(most, n, i);
+        }
+        if 429496729 < n {
+            return Number::Missing;
+        }
+        n = 10 * n + next;
+        i += 1;
+    }
+    up_to(most, n, i)
+}
+
+// A field that is an unsigned number.
+fn take_number(line: &[u8], at: usize) -> Number
+    ensures { λ r. ⌜ numberField r (now (line .entry)) ≡ readNumber (drop at (now (line .entry))) ⌝ }
+{
+    if line.len() <= at {
+        return Number::Missing;
+    }
+    if line[at] != b' ' {
+        return Number::Missing;
+    }
+    take_digits(line, at + 1, 4294967295)
+}
+
+// The number below zero whose digits begin at `from`; `-0` is none.
+fn take_negative(line: &[u8], from: usize) -> Value
+    ensures { λ r. ⌜ valueField r (now (line .entry)) ≡ negative (readDigits 2147483648 (drop from (now (line .entry)))) ⌝ }
+{
+    let Number::Is(n, end) = take_digits(line, from, 2147483648) else {
+        return Value::Missing;
+    };
+    if n == 0 {
+        return Value::Missing;
+    }
+    Value::Is(block::to_value((4294967296 - n as u64) as u32), end)
+}
+
+// A signed number.
+fn take_signed(line: &[u8], from: usize) -> Value
+    ensures { λ r. ⌜ valueField r (now (line .entry)) ≡ readSigned (drop from (now (line .entry))) ⌝ }
+{
+    if line.len() <= from {
+        return Value::Missing;
+    }
+    if line[from] == b'-' {
+        return take_negative(line, from + 1);
+    }
+    let Number::Is(n, end) = take_digits(line, from, 2147483647) else {
+        return Value::Missing;
+    };
+    Value::Is(block::to_value(n), end)
+}
+
+// A field that is a signed number.
+fn take_value(line: &[u8], at: usize) -> Value
+    ensures { λ r. ⌜ valueField r (now (line .entry)) ≡ readValue (drop at (now (line .entry))) ⌝ }
+{
+    if line.len() <= at {
+        return Value::Missing;
+    }
+    if line[at] != b' ' {
+        return Value::Missing;
+    }
+    take_signed(line, at + 1)
+}
+
+// The call, where nothing stands behind it.
+fn at_end(line: &[u8], end: usize, call: Call) -> Call
+    ensures { λ r. ⌜ r ≡ atEnd call (drop end (now (line .entry))) ⌝ }
+{
+    if end < line.len() {
+        return no_call();
+    }
+    call
+}
+
+fn with_one(line: &[u8], letter: u8) -> Call
+    ensures { λ r. ⌜ r ≡ oneNumber letter (drop 3 (now (line .entry))) ⌝ }
+{
+    let Number::Is(first, end) = take_number(line, 3) else {
+        return no_call();
+    };
+    at_end(line, end, made(letter, first, 0, 0))
+}
+
+fn with_two(line: &[u8], letter: u8) -> Call
+    ensures { λ r. ⌜ r ≡ twoNumbers letter (drop 3 (now (line .entry))) ⌝ }
+{
+    let Number::Is(first, at) = take_number(line, 3) else {
+        return no_call();
+    };
+    let Number::Is(second, end) = take_number(line, at) else {
+        return no_call();
+    };
+    at_end(line, end, made(letter, first, second, 0))
+}
+
+fn with_value(line: &[u8], letter: u8) -> Call
+    ensures { λ r. ⌜ r ≡ numbersAndValue letter (drop 3 (now (line .entry))) ⌝ }
+{
+    let Number::Is(first, at) = take_number(line, 3) else {
+        return no_call();
+    };
+    let Number::Is(second, next) = take_number(line, at) else {
+        return no_call();
+    };
+    let Value::Is(v, end) = take_value(line, next) else {
+        return no_call();
+    };
+    at_end(line, end, made(letter, first, second, v))
+}
+
+// A call with bytes behind a space, which are read where they are delivered.
+fn with_bytes(line: &[u8], letter: u8) -> Call
+    ensures { λ r. ⌜ r ≡ bytesBehind letter (drop 3 (now (line .entry))) ⌝ }
+{
+    if line.len() < 4 {
+        return no_call();
+    }
+    if line[3] != b' ' {
+        return no_call();
+    }
+    made(letter, 0, 0, 0)
+}
+
+// The place of the replica that the line names, 6 where it names none.
+pub fn replica_named(line: &[u8]) -> usize
+    ensures { λ r. ⌜ r ≡ replicaNamed (now (line .entry)) ⌝ }
+{
+    if line.len() < 3 {
+        return 6;
+    }
+    if line[1] != b' ' {
+        return 6;
+    }
+    let byte = line[2];
+    if byte < 48 {
+        return 6;
+    }
+    if 53 < byte {
+        return 6;
+    }
+    (byte - 48) as usize
+}
+
+// The call that the line makes, behind its replica.
+pub fn call_of(line: &[u8]) -> Call
+    ensures { λ r. ⌜ r ≡ callOf (now (line .entry)) ⌝ }
+{
+    if line.len() < 3 {
+        return no_call();
+    }
+    let letter = line[0];
+    match letter {
+        b'M' | b'W' => with_value(line, letter),
+        b'R' | b'F' => with_two(line, letter),
+        b'C' | b'X' => with_one(line, letter),
+        b'D' => with_one(line, letter),
+        b'H' => with_bytes(line, letter),
+        b'B' | b'Q' | b'S' | b'K' | b'V' => at_end(line, 3, made(letter, 0, 0, 0)),
+        _ => no_call(),
+    }
+}

@@ -1,0 +1,135 @@
+/* Replicas in structs with any bytes in them: every call returns, a refused one changes nothing, and
+ * of the places no call is lent more than the struct has. Stops where that does not hold; prints for
+ * each call how often it gave each number. */
+#include "same.h"
+
+enum call { MAKE, BEGIN, READ, WRITE, ASK, WITHDRAW, REPORT, SEND, DELIVER, WORK, CALLS };
+
+static const char *const names[CALLS] = {
+    "make", "begin", "read", "write", "ask", "withdraw", "report", "send", "deliver", "work"};
+static unsigned given[CALLS][256];
+static uint8_t good[STEMLINE_BLOCK];
+static int32_t start[STEMLINE_ITEMS] = {7, -7};
+
+static uint32_t any(void) {
+    static uint64_t state = 88172645463325252u;
+    state ^= state << 13;
+    state ^= state >> 7;
+    state ^= state << 17;
+    return (uint32_t)(state >> 16);
+}
+
+/* A number, most often a small one. */
+static uint32_t number(void) {
+    return any() % 4 == 0 ? any() : any() % 8;
+}
+
+static void fill(void *at, size_t length) {
+    for (size_t i = 0; i < length; i++) {
+        ((uint8_t *)at)[i] = (uint8_t)number();
+    }
+}
+
+/* Any bytes; then, most often, rows, turn and counts among which a call finds something to do. */
+static void alter(stemline_replica *r) {
+    fill(r, sizeof *r);
+    for (int at = 0; at < STEMLINE_TABLE; at++) {
+        stemline_txn row = {number(), any() % 4, number(), any() % 10};
+        r->table[at] = row;
+    }
+    r->turn.slot = any() % 2 ? 0 : number();
+    r->turn.sent = (uint8_t)(any() % 2 * any());
+    r->turn.applying = (uint8_t)(any() % 2 * any());
+    r->counts.replicas = (uint8_t)(any() % 2 ? 2 : number());
+    r->counts.own = (uint8_t)(any() % 4);
+    r->counts.tickets = number();
+}
+
+/* Two makes: one that is in range and fills the struct whatever it held, and one that may not be. */
+static uint8_t make(stemline_replica *r) {
+    static stemline_replica from_zeros, from_any;
+    uint32_t n = 2 + any() % 5, own = any() % n;
+    memset(&from_zeros, 0, sizeof from_zeros);
+    memcpy(&from_any, r, sizeof from_any);
+    hold(stemline_replica_make(&from_zeros, n, own, start) == 0, "make: refused");
+    hold(stemline_replica_make(&from_any, n, own, start) == 0, "make: refused");
+    size_t used = STEMLINE_PLACES(n);
+    hold(memcmp(from_any.places + used, r->places + used, sizeof r->places - used) == 0,
+         "make: places beyond those of the group");
+    memcpy(from_any.places + used, from_zeros.places + used, sizeof r->places - used);
+    hold(same(&from_zeros, &from_any), "make: what was there before is left");
+    return stemline_replica_make(r, number(), number(), start);
+}
+
+static uint8_t send(stemline_replica *r) {
+    uint8_t block[STEMLINE_BLOCK], before[STEMLINE_BLOCK];
+    fill(block, sizeof block);
+    memcpy(before, block, sizeof block);
+    bool is_turn = stemline_replica_is_turn(r);
+    uint8_t said = stemline_replica_send(r, block);
+    hold(is_turn == (said == 0), "is_turn: not what the send answers");
+    hold(said == 0 || memcmp(block, before, sizeof block) == 0, "send: the block is changed");
+    return said;
+}
+
+static uint8_t deliver(stemline_replica *r) {
+    uint8_t bytes[STEMLINE_BLOCK + 1] = {0};
+    memcpy(bytes, any() % 4 ? good : r->outbox, STEMLINE_BLOCK);
+    size_t length = STEMLINE_BLOCK - (any() % 8 == 0) + (any() % 8 == 0);
+    hold_take(r, bytes, length);
+    uint8_t said = stemline_replica_deliver(r, bytes, length);
+    hold(said == 1 || (r->counts.replicas <= 6 && length == STEMLINE_BLOCK), "deliver: not 1");
+    return said;
+}
+
+static uint8_t work(stemline_replica *r) {
+    uint8_t said = stemline_replica_work(r).number;
+    hold(said == 1 || r->counts.replicas <= 6, "work: not 1");
+    return said;
+}
+
+static uint8_t play(stemline_replica *r, enum call call) {
+    uint32_t ticket = r->table[any() % STEMLINE_TABLE].ticket;
+    uint32_t item = any() % (STEMLINE_ITEMS + 2);
+    switch (call) {
+    case MAKE: return make(r);
+    case BEGIN: return stemline_replica_begin(r).number;
+    case READ: return stemline_replica_read(r, ticket, item).number;
+    case WRITE: return stemline_replica_write(r, ticket, item, 40);
+    case ASK: return stemline_replica_ask(r, ticket).number;
+    case WITHDRAW: return stemline_replica_withdraw(r, ticket);
+    case REPORT: return stemline_replica_report(r).number;
+    case SEND: return send(r);
+    case DELIVER: return deliver(r);
+    default: return work(r);
+    }
+}
+
+int main(void) {
+    static stemline_replica r, before;
+    hold(stemline_replica_make(&r, 2, 0, start) == 0, "make: refused");
+    hold(stemline_replica_send(&r, good) == 0, "send: refused");
+    for (int round = 0; round < 4000; round++) {
+        alter(&r);
+        for (int call = 0; call < 30; call++) {
+            enum call name = (enum call)(any() % CALLS);
+            memcpy(&before, &r, sizeof r);
+            uint8_t said = play(&r, name);
+            given[name][said]++;
+            hold(said == 0 || said == STEMLINE_STALE || same(&r, &before), names[name]);
+            if (name == MAKE) {
+                memcpy(&r, &before, sizeof r);
+            }
+        }
+    }
+    for (int name = 0; name < CALLS; name++) {
+        printf("%s", names[name]);
+        for (int said = 0; said < 256; said++) {
+            if (given[name][said] > 0) {
+                printf(" %d:%u", said, given[name][said]);
+            }
+        }
+        printf("\n");
+    }
+    return 0;
+}

@@ -1,0 +1,257 @@
+/* replay.c by the calls over lent parts. The parts of a replica are copied to where each lies by itself,
+ * lent, and copied back. Before a call come others, with one lent array after the other an element short
+ * and an element too long: each answers 1, zeros beside it, and changes nothing. */
+#include "same.h"
+
+/* The arrays that calls are lent. */
+enum part {
+    TABLE, START, QUEUE, ITEMS, WRITES, SNAPSHOTS, VALUES, STAMPS, PLACES, OUTBOX, BLOCK, BYTES, PARTS
+};
+
+/* What calls are lent and given, in another order than a replica has it. Each array has room for an
+ * element too many. */
+typedef struct parts {
+    uint8_t outbox[STEMLINE_BLOCK + 1], bytes[600 + 1], block[STEMLINE_BLOCK + 1];
+    uint8_t places[STEMLINE_BLOCK * STEMLINE_REPLICAS + 1], items[STEMLINE_WRITTEN + 1];
+    uint32_t stamps[STEMLINE_ITEMS + 1], queue[STEMLINE_QUEUE + 1];
+    int32_t values[STEMLINE_ITEMS + 1], start[STEMLINE_ITEMS + 1];
+    int32_t snapshots[STEMLINE_SNAPSHOTS + 1], writes[STEMLINE_WRITTEN + 1];
+    stemline_txn table[STEMLINE_TABLE + 1];
+    stemline_counts counts;
+    stemline_turn turn;
+    uint32_t n, own, ticket, item;
+    int32_t value;
+} parts;
+
+static parts p;
+static size_t length[PARTS];
+/* What the last call answered beside its number. */
+static struct {
+    stemline_begin_reply begin;
+    stemline_read_reply read;
+    stemline_ask_reply ask;
+    stemline_report_reply report;
+    stemline_work_reply work;
+} said;
+
+/* ---- The ten calls over the parts, with the lengths as they are told */
+
+static uint8_t call_make(void) {
+    return stemline_make(
+        p.table, length[TABLE], &p.turn, &p.counts, p.n, p.own, p.start, length[START],
+        p.queue, length[QUEUE], p.items, length[ITEMS], p.writes, length[WRITES],
+        p.snapshots, length[SNAPSHOTS], p.values, length[VALUES], p.stamps, length[STAMPS],
+        p.places, length[PLACES], p.outbox, length[OUTBOX]);
+}
+
+static uint8_t call_begin(void) {
+    said.begin = stemline_begin(
+        p.table, length[TABLE], &p.counts, p.values, length[VALUES], p.snapshots, length[SNAPSHOTS]);
+    return said.begin.number;
+}
+
+static uint8_t call_read(void) {
+    said.read = stemline_read(
+        p.table, length[TABLE], p.ticket, p.items, length[ITEMS], p.writes, length[WRITES],
+        p.snapshots, length[SNAPSHOTS], p.item);
+    return said.read.number;
+}
+
+static uint8_t call_write(void) {
+    return stemline_write(
+        p.table, length[TABLE], &p.turn, &p.counts, p.ticket, p.items, length[ITEMS],
+        p.writes, length[WRITES], p.stamps, length[STAMPS], p.item, p.value);
+}
+
+static uint8_t call_ask(void) {
+    said.ask = stemline_ask(p.table, length[TABLE], &p.counts, p.ticket, p.queue, length[QUEUE]);
+    return said.ask.number;
+}
+
+static uint8_t call_withdraw(void) {
+    return stemline_withdraw(p.table, length[TABLE], &p.counts, p.ticket);
+}
+
+static uint8_t call_report(void) {
+    said.report = stemline_report(p.table, length[TABLE], &p.turn, &p.counts);
+    return said.report.number;
+}
+
+static uint8_t call_send(void) {
+    return stemline_send(
+        p.table, length[TABLE], &p.turn, &p.counts, p.queue, length[QUEUE], p.items, length[ITEMS],
+        p.writes, length[WRITES], p.outbox, length[OUTBOX], p.block, length[BLOCK]);
+}
+
+static uint8_t call_deliver(void) {
+    return stemline_deliver(
+        &p.turn, &p.counts, p.places, length[PLACES], p.outbox, length[OUTBOX], p.bytes, length[BYTES]);
+}
+
+static uint8_t call_work(void) {
+    said.work = stemline_work(
+        p.table, length[TABLE], &p.turn, &p.counts, p.queue, length[QUEUE], p.items, length[ITEMS],
+        p.values, length[VALUES], p.stamps, length[STAMPS], p.places, length[PLACES]);
+    return said.work.number;
+}
+
+/* ---- A call at a replica by one over the parts */
+
+static int same_parts(const parts *a, const parts *b) {
+    return SAME(outbox) && SAME(bytes) && SAME(block) && SAME(places) && SAME(items) && SAME(stamps)
+        && SAME(queue) && SAME(values) && SAME(start) && SAME(snapshots) && SAME(writes) && SAME(table)
+        && same_counts(&a->counts, &b->counts) && SAME(turn.slot) && SAME(turn.sent)
+        && SAME(turn.applying);
+}
+
+/* Whether the last call answered nothing beside its number. */
+static int said_zeros(void) {
+    static const stemline_report_values no_report;
+    stemline_work_reply no_work = {0};
+    no_work.number = said.work.number;
+    return said.begin.ticket == 0 && said.read.value == 0 && !said.ask.read_only
+        && memcmp(&said.report.report, &no_report, sizeof no_report) == 0
+        && memcmp(&said.work, &no_work, sizeof no_work) == 0;
+}
+
+#define COPY(to, from, part) memcpy((to)->part, (from)->part, sizeof r->part)
+
+/* Lends the parts of a replica of n, each by its right length. */
+static void lend(const stemline_replica *r, uint32_t n) {
+    static const size_t right[PARTS] = {
+        STEMLINE_TABLE, STEMLINE_ITEMS, STEMLINE_QUEUE, STEMLINE_WRITTEN, STEMLINE_WRITTEN,
+        STEMLINE_SNAPSHOTS, STEMLINE_ITEMS, STEMLINE_ITEMS, 0, STEMLINE_BLOCK, STEMLINE_BLOCK,
+        STEMLINE_BLOCK};
+    memcpy(length, right, sizeof length);
+    length[PLACES] = stemline_lent_places(n);
+    memset(&said, 0, sizeof said);
+    memset(&p, 0xa5, sizeof p);
+    COPY(&p, r, table), COPY(&p, r, queue), COPY(&p, r, items), COPY(&p, r, writes);
+    COPY(&p, r, snapshots), COPY(&p, r, values), COPY(&p, r, stamps), COPY(&p, r, places);
+    COPY(&p, r, outbox);
+    p.turn = r->turn;
+    p.counts = r->counts;
+}
+
+static void give_back(stemline_replica *r) {
+    COPY(r, &p, table), COPY(r, &p, queue), COPY(r, &p, items), COPY(r, &p, writes);
+    COPY(r, &p, snapshots), COPY(r, &p, values), COPY(r, &p, stamps), COPY(r, &p, places);
+    COPY(r, &p, outbox);
+    r->turn = p.turn;
+    r->counts = p.counts;
+}
+
+/* The call with each of the arrays that it is lent at a wrong length, then the call itself. */
+static uint8_t called(const char *name, uint8_t (*call)(void), const enum part *lent, size_t count) {
+    static parts before;
+    memcpy(&before, &p, sizeof p);
+    for (size_t i = 0; i < 2 * count; i++) {
+        size_t *told = &length[lent[i / 2]], right = *told;
+        *told = i % 2 == 0 ? right - 1 : right + 1;
+        hold(call() == STEMLINE_WRONG_LENGTH && said_zeros() && same_parts(&p, &before), name);
+        *told = right;
+    }
+    return call();
+}
+
+#define CALLED(name, ...) \
+    called(#name, call_##name, (const enum part[]){__VA_ARGS__}, \
+           sizeof (const enum part[]){__VA_ARGS__} / sizeof(enum part))
+
+static uint8_t lent_make(stemline_replica *r, uint32_t n, uint32_t own, const int32_t *start) {
+    lend(r, n);
+    memcpy(p.start, start, STEMLINE_ITEMS * sizeof *start);
+    p.n = n;
+    p.own = own;
+    /* with an n out of range the places may have any length */
+    uint8_t number = n < 2 || n > STEMLINE_REPLICAS
+        ? CALLED(make, TABLE, START, QUEUE, ITEMS, WRITES, SNAPSHOTS, VALUES, STAMPS, OUTBOX)
+        : CALLED(make, TABLE, START, QUEUE, ITEMS, WRITES, SNAPSHOTS, VALUES, STAMPS, OUTBOX, PLACES);
+    give_back(r);
+    return number;
+}
+
+static stemline_begin_reply lent_begin(stemline_replica *r) {
+    lend(r, r->counts.replicas);
+    CALLED(begin, TABLE, VALUES, SNAPSHOTS);
+    give_back(r);
+    return said.begin;
+}
+
+static stemline_read_reply lent_read(const stemline_replica *r, uint32_t ticket, uint32_t item) {
+    lend(r, r->counts.replicas);
+    p.ticket = ticket;
+    p.item = item;
+    CALLED(read, TABLE, ITEMS, WRITES, SNAPSHOTS);
+    return said.read;
+}
+
+static uint8_t lent_write(stemline_replica *r, uint32_t ticket, uint32_t item, int32_t value) {
+    lend(r, r->counts.replicas);
+    p.ticket = ticket;
+    p.item = item;
+    p.value = value;
+    uint8_t number = CALLED(write, TABLE, ITEMS, WRITES, STAMPS);
+    give_back(r);
+    return number;
+}
+
+static stemline_ask_reply lent_ask(stemline_replica *r, uint32_t ticket) {
+    lend(r, r->counts.replicas);
+    p.ticket = ticket;
+    CALLED(ask, TABLE, QUEUE);
+    give_back(r);
+    return said.ask;
+}
+
+static uint8_t lent_withdraw(stemline_replica *r, uint32_t ticket) {
+    lend(r, r->counts.replicas);
+    p.ticket = ticket;
+    uint8_t number = CALLED(withdraw, TABLE);
+    give_back(r);
+    return number;
+}
+
+static stemline_report_reply lent_report(const stemline_replica *r) {
+    lend(r, r->counts.replicas);
+    CALLED(report, TABLE);
+    return said.report;
+}
+
+static uint8_t lent_send(stemline_replica *r, uint8_t *block) {
+    lend(r, r->counts.replicas);
+    uint8_t number = CALLED(send, TABLE, QUEUE, ITEMS, WRITES, OUTBOX, BLOCK);
+    give_back(r);
+    memcpy(block, p.block, STEMLINE_BLOCK);
+    return number;
+}
+
+static uint8_t lent_deliver(stemline_replica *r, const uint8_t *bytes, size_t count) {
+    lend(r, r->counts.replicas);
+    memcpy(p.bytes, bytes, count);
+    length[BYTES] = count;
+    /* bytes of another length are wrong by themselves, and might be right by one more or less */
+    uint8_t number = count != STEMLINE_BLOCK ? CALLED(deliver, PLACES, OUTBOX)
+                                             : CALLED(deliver, PLACES, OUTBOX, BYTES);
+    give_back(r);
+    return number;
+}
+
+static stemline_work_reply lent_work(stemline_replica *r) {
+    lend(r, r->counts.replicas);
+    CALLED(work, TABLE, QUEUE, ITEMS, VALUES, STAMPS, PLACES);
+    give_back(r);
+    return said.work;
+}
+
+#define stemline_replica_make lent_make
+#define stemline_replica_begin lent_begin
+#define stemline_replica_read lent_read
+#define stemline_replica_write lent_write
+#define stemline_replica_ask lent_ask
+#define stemline_replica_withdraw lent_withdraw
+#define stemline_replica_report lent_report
+#define stemline_replica_send lent_send
+#define stemline_replica_deliver lent_deliver
+#define stemline_replica_work lent_work
+#include "replay.c"

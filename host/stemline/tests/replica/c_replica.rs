@@ -1,0 +1,276 @@
+//! The replica in a struct of the C header, in C programs: beside the model, at memory with any bytes in
+//! it, and at what a make is refused by.
+
+use std::cell::RefCell;
+use std::path::{Path, PathBuf};
+use std::rc::Rc;
+
+use model::block::MAX_TICKET;
+use model::drive::{Group, Peers, Seen, Style, Subject, STYLES};
+use model::replay::{hex, run as answers, show};
+use model::replica::{Replica, Report, ITEMS, SLOTS};
+use model::samples::Random;
+use model::trace::{Answer, Call};
+
+use crate::c::{build, printed, run, run_c};
+use crate::seeds::Seeds;
+
+const CALLS: usize = 2_000;
+const RUNS: u64 = 20;
+
+fn replay(name: &str) -> PathBuf {
+    let source = include_str!("../c/replay.c");
+    build(name, &[("replay.c", "cc", "-std=c99", source)])
+}
+
+/// Plays a list at the C program, and stops where it prints something else than is due.
+fn compare(program: &Path, list: &str, due: &str) {
+    let printed = printed(&run(program, list.as_bytes()));
+    for ((line, found), due) in list.lines().zip(printed.lines()).zip(due.lines()) {
+        assert_eq!(found, due, "{line}");
+    }
+    assert_eq!(printed.lines().count(), due.lines().count());
+}
+
+/// The list that is stored for the program `replay`, without the lines that are no calls: the calls at a
+/// struct, and those over lent parts, each with every length off by one.
+#[test]
+fn the_stored_list() {
+    let list = model::workload::calls();
+    let mut said = Vec::new();
+    answers(&list[..], &mut said).unwrap();
+    let said = String::from_utf8(said).unwrap();
+    let lines = list.split(|&byte| byte == b'\n').zip(said.lines());
+    let (mut calls, mut due) = (String::new(), String::new());
+    for (line, answer) in lines.filter(|(_, answer)| *answer != "?") {
+        calls.push_str(&format!("{}\n", str::from_utf8(line).unwrap()));
+        due.push_str(&format!("{answer}\n"));
+    }
+    assert!(due.lines().count() > 30_000);
+    compare(&replay("stored"), &calls, &due);
+    let lent = include_str!("../c/lent.c");
+    let lent = build("lent", &[("lent.c", "cc", "-std=c99", lent)]);
+    compare(&lent, &calls, &due);
+}
+
+/// Lines for the C program, and what it must print.
+#[derive(Default)]
+struct List {
+    lines: String,
+    due: String,
+}
+
+impl List {
+    fn add(&mut self, line: &str, answer: &str) {
+        self.lines.push_str(&format!("{line}\n"));
+        self.due.push_str(&format!("{answer}\n"));
+    }
+}
+
+/// A replica of the model at a place, whose calls are put down.
+struct Noted {
+    place: u32,
+    model: Replica,
+    list: Rc<RefCell<List>>,
+}
+
+impl Noted {
+    /// Replica `own` of `n`, as it is after so many slots and tickets, at the place of its number.
+    fn new(list: &Rc<RefCell<List>>, n: u32, own: u32, late: (u32, u32)) -> Noted {
+        let model = Replica::make(n, own, &model::drive::start_values()).unwrap();
+        let noted = Noted {
+            place: own,
+            model: model.fast_forward(late.0, late.1),
+            list: list.clone(),
+        };
+        noted.note(&format!("L {own} {n} {own} {} {}", late.0, late.1), "0");
+        noted
+    }
+
+    fn note(&self, line: &str, answer: &str) {
+        self.list.borrow_mut().add(line, answer);
+    }
+}
+
+/// A call as a line.
+fn line(k: u32, call: &Call) -> String {
+    match call {
+        Call::Begin => format!("B {k}"),
+        Call::Read { ticket, item } => format!("R {k} {ticket} {item}"),
+        Call::Write {
+            ticket,
+            item,
+            value,
+        } => format!("W {k} {ticket} {item} {value}"),
+        Call::Ask { ticket } => format!("C {k} {ticket}"),
+        Call::Withdraw { ticket } => format!("X {k} {ticket}"),
+        Call::Report => format!("Q {k}"),
+        Call::Send => format!("S {k}"),
+        Call::Deliver { bytes } => format!("H {k} {}", hex(bytes)),
+        Call::Work => format!("K {k}"),
+    }
+}
+
+impl Subject for Noted {
+    fn call(&mut self, call: &Call) -> Result<Answer, u8> {
+        let answer = self.model.call(call);
+        let shown = answer.as_ref().map_or_else(u8::to_string, show);
+        self.note(&line(self.place, call), &shown);
+        answer
+    }
+
+    fn report(&self) -> Report {
+        self.model.report()
+    }
+
+    fn values(&self) -> [i32; ITEMS] {
+        *self.model.values()
+    }
+}
+
+/// A group and a single replica among forged peers, as they are after so many slots and tickets.
+fn play(list: &Rc<RefCell<List>>, seed: u64, style: Style, late: (u32, u32), seen: &mut Seen) {
+    let n = 2 + seed as u32 % 5;
+    let mut random = Random::new(seed);
+    let members = (0..n).map(|own| Noted::new(list, n, own, late)).collect();
+    let mut group: Group<Noted> = Group::new(members, style);
+    for _ in 0..CALLS {
+        group.random_call(&mut random);
+    }
+    group.settle(2);
+    for (k, member) in group.members.iter().enumerate() {
+        let values: Vec<String> = member.values().iter().map(i32::to_string).collect();
+        member.note(&format!("V {k}"), &format!("0 {}", values.join(" ")));
+    }
+    seen.add(&group.seen);
+
+    let own = seed as u32 / 5 % n;
+    let mut single = Noted::new(list, n, own, late);
+    let mut peers = Peers::new(n, own, single.report());
+    for _ in 0..CALLS {
+        let call = peers.random_call(&mut random, style);
+        let answer = single.call(&call);
+        peers.feed(&call, &answer);
+    }
+    seen.add(&peers.seen);
+}
+
+/// Random lists: the C program answers as the model does. No list of calls leads to 22.
+#[test]
+fn random_lists() {
+    let mut seen = Seen::default();
+    let list = Rc::new(RefCell::new(List::default()));
+    let program = replay("random");
+    let seeds = Seeds::new(RUNS);
+    seeds.each(|seed| {
+        play(
+            &list,
+            seed,
+            STYLES[seed as usize / 5 % 4],
+            (0, 0),
+            &mut seen,
+        );
+        if seed.is_multiple_of(5) {
+            let late = (SLOTS - 60, MAX_TICKET - 60);
+            play(&list, seed, Style::new(30, 40, 6), late, &mut seen);
+        }
+        let list = list.take();
+        compare(&program, &list.lines, &list.due);
+    });
+    let all: Vec<usize> = (1..=21).collect();
+    assert!(seeds.runs < RUNS || seen.numbers(20) == all, "{seen:?}");
+}
+
+/// Every call at a struct with any bytes in it. The program says where something does not hold; here it
+/// is seen that each call was accepted and refused, by how many numbers.
+#[test]
+fn any_bytes() {
+    let said = run_c("garbage", include_str!("../c/garbage.c"), b"");
+    let lines: Vec<&str> = said.lines().collect();
+    let least = [
+        ("make", 2),
+        ("begin", 3),
+        ("read", 4),
+        ("write", 8),
+        ("ask", 3),
+        ("withdraw", 3),
+        ("report", 1),
+        ("send", 4),
+        ("deliver", 7),
+        ("work", 4),
+    ];
+    assert_eq!(lines.len(), least.len(), "{said}");
+    for (line, (name, numbers)) in lines.into_iter().zip(least) {
+        let fields: Vec<&str> = line.split(' ').collect();
+        assert_eq!(fields[0], name);
+        assert!(fields[1].starts_with("0:"), "{line}");
+        assert!(fields.len() > numbers, "{line}");
+    }
+}
+
+/// A refused make keeps the replica that is there, and one out of range touches nothing around it.
+#[test]
+fn refused_makes() {
+    let source = r#"
+        #include "same.h"
+        static struct {
+            uint8_t below[4096];
+            stemline_replica r;
+            uint8_t above[4096];
+        } s, before;
+        int main(void) {
+            static int32_t start[STEMLINE_ITEMS] = {7};
+            const uint32_t sizes[] = {0, 1, 2, 3, 6, 7, 8, 255, 256, 258, 65536, 0x80000000u, UINT32_MAX};
+            memset(&s, 0xa5, sizeof s);
+            printf("make: %d\n", stemline_replica_make(&s.r, 2, 1, start));
+            printf("begin: %u\n", (unsigned)stemline_replica_begin(&s.r).ticket);
+            memcpy(&before, &s, sizeof s);
+            for (size_t i = 0; i < sizeof sizes / sizeof sizes[0]; i++) {
+                int number = stemline_replica_make(&s.r, sizes[i], 6, start);
+                hold(number == STEMLINE_OUT_OF_RANGE && same(&s.r, &before.r), "make");
+            }
+            hold(memcmp(s.below, before.below, sizeof s.below) == 0, "below the replica");
+            hold(memcmp(s.above, before.above, sizeof s.above) == 0, "above the replica");
+            printf("begin: %u, item 0: %d\n", (unsigned)stemline_replica_begin(&s.r).ticket,
+                   (int)s.r.values[0]);
+            return 0;
+        }
+    "#;
+    let due = "make: 0\nbegin: 1\nbegin: 2, item 0: 7\n";
+    assert_eq!(run_c("makes", source, b""), due);
+}
+
+/// A take at altered memory: a work refused by 22 ends the steps, and those before it are given; refused by
+/// its deliver, a take gives nothing but the number.
+#[test]
+fn takes_at_altered_memory() {
+    let source = r#"
+        #include "same.h"
+        int main(void) {
+            static stemline_replica r;
+            static int32_t start[STEMLINE_ITEMS];
+            uint8_t block[STEMLINE_BLOCK];
+            stemline_replica_make(&r, 2, 0, start);
+            for (uint32_t ticket = 1; ticket <= 3; ticket++) {
+                stemline_replica_begin(&r);
+                stemline_replica_write(&r, ticket, ticket, 40);
+                stemline_replica_ask(&r, ticket);
+            }
+            stemline_replica_send(&r, block);
+            r.table[2].ticket = 0;
+            for (int trial = 0; trial < 3; trial++) {
+                block[20] ^= (uint8_t)(trial == 0);
+                hold_take(&r, block, sizeof block);
+                stemline_take_reply taken = stemline_replica_take(&r, block, sizeof block);
+                block[20] ^= (uint8_t)(trial == 0);
+                printf("%d %d:", taken.number, taken.refused);
+                for (int i = 0; i < taken.count; i++) {
+                    printf(" %u", (unsigned)taken.steps[i].ticket);
+                }
+                printf("\n");
+            }
+            return 0;
+        }
+    "#;
+    assert_eq!(run_c("takes", source, b""), "14 0:\n0 22: 1 2\n20 0:\n");
+}

@@ -1,0 +1,170 @@
+//! The counts and the marks of the turn with any bytes in them. Every call returns, and a refused one
+//! changes nothing; what a call does not look at makes no difference, and a mark makes but one.
+
+use model::block::{BLOCK, MAX_TICKET};
+use stemline::ffi::Counts;
+
+use crate::lengths::{states, CALLS};
+use crate::lent::{refused, Lent};
+
+/// The counts by name, with the calls that look at each. A make that is accepted sets them all.
+const COUNTS: [(&str, &str); 9] = [
+    ("replicas", "send deliver work"),
+    ("own", "send deliver work"),
+    ("commits", "begin report work"),
+    ("done", "work"),
+    ("tickets", "begin report"),
+    ("committed", "report work"),
+    ("read_only", "ask report"),
+    ("aborted", "write report work"),
+    ("withdrawn", "withdraw report"),
+];
+
+/// Sets one byte of a count, from the least on; gives whether it has so many.
+fn set(counts: &mut Counts, name: &str, at: usize, byte: u8) -> bool {
+    let small = match name {
+        "replicas" => Some(&mut counts.replicas),
+        "own" => Some(&mut counts.own),
+        "done" => Some(&mut counts.done),
+        _ => None,
+    };
+    if let Some(small) = small {
+        *small = byte;
+        return at == 0;
+    }
+    let number = match name {
+        "commits" => &mut counts.commits,
+        "tickets" => &mut counts.tickets,
+        "committed" => &mut counts.committed,
+        "read_only" => &mut counts.read_only,
+        "aborted" => &mut counts.aborted,
+        "withdrawn" => &mut counts.withdrawn,
+        _ => panic!("no count {name}"),
+    };
+    let mut bytes = number.to_le_bytes();
+    bytes[at] = byte;
+    *number = u32::from_le_bytes(bytes);
+    true
+}
+
+/// Calls on an altered memory: refused, it has changed nothing. Gives its answer and leaves the memory.
+fn call(name: &str, memory: &mut Lent) -> (u8, String) {
+    let before = memory.clone();
+    let answer = memory.call(name);
+    if answer.0 != 0 {
+        assert_eq!(answer, refused(name, answer.0), "{name}");
+        assert!(*memory == before, "{name}: {answer:?} changed something");
+    }
+    answer
+}
+
+/// Each byte of each count at each of its numbers.
+#[test]
+fn every_byte_of_the_counts() {
+    for (name, _) in CALLS {
+        for (state, _) in states(name) {
+            let mut plain = state.clone();
+            let due = call(name, &mut plain);
+            for (count, lookers) in COUNTS {
+                let looks = lookers.split(' ').any(|looker| looker == name);
+                for (at, byte) in (0..4).flat_map(|at| (0..=255).map(move |byte| (at, byte))) {
+                    let mut memory = state.clone();
+                    if !set(&mut memory.counts, count, at, byte) {
+                        continue;
+                    }
+                    let answer = call(name, &mut memory);
+                    if !looks {
+                        let mut due_memory = plain.clone();
+                        if name != "make" || due.0 != 0 {
+                            set(&mut due_memory.counts, count, at, byte);
+                        }
+                        assert_eq!(answer, due, "{name}: {count}, byte {at}: {byte}");
+                        assert!(memory == due_memory, "{name}: {count}, byte {at}: {byte}");
+                    }
+                }
+            }
+        }
+    }
+}
+
+/// Any number of replicas, with as many places, which hold something.
+#[test]
+fn every_number_of_replicas() {
+    let mut numbers = [0; 23];
+    for name in ["send", "deliver", "work"] {
+        for (state, _) in states(name) {
+            for replicas in 0..=255 {
+                for own in [0, 1, 255] {
+                    let mut memory = state.clone();
+                    (memory.counts.replicas, memory.counts.own) = (replicas, own);
+                    memory.places.resize(BLOCK * usize::from(replicas), 2);
+                    let answer = call(name, &mut memory);
+                    numbers[usize::from(answer.0)] += 1;
+                    // Slot 0 is replica 0's, however many there are.
+                    if name == "send" {
+                        assert_ne!(answer.0 == 11, own == 0, "{replicas}, {own}");
+                    }
+                    // The block is of a group of two.
+                    if name == "deliver" && answer.0 != 14 {
+                        assert_eq!(answer.0 == 16, replicas != 2, "{replicas}, {own}");
+                    }
+                }
+            }
+        }
+    }
+    let met = |number: usize| numbers[number] > 0;
+    assert!([0, 11, 12, 14, 16, 21].into_iter().all(met), "{numbers:?}");
+}
+
+/// The tickets at each side of their limit, and the counts at theirs: these stay.
+#[test]
+fn limits() {
+    let [(good, _), _] = states("begin");
+    for tickets in [0, 1, MAX_TICKET - 1, MAX_TICKET, MAX_TICKET + 1, u32::MAX] {
+        let mut memory = good.clone();
+        memory.counts.tickets = tickets;
+        let number = call("begin", &mut memory).0;
+        assert_eq!(
+            number,
+            if tickets < MAX_TICKET { 0 } else { 6 },
+            "{tickets}"
+        );
+        let due = if number == 0 { tickets + 1 } else { tickets };
+        assert_eq!(memory.counts.tickets, due);
+    }
+    let last = u32::MAX;
+    let [(mut memory, _), _] = states("work");
+    (memory.counts.commits, memory.counts.committed) = (last, last);
+    assert_eq!(call("work", &mut memory).0, 0);
+    assert_eq!(
+        (memory.counts.commits, memory.counts.committed),
+        (last, last)
+    );
+    let [(mut memory, _), _] = states("ask");
+    memory.counts.read_only = last;
+    memory.table[0].writes = 0;
+    assert_eq!(call("ask", &mut memory).0, 0);
+    assert_eq!(memory.counts.read_only, last);
+}
+
+/// Each mark at each number but 0 gives what it gives at 1.
+#[test]
+fn every_number_of_the_marks() {
+    for (name, _) in CALLS {
+        for (state, _) in states(name) {
+            for byte in 0..=255u8 {
+                for (sent, applying) in [(byte, 0), (0, byte), (byte, 1), (1, byte), (byte, byte)] {
+                    let mut memory = state.clone();
+                    (memory.turn.sent, memory.turn.applying) = (sent, applying);
+                    let mut plain = state.clone();
+                    (plain.turn.sent, plain.turn.applying) = (sent.min(1), applying.min(1));
+                    let answer = call(name, &mut memory);
+                    assert_eq!(answer, call(name, &mut plain), "{name}: {sent}, {applying}");
+                    let turn = &mut memory.turn;
+                    (turn.sent, turn.applying) = (turn.sent.min(1), turn.applying.min(1));
+                    assert!(memory == plain, "{name}: {sent}, {applying}");
+                }
+            }
+        }
+    }
+}

@@ -1,0 +1,193 @@
+//! A take beside the calls that it stands for: a deliver, and works until nothing waits.
+
+use model::drive::{start_values, Group, Peers, Subject, STYLES};
+use model::replica::{self as second, Report, ITEMS};
+use model::samples::{block_of, Random};
+use model::trace::{Answer, Call};
+use stemline::{Refusal, Replica, REPLICAS, STEPS};
+
+use crate::both::{worked, Both};
+use crate::seeds::Seeds;
+
+const CALLS: usize = 2_000;
+const RUNS: u64 = 40;
+
+/// What takes gave: refused, without a step, with the steps of one block, of several.
+#[derive(Clone, Debug, Default)]
+struct Met {
+    refused: u32,
+    early: u32,
+    one: u32,
+    several: u32,
+}
+
+impl Met {
+    fn add(&mut self, other: &Met) {
+        self.refused += other.refused;
+        self.early += other.early;
+        self.one += other.one;
+        self.several += other.several;
+    }
+}
+
+/// A pair at which each deliver is tried as a take before.
+struct Taking {
+    both: Both,
+    met: Met,
+}
+
+impl Taking {
+    fn new(n: u32, own: u32) -> Taking {
+        Taking {
+            both: Both::new(n, own, &start_values()),
+            met: Met::default(),
+        }
+    }
+
+    /// On copies: a take by the library, and the calls by library and model.
+    fn take(&mut self, bytes: &[u8]) {
+        let mut calls = self.both.clone();
+        let mut library = self.both.library.clone();
+        let taken = library.take(bytes);
+        let bytes = bytes.to_vec();
+        let due = calls
+            .call(&Call::Deliver { bytes })
+            .map(|_| works(&mut calls));
+        match &due {
+            Err(_) => self.met.refused += 1,
+            Ok(steps) => match steps.iter().filter(|step| step.moved).count() {
+                0 => self.met.early += 1,
+                1 => self.met.one += 1,
+                _ => self.met.several += 1,
+            },
+        }
+        let given = taken.map(|taken| {
+            assert_eq!(taken.refused, None);
+            taken.steps.iter().map(worked).collect()
+        });
+        assert_eq!(given.map_err(Refusal::number), due);
+        assert!(library.memory() == calls.library.memory(), "another memory");
+    }
+}
+
+fn works(both: &mut Both) -> Vec<second::Work> {
+    let mut steps = Vec::new();
+    loop {
+        match both.call(&Call::Work) {
+            Ok(Answer::Work(step)) => steps.push(step),
+            answer => {
+                assert_eq!(answer, Err(21));
+                return steps;
+            }
+        }
+    }
+}
+
+impl Subject for Taking {
+    fn call(&mut self, call: &Call) -> Result<Answer, u8> {
+        if let Call::Deliver { bytes } = call {
+            self.take(bytes);
+        }
+        self.both.call(call)
+    }
+
+    fn report(&self) -> Report {
+        self.both.report()
+    }
+
+    fn values(&self) -> [i32; ITEMS] {
+        self.both.values()
+    }
+}
+
+#[test]
+fn a_take_is_a_deliver_and_its_works() {
+    let mut met = Met::default();
+    let seeds = Seeds::new(RUNS);
+    seeds.each(|seed| {
+        let n = 2 + seed as u32 % 5;
+        let style = STYLES[seed as usize / 5 % 4];
+        let mut random = Random::new(seed);
+        let members = (0..n).map(|own| Taking::new(n, own)).collect();
+        let mut group = Group::new(members, style);
+        let mut single = Taking::new(n, 0);
+        let mut peers = Peers::new(n, 0, single.report());
+        for _ in 0..CALLS {
+            group.random_call(&mut random);
+            let call = peers.random_call(&mut random, style);
+            let answer = single.call(&call);
+            peers.feed(&call, &answer);
+        }
+        group.members.iter().for_each(|member| met.add(&member.met));
+        met.add(&single.met);
+    });
+    let least = [met.refused, met.early, met.one, met.several];
+    let enough = least.iter().all(|&count| count >= 500);
+    assert!(seeds.runs < RUNS || enough, "{met:?}");
+}
+
+/// Replica 0 of 6, at its turn, with six transactions sent and the full blocks of all others waiting;
+/// and its own block, with which it has all to do that a replica can have.
+fn all_waiting() -> (Replica, [u8; 512]) {
+    let mut replica = Replica::new(REPLICAS as u32, 0, &start_values()).unwrap();
+    for item in 0..6 {
+        let ticket = replica.begin().unwrap();
+        replica.write(ticket, item, -1).unwrap();
+        replica.ask(ticket).unwrap();
+    }
+    let own = replica.send().unwrap();
+    for slot in 1..6 {
+        let records: Vec<(u32, [(u8, i32); 1])> = (1..=6)
+            .map(|ticket| (ticket, [(ticket as u8, slot as i32)]))
+            .collect();
+        let records: Vec<(u32, &[(u8, i32)])> = records
+            .iter()
+            .map(|(ticket, entries)| (*ticket, &entries[..]))
+            .collect();
+        let taken = replica.take(&block_of(6, slot, &records)).unwrap();
+        assert!(taken.steps.is_empty() && taken.refused.is_none());
+    }
+    (replica, own)
+}
+
+/// The most steps; and a take that is refused leaves what waits.
+#[test]
+fn the_most_steps() {
+    let (mut replica, own) = all_waiting();
+    let before = replica.clone();
+    let mut damaged = own;
+    damaged[20] ^= 1;
+    assert_eq!(replica.take(&damaged), Err(Refusal::WrongCheck));
+    assert_eq!(replica.take(&own[1..]), Err(Refusal::WrongLength));
+    assert!(replica == before, "changed by a refused take");
+    let taken = replica.take(&own).unwrap();
+    assert_eq!((taken.steps.len(), taken.refused), (STEPS, None));
+    assert_eq!(replica.report().turn, 6);
+    assert_eq!(replica.work(), Err(Refusal::NothingWaits));
+    assert_eq!(replica.take(&own), Err(Refusal::PastSlot));
+}
+
+/// Altered memory: at an own transaction that is gone 22 ends the steps, and those before it are done
+/// and given; and of more steps than a replica can have the rest is left.
+#[test]
+fn altered_memory() {
+    let (replica, own) = all_waiting();
+    let altered = |alter: &dyn Fn(&mut stemline::Memory)| {
+        let mut memory = replica.memory().clone();
+        alter(&mut memory);
+        Replica::from_memory(memory)
+    };
+    let mut gone = altered(&|memory| memory.table[2].ticket = 0);
+    let taken = gone.take(&own).unwrap();
+    let tickets: Vec<u32> = taken.steps.iter().map(|step| step.ticket).collect();
+    assert_eq!(tickets, [1, 2]);
+    assert_eq!(taken.refused, Some(Refusal::NotOpenAsSent));
+    assert_eq!(gone.report().commits, 2);
+    assert_eq!(gone.work(), Err(Refusal::NotOpenAsSent));
+
+    let mut many = altered(&|memory| memory.places[512 + 3] = 200);
+    let taken = many.take(&own).unwrap();
+    assert_eq!((taken.steps.len(), taken.refused), (STEPS, None));
+    assert_eq!(many.report().turn, 1);
+    assert!(many.work().is_ok(), "the rest is left");
+}
