@@ -54,7 +54,7 @@ unfolding join
 join-append [] b = refl
 join-append (x ∷ a) b = rw (join-append a b) (sym (append-assoc x (join a) (join b)))
 
-join-first : (c : ℕ) (bytes : List ℕ) → join (firstBlocks c bytes) ≡ take (512 * c) bytes
+pub join-first : (c : ℕ) (bytes : List ℕ) → join (firstBlocks c bytes) ≡ take (512 * c) bytes
 unfolding join firstBlocks
 join-first zero bytes = refl
 join-first (suc c) bytes =

@@ -1,4 +1,4 @@
--- A replica's journal has the blocks put down, in slot order. Assumes nothing.
+-- A replica's journal has the blocks put down, in slot order, up to its turn and what it has sent for it. Assumes nothing.
 use Prim.Native.Nat.{ℕ, _*_, _/_}
 use mathlib.Core.Path.{_≡_, sym, ap, _∙_, subst}
 use mathlib.Core.List.{List, [], map}
@@ -8,7 +8,6 @@ use lib.IntN.{ℤ}
 use lib.ListN.{length, length-map, take}
 use lib.Seq.{length-take-le, take-all}
 use Rattle.block.proofs.AnswerLaws.{is-taken}
-use Rattle.engine.specs.Client.{reportOf}
 use Rattle.engine.specs.Restart.{isGood, blocksIn}
 use Rattle.engine.proofs.RestartLaws.{good-taken}
 use Rattle.protocol.specs.Writesets.{Message}
@@ -23,7 +22,7 @@ use Rattle.protocol.proofs.Tracking.{InOrder}
 use Rattle.protocol.proofs.JournalLaws.{Journaled}
 use Rattle.protocol.proofs.Refinement.{MachineInv, inv-commands, fresh-inv}
 use Rattle.agreement.specs.Group.{messageIn, fresh, run}
-use Rattle.agreement.specs.Journals.{InSlotOrder, JournalTheorem}
+use Rattle.agreement.specs.Journals.{blocksAt, InSlotOrder, JournalTheorem}
 use Rattle.agreement.proofs.View.{setup}
 use Rattle.agreement.proofs.RestartView.{reads-in-order, read-enough}
 use Rattle.agreement.proofs.RestartStep.{lentMessages}
@@ -32,6 +31,7 @@ use Rattle.agreement.proofs.Replicas.{places-apart}
 use Rattle.agreement.proofs.Runs.{machine, machineOf, commands, journalsRun, runs, fresh-kept, kept-run}
 use Rattle.agreement.proofs.Premises.{length-join, premise}
 use Rattle.agreement.proofs.Theorem.{owes}
+use Rattle.agreement.proofs.JournalLength.{journal-length}
 
 module _ (n : ℕ) (l : List ℕ) (K : List (Message ℤ)) (H : OnDisk n l K) where
   long : length l ≡ 512 * length (H .blocks)
@@ -53,16 +53,17 @@ module _ (n : ℕ) (l : List ℕ) (K : List (Message ℤ)) (H : OnDisk n l K) wh
   all-messages : lentMessages n l ≡ K
   all-messages = ap (map messageIn) read-blocks ∙ H .says
 
-in-order : (n : ℕ) (start : List ℤ) (D : List (Handout ℤ)) (k turn : ℕ) (l : List ℕ) (J : Journal ℤ) → OnDisk n l (J .kept) → InOrder (setup n start) D → Journaled (setup n start) D k turn J
-    → InSlotOrder n D turn l
-in-order n start D k turn l J H L Q = record {
-  count = length (J .kept);
-  whole = long n l (J .kept) H ∙ ap (λ (c : ℕ). 512 * c) (sym (length-map (H .blocks) messageIn) ∙ ap length (H .says));
-  read = sym (length-map (blocksIn n l) messageIn) ∙ ap length messages ∙ length-map (take (length (J .kept)) D) handoutMessage ∙ length-take-le (length (J .kept)) D (Q .within);
-  messages = messages;
-  reach = Q .reach;
+in-order : (n : ℕ) (start : List ℤ) (D : List (Handout ℤ)) (k turn count : ℕ) (l : List ℕ) (J : Journal ℤ) → OnDisk n l (J .kept) → InOrder (setup n start) D
+    → Journaled (setup n start) D k turn J → length l ≡ 512 * count → InSlotOrder n D count l
+in-order n start D k turn count l J H L Q w = record {
+  whole = w;
+  read = sym (length-map (blocksIn n l) messageIn) ∙ ap length messages ∙ length-map (take (length (J .kept)) D) handoutMessage ∙ length-take-le (length (J .kept)) D (Q .within) ∙ all;
+  messages = messages ∙ ap (λ (c : ℕ). map handoutMessage (take c D)) all;
 }
   where
+    all : length (J .kept) ≡ count
+    all = let a = long n l (J .kept) H in let b = length-map (H .blocks) messageIn in let c = ap length (H .says) in omega arith
+
     first : J .kept ≡ map handoutMessage (take (length (J .kept)) D)
     first = Q .holds ∙ sym (map-take handoutMessage (length (J .kept)) D)
 
@@ -72,11 +73,11 @@ in-order n start D k turn l J H L Q = record {
         ∙ read-all (setup n start) D L k (length (J .kept)) (Q .within) (λ s g o. let a = Q .own s g o in let b = Q .safe in omega arith)
 
 pub journals : JournalTheorem
-unfolding reportOf
 journals n start least most long cs f p k h =
-    in-order n start (run n start (fresh n start) cs .handouts) k (run n start (fresh n start) cs .memories k .turn .slot) (run n start (fresh n start) cs .disks k .journal) (J k)
+    in-order n start (run n start (fresh n start) cs .handouts) k (run n start (fresh n start) cs .memories k .turn .slot) (blocksAt (run n start (fresh n start) cs .memories k .turn))
+    (run n start (fresh n start) cs .disks k .journal) (J k)
     (kept-run n start least most long (owes n start) cs f (λ j. journal [] 0) (fresh n start) (fresh-kept n start least most long (owes n start)) .disks k)
-    (I .inv .whole .inOrder) (I .inv .journals k)
+    (I .inv .whole .inOrder) (I .inv .journals k) (journal-length n start least most long cs f k h)
   where
     J : ℕ → Journal ℤ
     J = journalsRun n start least most long (owes n start) (λ j. journal [] 0) (fresh n start) cs

@@ -31,6 +31,7 @@ pub mod Runs
 pub mod Premises
 pub mod Agreement
 pub mod Theorem
+pub mod JournalLength
 pub mod Journals
 -- what holds with no premise
 pub mod Handed

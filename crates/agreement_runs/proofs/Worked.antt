@@ -154,11 +154,11 @@ forgery-computed : (held forgery 0 ≡ holding (set zeros 5 (pos 84)) 1) × (hel
 unfolding bytesOf numberFrom valueBytes valueOf word sumTo weightedTo firstCheck secondCheck checkBytes checkMatches ownerOf within kindFits entriesFit recordFits recordsFit ticketAbsent ticketsDiffer valid signed32 entryBytes entriesBytes recordBytes recordsBytes headerFor headerBytes bodyBytes blockOf entryOf entriesOf recordOf recordsOf messageOf allZero entriesPadded recordPadded recordsPadded padded wellFormed firstOf headerOf recordAt entryAt entriesFrom bump rowFrom rowOf freeRow indexFrom has holderFrom countBelow placeStart madeMemory beginRefusal beginAt beginRow writeRefusal rewriteAt insertWrite staleAt writeRow askRefusal readOnlyAt queueAt askRow reportOf waiting writesetOf messageFor sendRefusal sendNow sendStep sameBytes deliverRefusal deliverNow deliverStep entriesFor applied stamped shares afterAborts insertRising hitTickets without workRefusal passNext commitWriteset workStep step run any allowed
 forgery-computed = (refl, refl)
 
--- the first two cuts end a send
+-- the first two cuts end a send; the third leaves the floor, 512 of 1024 bytes
 abbrev ends : List Outage
-ends = outage (send (replicate 512 0)) 512 ∷ outage (send (replicate 512 0)) 612 ∷ outage report 1024 ∷ []
+ends = outage (send (replicate 512 0)) 512 ∷ outage (send (replicate 512 0)) 612 ∷ outage report 512 ∷ []
 
-outages-computed : (allowed 3 zeros (fresh 3 zeros) outages ends ≡ true) × (held outages 0 ≡ holding outageValues 1) × (held outages 1 ≡ holding outageValues 1) × (held outages 2 ≡ holding outageValues 1)
+outages-computed : (allowed 3 zeros (fresh 3 zeros) outages ends ≡ true) × (held outages 0 ≡ holding outageValues 2) × (held outages 1 ≡ holding outageValues 2) × (held outages 2 ≡ holding outageValues 2)
 unfolding bytesOf numberFrom valueBytes valueOf word sumTo weightedTo firstCheck secondCheck checkBytes checkMatches ownerOf within kindFits entriesFit recordFits recordsFit ticketAbsent ticketsDiffer valid signed32 entryBytes entriesBytes recordBytes recordsBytes headerFor headerBytes bodyBytes blockOf entryOf entriesOf recordOf recordsOf messageOf allZero entriesPadded recordPadded recordsPadded padded wellFormed firstOf headerOf recordAt entryAt entriesFrom bump rowFrom rowOf freeRow indexFrom has holderFrom countBelow placeStart madeMemory beginRefusal beginAt beginRow writeRefusal rewriteAt insertWrite staleAt writeRow askRefusal readOnlyAt queueAt askRow reportOf waiting writesetOf messageFor sendRefusal sendNow sendStep sameBytes deliverRefusal deliverNow deliverStep entriesFor applied stamped shares afterAborts insertRising hitTickets without workRefusal passNext commitWriteset workStep step run any allowed isGood blocksFrom firstBlocks writesetsFrom commitAll commitBlocks highestTicket highestOwn ownWritesets lastOwn restartedMemory restartRefusal restartStep placesFit partsFit openCount messageIn blockRefusal heard reportStep
 outages-computed = (refl, refl, refl, refl)
 

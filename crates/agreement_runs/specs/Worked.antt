@@ -73,24 +73,35 @@ restarting k journal = record { at = k; does = restart journal (replicate 512 0)
 abbrev pub first : List ℕ
 first = blockCommitting 0 0 1 10 (pos 80)
 
--- a *next*
+-- sent for slot 1, and torn; what is sent for it in its place
+abbrev pub lost : List ℕ
+lost = blockCommitting 1 1 1 20 (pos 70)
+
 abbrev pub second : List ℕ
-second = blockOf (record { kind = 1; sender = 1; replicas = 3; slot = 1; records = [] })
+second = blockCommitting 1 1 1 20 (pos 71)
 
 abbrev pub torn : List ℕ
-torn = first ++ take 100 (blockCommitting 1 1 1 20 (pos 70))
+torn = first ++ take 100 lost
+
+-- a *next*
+abbrev pub third : List ℕ
+third = blockOf (record { kind = 1; sender = 2; replicas = 3; slot = 2; records = [] })
 
 -- replica 0 asks, and a cut ends its send when the block is on its disk: the restart hands the block out. Replica 1 takes it and works; a cut tears the block it
--- then sends after 100 bytes, so it restarts with slot 0 alone, and sends for slot 1 anew: a *next*, its transaction is gone. Replica 0 loses power once more
+-- then sends after 100 bytes, so it restarts with slot 0 alone: its transaction is gone, ticket 1 is given anew, and it sends another block for slot 1. Replica 0
+-- works that block and loses power: its disk keeps slot 0, its own, and no more. The block is delivered again and worked. Replica 2 takes both, and sends
 abbrev pub outages : List CallAt
 outages =
     asking 0 1 10 (pos 80)
     ++ (restarting 0 first ∷ asking 1 1 20 (pos 70))
     ++ taking 1 first
-    ++ (restarting 1 torn ∷ sending 1 ∷ taking 1 second)
+    ++ (restarting 1 torn ∷ asking 1 1 20 (pos 71))
+    ++ (sending 1 ∷ taking 1 second)
     ++ taking 0 second
-    ++ (restarting 0 (first ++ second) ∷ taking 2 first)
+    ++ (restarting 0 first ∷ taking 0 second)
+    ++ taking 2 first
     ++ taking 2 second
+    ++ (sending 2 ∷ taking 2 third)
 
 -- ---- what the runs leave
 
@@ -112,7 +123,7 @@ abbrev pub storyValues : List ℤ
 storyValues = set (set (set zeros 10 (pos 80)) 20 (pos 70)) 5 (pos 84)
 
 abbrev pub outageValues : List ℤ
-outageValues = set zeros 10 (pos 80)
+outageValues = set (set zeros 10 (pos 80)) 20 (pos 71)
 
 -- the story meets the premise; all three replicas commit its four writesets and hold the same values
 pub record WorkedRun : Type 0 where
@@ -129,13 +140,13 @@ pub record ForgedRun : Type 0 where
   pub replica-0 : held forgery 0 ≡ holding (set zeros 5 (pos 84)) 1
   pub replica-1 : held forgery 1 ≡ holding (set zeros 5 (pos 86)) 1
 
--- the cuts and restarts meet the premise; all three replicas commit the one writeset whose block was on a disk
+-- the cuts and restarts meet the premise; all three replicas commit the two writesets whose blocks were handed out
 pub record OutageRun : Type 0 where
   pub calls : Calls 3 outages
   pub premise : Premise 3 zeros outages
-  pub replica-0 : held outages 0 ≡ holding outageValues 1
-  pub replica-1 : held outages 1 ≡ holding outageValues 1
-  pub replica-2 : held outages 2 ≡ holding outageValues 1
+  pub replica-0 : held outages 0 ≡ holding outageValues 2
+  pub replica-1 : held outages 1 ≡ holding outageValues 2
+  pub replica-2 : held outages 2 ≡ holding outageValues 2
 
 pub record WorkedRuns : Type 0 where
   pub story-runs : WorkedRun

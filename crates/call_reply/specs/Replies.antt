@@ -14,6 +14,7 @@ use Rattle.call_reply.specs.declared.ReadReply.{ReadReply}
 use Rattle.call_reply.specs.declared.AskReply.{AskReply}
 use Rattle.call_reply.specs.declared.ReportReply.{ReportReply}
 use Rattle.call_reply.specs.declared.WorkReply.{WorkReply}
+use Rattle.call_reply.specs.declared.RestartReply.{RestartReply}
 
 -- ---- what an answer gives; nothing, as 0 or empty, where it is another call's or refused
 
@@ -98,6 +99,21 @@ stepIn (sent b) = noStep
 stepIn kept = noStep
 stepIn (restarted c b) = noStep
 
+abbrev pub countIn : Answer → ℕ
+countIn (restarted c b) = c
+countIn (refused n) = 0
+countIn made = 0
+countIn (began t) = 0
+countIn (got v) = 0
+countIn wrote = 0
+countIn queued = 0
+countIn readOnly = 0
+countIn withdrew = 0
+countIn (reported r) = 0
+countIn (sent b) = 0
+countIn kept = 0
+countIn (worked s) = 0
+
 -- ---- the replies
 
 -- document 01's number
@@ -132,15 +148,19 @@ workReply o =
       aborted = sixOf (s .aborted);
     }
 
+abbrev pub restartReply : Outcome → RestartReply
+restartReply o = record { number = number o; count = countIn (o .answer) }
+
 -- ---- what a contract says
 
 -- the reply is that of the outcome, and what is left is its memory
 abbrev pub Gives : {R : Type 0} → (Outcome → R) → Outcome → R → Memory → Type 0
 Gives of o r left = (r ≡ of o) × (left ≡ o .memory)
 
--- a send also leaves its block in the lent bytes, or what was there
+-- a send and a restart also leave a block in the lent bytes; any other answer leaves what was there
 abbrev pub blockLeft : Answer → List ℕ → List ℕ
 blockLeft (sent b) old = b
+blockLeft (restarted c b) old = b
 blockLeft (refused n) old = old
 blockLeft made old = old
 blockLeft (began t) old = old
@@ -152,7 +172,9 @@ blockLeft withdrew old = old
 blockLeft (reported r) old = old
 blockLeft kept old = old
 blockLeft (worked s) old = old
-blockLeft (restarted c b) old = old
+
+abbrev pub GivesWith : {R : Type 0} → (Outcome → R) → Outcome → List ℕ → R → Memory → List ℕ → Type 0
+GivesWith of o lent r left block = Gives of o r left × (block ≡ blockLeft (o .answer) lent)
 
 abbrev pub GivesBlock : Outcome → List ℕ → ℕ → Memory → List ℕ → Type 0
-GivesBlock o lent r left block = Gives number o r left × (block ≡ blockLeft (o .answer) lent)
+GivesBlock o lent r left block = GivesWith number o lent r left block

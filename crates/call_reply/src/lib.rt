@@ -45,6 +45,13 @@ pub struct WorkReply {
     pub aborted: [u32; 6],
 }
 
+// How many blocks of the journal were committed, 0 where the restart is refused: the journal goes on behind them.
+#[repr(C)]
+pub struct RestartReply {
+    pub number: u8,
+    pub count: u32,
+}
+
 // The answer, and the counts and the record of the transaction's row after the call.
 pub struct Changed {
     pub number: u8,
@@ -84,4 +91,11 @@ pub struct Worked {
     pub turn: Turn,
     pub counts: Counts,
     pub ended: [bool; 6],
+}
+
+// The answer, and turn and counts of a replica restarted; of a refused restart nothing is stored.
+pub struct Restarted {
+    pub reply: RestartReply,
+    pub turn: Turn,
+    pub counts: Counts,
 }

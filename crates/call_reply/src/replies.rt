@@ -8,6 +8,7 @@ use super::AskReply;
 use super::BeginReply;
 use super::ReadReply;
 use super::ReportReply;
+use super::RestartReply;
 use super::WorkReply;
 use engine::Report;
 
@@ -66,5 +67,14 @@ pub fn no_work(number: u8) -> WorkReply
         count: 0,
         ticket: 0,
         aborted: [0; 6],
+    }
+}
+
+pub fn no_restart(number: u8) -> RestartReply
+    ensures { λ r. ⌜ r ≡ record { number = number; count = 0 } ⌝ }
+{
+    RestartReply {
+        number: number,
+        count: 0,
     }
 }

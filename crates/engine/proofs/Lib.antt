@@ -43,5 +43,6 @@ pub mod SentWork
 pub mod Sent
 pub mod Reports
 pub mod Queues
+pub mod Histories
 pub mod Worked
 pub mod Restarts

@@ -1,21 +1,23 @@
 -- What a call's tests say where it is not refused. Assumes nothing.
 use Prim.Native.Nat.{ℕ, _+_, _*_, _≤_, _<_}
 use mathlib.Core.Path.{_≡_, refl}
-use mathlib.Core.Bool.{Bool, true, false, not, _&&_}
+use mathlib.Core.Bool.{Bool, true, false, not, _&&_, _||_}
 use mathlib.Core.List.{List}
 use native.Mathlib.Omega.{arith}
-use lib.Dec.{eqb}
+use lib.Dec.{eqb, leb}
+use lib.IntN.{ℤ}
 use lib.ListN.{length, getD}
 use borrow.Author.Tests.{eqb-true, eqb-false, eq-eqb, ne-eqb, ltb-false, leb-false, not-false}
 use Rattle.block.proofs.AnswerLaws.{not-refused}
-use Rattle.block.proofs.BoolLaws.{Both, both}
+use Rattle.block.proofs.BoolLaws.{Both, both, is-within}
 use Rattle.block.specs.Answers.{blockRefusal, headerOf, recordAt}
-use Rattle.block.specs.Message.{ownerOf}
+use Rattle.block.specs.Message.{ownerOf, within}
 use Rattle.memory.specs.Memory.{Memory, maxTickets, maxSlots}
 use Rattle.memory.specs.Rows.{freeRow, writeCount}
 use Rattle.memory.specs.Turns.{isEmpty}
 use Rattle.engine.specs.Client.{freeNo, rowNo, rowIn, isOwn, notOpen, notActive, heldByOther, beginRefusal, writeRefusal, askRefusal, withdrawRefusal}
 use Rattle.engine.specs.Moves.{sentAlready, sendRefusal, isOwnBlock, deliverRefusal, blockAtTurn, isSent, workRefusal}
+use Rattle.engine.specs.Restart.{restartRefusal}
 use Rattle.engine.proofs.Tests.{clash, passes}
 
 -- two tests joined, where their joint denial does not hold
@@ -185,3 +187,24 @@ work-passed m e =
       waits = b .0;
       sent = λ p q. sent-own _ _ _ (c .0) (ne-eqb (getD (blockAtTurn m) 0 0) 1 p) (eq-eqb (getD (blockAtTurn m) 1 0) (m .counts .own) q);
     }
+
+-- ---- restart
+
+pub record RestartPassed (n own : ℕ) (values : List ℤ) : Type 0 where
+  pub least : 2 ≤ n
+  pub most : n ≤ 6
+  pub among : own < n
+  pub long : length values ≡ 128
+
+neither : (a b : Bool) → a || b ≡ false → (a ≡ false) × (b ≡ false)
+neither true b h = clash {b = true} refl h
+neither false b h = (refl, h)
+
+pub restart-passed : (m : Memory) (n own : ℕ) (values : List ℤ) (block : List ℕ) → restartRefusal m n own values block ≡ 0 → RestartPassed n own values
+unfolding restartRefusal
+restart-passed m n own values block e =
+    let a = passes _ _ refl e in
+    let b = passes _ _ refl (a .1) in
+    let s = neither (not (within 2 6 n)) (leb n own) (b .0) in
+    let w = is-within 2 6 n (not-false _ (s .0)) in
+    record { least = w .above; most = w .below; among = leb-false n own (s .1); long = eqb-true _ _ (both-so _ _ (a .0) .left) }

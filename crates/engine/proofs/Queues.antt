@@ -16,6 +16,7 @@ use Rattle.engine.specs.Client.{rowNo, beginAt, rewriteAt, insertWrite, 
 use Rattle.engine.specs.Moves.{waiting, without, hitTickets, sendNow, deliverNow, passNext, commitWriteset}
 use Rattle.engine.specs.Step.{Call, step, after}
 use Rattle.engine.specs.Step.Call.{begin, read, write, ask, withdraw, report, send, deliver, work}
+use Rattle.engine.specs.Restart.{blocksIn, restartedMemory}
 use Rattle.engine.specs.Shape.{Shape}
 use Rattle.engine.specs.History.{pendingAfter, pending, Queues}
 use Rattle.engine.proofs.Steps.{begin-by, read-by, write-by, ask-by, withdraw-by, send-by, deliver-by, work-by}
@@ -27,7 +28,7 @@ use Rattle.engine.proofs.ShapeAsk.{queued-last}
 use Rattle.engine.proofs.Shapes.{shapes}
 
 -- what the queue became is what the answer says
-Ordered : Memory → Call → Outcome → Type 0
+unfoldable pub Ordered : Memory → Call → Outcome → Type 0
 Ordered m c o = waiting (o .memory .txns .queue) ≡ pendingAfter (waiting (m .txns .queue)) c (o .answer)
 
 -- nobody left it
@@ -50,7 +51,7 @@ joined m s t p =
     queued-last m s (rowNo m t) (p .row) (p .active) (f .live)
     ∙ unfold queueAt in ap (λ (x : ℕ). waiting (m .txns .queue) ++ (x ∷ [])) (f .is)
 
-ordered : {over : ℕ} (m : Memory) → Shape over m → (c : Call) → Ordered m c (step m c)
+pub ordered : {over : ℕ} (m : Memory) → Shape over m → (c : Call) → Ordered m c (step m c)
 unfolding Ordered pendingAfter
 ordered m s begin = begin-by (Ordered m begin) m (λ e. unfold beginAt in refl) (λ e. refl)
 ordered m s (read t i) = read-by (Ordered m (read t i)) m t i (λ e. refl) (λ e. refl)
@@ -69,13 +70,21 @@ listed m s [] = refl
 listed m s (c ∷ cs) =
     listed (step m c .memory) (shapes .each m s c) cs ∙ ap (λ (l : List ℕ). pending l (step m c .memory) cs) (ordered m s c)
 
-made-empty : (n own : ℕ) (values : List ℤ) → waiting (madeMemory n own values .txns .queue) ≡ []
+pub made-empty : (n own : ℕ) (values : List ℤ) → waiting (madeMemory n own values .txns .queue) ≡ []
 unfolding madeMemory waiting
 made-empty n own values = refl
+
+pub restarted-empty : (n own : ℕ) (values : List ℤ) (bs : List (List ℕ)) → waiting (restartedMemory n own values bs .txns .queue) ≡ []
+unfolding restartedMemory waiting
+restarted-empty n own values bs = refl
 
 pub queues : Queues
 queues = record {
   queue = λ n own values l h o v cs.
       let m = madeMemory n own values in
       listed m (shapes .made n own values l h o v) cs ∙ ap (λ (q : List ℕ). pending q m cs) (made-empty n own values);
+  restarted = λ n own values l h o v journal cs.
+      let bs = blocksIn n journal in
+      let m = restartedMemory n own values bs in
+      listed m (shapes .restarted n own values l h o v journal) cs ∙ ap (λ (q : List ℕ). pending q m cs) (restarted-empty n own values bs);
 }

@@ -155,7 +155,7 @@ step-counted m s work =
 
 -- ---- a list of calls
 
-report-from : {over : ℕ} (m : Memory) → Shape over m → reportOf m ≡ reportFrom over (kept m)
+pub report-from : {over : ℕ} (m : Memory) → Shape over m → reportOf m ≡ reportFrom over (kept m)
 unfolding reportOf kept
 report-from {over} m s =
     let e = s .ranges .endings in
@@ -167,7 +167,7 @@ pub made-own : (n own : ℕ) (values : List ℤ) → madeMemory n own values .co
 unfolding madeMemory
 made-own n own values = refl
 
-made-kept : (n own : ℕ) (values : List ℤ) → kept (madeMemory n own values) ≡ noCalls
+pub made-kept : (n own : ℕ) (values : List ℤ) → kept (madeMemory n own values) ≡ noCalls
 unfolding madeMemory kept
 made-kept n own values = refl
 
@@ -183,7 +183,7 @@ pub restarted-own : (n own : ℕ) (values : List ℤ) (bs : List (List ℕ)) →
 unfolding restartedMemory
 restarted-own n own values bs = refl
 
-restarted-kept : (n own : ℕ) (values : List ℤ) (journal : List ℕ) → kept (restartedMemory n own values (blocksIn n journal)) ≡ restartTally own (blocksIn n journal)
+pub restarted-kept : (n own : ℕ) (values : List ℤ) (journal : List ℕ) → kept (restartedMemory n own values (blocksIn n journal)) ≡ restartTally own (blocksIn n journal)
 unfolding restartedMemory kept
 restarted-kept n own values journal =
     let bs = blocksIn n journal in

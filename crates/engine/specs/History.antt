@@ -1,4 +1,4 @@
--- Report's numbers and the queue, from what calls answered.
+-- Report's numbers and the queue, from what calls answered, with restarts among them.
 use Prim.Native.Nat.{ℕ, suc, _+_, _-_, _≤_, _<_}
 use mathlib.Core.Path.{_≡_}
 use mathlib.Core.Bool.{cond, not, _&&_}
@@ -8,13 +8,13 @@ use lib.IntN.{ℤ}
 use lib.ListN.{length, getD}
 use Rattle.memory.specs.Memory.{Memory}
 use Rattle.engine.specs.declared.Report.{Report}
-use Rattle.engine.specs.Calls.{Answer, Step}
+use Rattle.engine.specs.Calls.{Answer, Step, numberOf, Outcome}
 use Rattle.engine.specs.Calls.Answer.{refused, made, began, got, wrote, queued, readOnly, withdrew, reported, sent, kept, worked, restarted}
 use Rattle.engine.specs.Make.{madeMemory}
 use Rattle.engine.specs.Client.{reportOf}
 use Rattle.engine.specs.Moves.{waiting, without}
 use Rattle.engine.specs.Step.{Call, step, after}
-use Rattle.engine.specs.Restart.{blocksIn, highestOwn, ownWritesets, repeated, restartedMemory}
+use Rattle.engine.specs.Restart.{blocksIn, highestOwn, ownWritesets, repeated, restartedMemory, restartStep}
 use Rattle.engine.specs.Step.Call.{begin, read, write, ask, withdraw, report, send, deliver, work}
 
 pub record Tally : Type 0 where
@@ -30,7 +30,8 @@ abbrev pub noCalls : Tally
 noCalls = record { turn = 0; commits = 0; tickets = 0; committed = 0; readOnlies = 0; aborted = 0; withdrawn = 0 }
 
 -- one more answer, at replica `own`: a begin gives a ticket; an ask of an empty writeset, a withdraw and a write answered 9 each end one transaction;
--- a work moves the turn, commits a writeset where its ticket is not 0, its own where the replica sent it, and aborts those it names
+-- a work moves the turn, commits a writeset where its ticket is not 0, its own where the replica sent it, and aborts those it names;
+-- `made` and `restarted` answer no `Call`: a history begins anew there (`begun`)
 unfoldable pub counted : ℕ → Tally → Answer → Tally
 counted own t (refused n) = record {
   turn = t .turn;
@@ -90,11 +91,13 @@ unfoldable pub tally : ℕ → Tally → Memory → List Call → Tally
 tally own t m [] = t
 tally own t m (c ∷ cs) = tally own (counted own t (step m c .answer)) (step m c .memory) cs
 
--- what a restart's blocks count as: every writeset of them is committed; the own ones are, and all other tickets up to the highest of these are aborted
+-- how many writesets the blocks have
 unfoldable pub writesetCount : List (List ℕ) → ℕ
 writesetCount [] = 0
 writesetCount (b ∷ bs) = getD b 3 0 + writesetCount bs
 
+-- what a restart's blocks count as: every writeset of them is committed; aborted is the highest ticket in own blocks less the own writesets, 0 where these
+-- are more
 abbrev pub restartTally : ℕ → List (List ℕ) → Tally
 restartTally own bs = record {
   turn = length bs;
@@ -148,7 +151,7 @@ askedTicket (send b) = 0
 askedTicket (deliver b) = 0
 askedTicket work = 0
 
--- the tickets asked and not yet sent, in the order asked, after one more call and its answer
+-- the tickets asked and not yet sent, in the order asked, after one more call and its answer; `made` and `restarted` answer none
 unfoldable pub pendingAfter : List ℕ → Call → Answer → List ℕ
 pendingAfter l c (refused n) = l
 pendingAfter l c made = l
@@ -172,3 +175,54 @@ pending l m (c ∷ cs) = pending (pendingAfter l c (step m c .answer)) (step m c
 pub record Queues : Type 0 where
   pub queue : (n own : ℕ) (values : List ℤ) → 2 ≤ n → n ≤ 6 → own < n → length values ≡ 128 → (cs : List Call)
       → waiting (after (madeMemory n own values) cs .txns .queue) ≡ pending [] (madeMemory n own values) cs
+  -- after a restart from any journal, and calls since then
+  pub restarted : (n own : ℕ) (values : List ℤ) → 2 ≤ n → n ≤ 6 → own < n → length values ≡ 128 → (journal : List ℕ) (cs : List Call)
+      → let m = restartedMemory n own values (blocksIn n journal) in waiting (after m cs .txns .queue) ≡ pending [] m cs
+
+-- ---- restarts among the calls
+
+-- a call, or a restart with all that it is lent, be it accepted or not
+pub data AnyCall : Type 0 where
+  call : Call → AnyCall
+  restart : (n own : ℕ) (values : List ℤ) (journal block : List ℕ) → AnyCall
+
+abbrev pub anyStep : Memory → AnyCall → Outcome
+anyStep m (call c) = step m c
+anyStep m (restart n own values journal block) = restartStep m n own values journal block
+
+unfoldable pub afterAll : Memory → List AnyCall → Memory
+afterAll m [] = m
+afterAll m (c ∷ cs) = afterAll (anyStep m c .memory) cs
+
+-- since the replica was made or last restarted: its number, the own writesets repeated in the blocks it began with, what the answers count to, and the
+-- tickets asked and not yet sent
+pub record History : Type 0 where
+  pub own : ℕ
+  pub over : ℕ
+  pub tally : Tally
+  pub asked : List ℕ
+
+-- it begins with a restart's blocks; with none where the replica is made
+abbrev pub begun : ℕ → List (List ℕ) → History
+begun own bs = record { own = own; over = repeated own bs; tally = restartTally own bs; asked = [] }
+
+-- an accepted restart begins it anew, whatever was there
+abbrev pub historyAfter : History → AnyCall → Answer → History
+historyAfter h (call c) a = record { own = h .own; over = h .over; tally = counted (h .own) (h .tally) a; asked = pendingAfter (h .asked) c a }
+historyAfter h (restart n own values journal block) a = cond (eqb (numberOf a) 0) (begun own (blocksIn n journal)) h
+
+unfoldable pub history : History → Memory → List AnyCall → History
+history h m [] = h
+history h m (c ∷ cs) = history (historyAfter h c (anyStep m c .answer)) (anyStep m c .memory) cs
+
+-- Report and the queue are those of the history
+pub record Told (h : History) (m : Memory) : Type 0 where
+  pub report : reportOf m ≡ reportFrom (h .over) (h .tally)
+  pub queue : waiting (m .txns .queue) ≡ h .asked
+
+-- on any list of calls and restarts, after a make or a restart from any journal
+pub record Histories : Type 0 where
+  pub made : (n own : ℕ) (values : List ℤ) → 2 ≤ n → n ≤ 6 → own < n → length values ≡ 128 → (cs : List AnyCall)
+      → let m = madeMemory n own values in Told (history (begun own []) m cs) (afterAll m cs)
+  pub restarted : (n own : ℕ) (values : List ℤ) → 2 ≤ n → n ≤ 6 → own < n → length values ≡ 128 → (journal : List ℕ) (cs : List AnyCall)
+      → let bs = blocksIn n journal in let m = restartedMemory n own values bs in Told (history (begun own bs) m cs) (afterAll m cs)

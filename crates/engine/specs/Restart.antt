@@ -97,7 +97,8 @@ repeated own bs = ownWritesets own bs - highestOwn own bs
 
 -- ---- the call
 
--- the blocks committed and nothing else there: tickets up to the highest in own blocks are given, those in no own block count as aborted
+-- the blocks committed and nothing else there: tickets up to the highest in own blocks are given, all own writesets committed; aborted is the highest
+-- ticket less these, 0 where they are more, which is so only where a ticket stands twice
 unfoldable pub restartedMemory : ℕ → ℕ → List ℤ → List (List ℕ) → Memory
 restartedMemory n own values bs = record {
   turn = record { slot = length bs; sent = 0; applying = 0 };

@@ -1,7 +1,8 @@
 //! For tests: replicas that are driven by hand or at random. Here whole groups under an observer; in
-//! `peers` one replica among forged peers.
+//! `power` their cuts and restarts; in `peers` one replica among forged peers.
 
 mod peers;
+mod power;
 mod tally;
 
 use std::collections::BTreeMap;
@@ -13,6 +14,7 @@ use crate::samples::{self, block_of, break_form, damage, Random};
 use crate::trace::{Answer, Call};
 
 pub use self::peers::Peers;
+pub use self::power::{Machine, Powered};
 pub use self::tally::{Seen, Subject, Tally};
 
 /// The values that every test's replicas start with: item i has 10·i − 600.
@@ -97,10 +99,9 @@ impl<S: Subject> Group<S> {
                 local_call(random, &self.tallies[k], self.style)
             }
             0..10 => {
-                // Most sends would be at another's slot; so let the owner send.
-                let owner = |&m: &usize| self.tallies[m].report.turn as usize % n == m;
+                // Most sends would be at another's slot.
                 if random.below(4) > 0 {
-                    k = (0..n).find(owner).unwrap_or(k);
+                    k = self.sender().unwrap_or(k);
                 }
                 Call::Send
             }
@@ -112,6 +113,12 @@ impl<S: Subject> Group<S> {
         };
         // A refused call answers, and no more; an answer is checked by the tests.
         let _ = self.call(k, &call);
+    }
+
+    /// A member that is at a slot of its own.
+    pub fn sender(&self) -> Option<usize> {
+        let n = self.members.len();
+        (0..n).find(|&k| self.tallies[k].report.turn as usize % n == k)
     }
 
     /// A block that was handed out, or bytes that no replica may take; `None` before any send.

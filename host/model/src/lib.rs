@@ -1,10 +1,11 @@
-//! The second model: what document 01 says, in plain Rust.
+//! The second model: what document 01 says, and of document 02 Req 01, in plain Rust.
 //!
-//! It is written from the document alone, so that it can check the proved library from outside.
+//! It is written from the documents alone, so that it can check the proved library from outside.
 //! The benchmark takes it as its baseline.
 
 pub mod block;
 pub mod drive;
+pub mod journal;
 pub mod observer;
 pub mod refusal;
 pub mod replay;

@@ -1,14 +1,19 @@
-//! An observer of a whole group: document 01's sheet ("The sheet beside the group").
+//! An observer of a whole group: document 01's sheet ("The sheet beside the group"), with the restarts
+//! of document 02, Req 01.
 //!
 //! It is fed replica, call and answer of each call and nothing else, and says which sentences of
 //! document 01's demand 3 the group breaks. For tests: its memory and the time of a check grow with
 //! the list of calls.
 
+mod check;
+mod restart;
+
 use std::collections::{BTreeMap, HashSet};
 
 use crate::block::{self, Record, BLOCK};
+use crate::journal::Journal;
 use crate::refusal::STALE;
-use crate::replica::{Report, Work, ITEMS};
+use crate::replica::{Work, ITEMS};
 use crate::trace::{Answer, Call};
 
 /// What the calls of a group of replicas said so far.
@@ -29,6 +34,8 @@ pub struct Observer {
     reads: Vec<Read>,
     /// The blocks handed out.
     blocks: HashSet<Box<[u8]>>,
+    /// Per replica what was appended on its disk.
+    journals: Vec<Journal>,
     premise: bool,
     /// The sentences that a call broke when it was made.
     broken: Vec<String>,
@@ -70,6 +77,7 @@ impl Observer {
             slots: BTreeMap::new(),
             reads: Vec::new(),
             blocks: HashSet::new(),
+            journals: (0..replicas as u32).map(Journal::new).collect(),
             premise: true,
             broken: Vec::new(),
         }
@@ -81,6 +89,7 @@ impl Observer {
     ///
     /// If the answer is of another kind than the call's.
     pub fn feed(&mut self, replica: usize, call: &Call, answer: &Result<Answer, u8>) {
+        self.journals[replica].feed(call, answer);
         let answer = match answer {
             Ok(answer) => answer,
             Err(number) => {
@@ -129,26 +138,10 @@ impl Observer {
         }
     }
 
-    /// Whether every accepted block was handed out before: what demand 3 rests on.
+    /// Whether every accepted block was handed out before, and every restart was lent what a cut can
+    /// leave: what demand 3 rests on.
     pub fn premise(&self) -> bool {
         self.premise
-    }
-
-    /// The sentences of demand 3 that do not hold after the calls so far, in words. `ends` has
-    /// report and values of each replica.
-    pub fn violations(&self, ends: &[(Report, [i32; ITEMS])]) -> Vec<String> {
-        let sequence: Vec<(u32, &Writeset)> = self
-            .sent
-            .iter()
-            .flat_map(|(&slot, writesets)| writesets.iter().map(move |w| (slot, w)))
-            .collect();
-        let mut broken = self.broken.clone();
-        for (replica, (report, values)) in ends.iter().enumerate() {
-            self.check_commits(replica, report, &sequence, &mut broken);
-            self.check_values(replica, report, values, &sequence, &mut broken);
-        }
-        self.check_history(&sequence, &mut broken);
-        broken
     }
 
     fn feed_refused(&mut self, replica: usize, call: &Call, number: u8) {
@@ -249,110 +242,6 @@ impl Observer {
     fn unknown(&mut self, replica: usize, ticket: u32, what: &str) {
         let text = format!("replica {replica}: ticket {ticket} {what} and never given");
         self.broken.push(text);
-    }
-
-    /// A replica's commits against the sequence.
-    fn check_commits(
-        &self,
-        replica: usize,
-        report: &Report,
-        sequence: &[(u32, &Writeset)],
-        broken: &mut Vec<String>,
-    ) {
-        let commits = &self.commits[replica];
-        if commits.len() != report.commits as usize {
-            broken.push(format!(
-                "replica {replica}: it reports {} commits, its works named {}",
-                report.commits,
-                commits.len()
-            ));
-        }
-        for (at, &(sender, ticket)) in commits.iter().enumerate() {
-            let due = sequence.get(at).map(|(_, w)| (w.sender, w.ticket));
-            if due != Some((sender, ticket)) {
-                broken.push(format!(
-                    "replica {replica}: its commit {} is ticket {ticket} of replica {sender}, the \
-                     sequence has {due:?}",
-                    at + 1
-                ));
-                break;
-            }
-        }
-        let below = sequence.partition_point(|&(slot, _)| slot < report.turn);
-        if commits.len() < below {
-            broken.push(format!(
-                "replica {replica}: {below} writesets were sent for slots below its turn {}, it \
-                 committed {}",
-                report.turn,
-                commits.len()
-            ));
-        }
-    }
-
-    /// A replica's values against the sequence.
-    fn check_values(
-        &self,
-        replica: usize,
-        report: &Report,
-        values: &[i32; ITEMS],
-        sequence: &[(u32, &Writeset)],
-        broken: &mut Vec<String>,
-    ) {
-        let mut due = self.values;
-        for (_, writeset) in sequence.iter().take(report.commits as usize) {
-            for (&item, &value) in &writeset.transaction.writes {
-                if let Some(old) = due.get_mut(item as usize) {
-                    *old = value;
-                }
-            }
-        }
-        if let Some(item) = (0..ITEMS).find(|&item| values[item] != due[item]) {
-            broken.push(format!(
-                "replica {replica}: item {item} is {}, after {} writesets of the sequence it is {}",
-                values[item], report.commits, due[item]
-            ));
-        }
-    }
-
-    /// Snapshots and reads against the sequence.
-    fn check_history(&self, sequence: &[(u32, &Writeset)], broken: &mut Vec<String>) {
-        // Per item the positions in the sequence that write it, counted from 1, and the values.
-        let mut versions: BTreeMap<u32, Vec<(usize, i32)>> = BTreeMap::new();
-        for (at, (_, writeset)) in sequence.iter().enumerate() {
-            let (replica, ticket) = (writeset.sender, writeset.ticket);
-            let (position, snapshot) = (at + 1, writeset.transaction.snapshot);
-            if snapshot >= position {
-                broken.push(format!(
-                    "replica {replica}: ticket {ticket} began after {snapshot} writesets and is at \
-                     {position} of the sequence"
-                ));
-            }
-            for (&item, &value) in &writeset.transaction.writes {
-                let versions = versions.entry(item).or_default();
-                if let Some((earlier, _)) = versions.last().filter(|(p, _)| *p > snapshot) {
-                    broken.push(format!(
-                        "replica {replica}: ticket {ticket} began after {snapshot} writesets and \
-                         is at {position} of the sequence, but {earlier} writes its item {item}"
-                    ));
-                }
-                versions.push((position, value));
-            }
-        }
-        for read in &self.reads {
-            let versions = versions.get(&read.item).map_or(&[][..], Vec::as_slice);
-            let known = versions.partition_point(|&(position, _)| position <= read.snapshot);
-            let due = match known.checked_sub(1) {
-                Some(last) => Some(versions[last].1),
-                None => self.values.get(read.item as usize).copied(),
-            };
-            if due != Some(read.value) {
-                broken.push(format!(
-                    "replica {}: ticket {} read {} from item {}, after {} writesets of the \
-                     sequence it is {due:?}",
-                    read.replica, read.ticket, read.value, read.item, read.snapshot
-                ));
-            }
-        }
     }
 }
 

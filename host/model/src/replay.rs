@@ -17,6 +17,16 @@
 //! | `H k hex` | deliver these bytes | `0` |
 //! | `K k` | work | `0 sender ticket moved count`, then that many aborted tickets |
 //! | `V k` | the 128 values | `0` and the values |
+//! | `Z k b v` | restart from the first b bytes of the journal, with the N and own number that the replica has, all 128 values v | `0 c` and a block: c the blocks committed, and the block given back |
+//! | `Y k n own v hex` | restart from these bytes as journal, all 128 values v | as `Z` |
+//! | `J k i` | block i, from 0, of the journal | `0` and the block |
+//!
+//! The program has the last three lines with the restart that is exported; till then it prints `?`.
+//!
+//! The journal of a place holds what was appended there: by `S` its block, by `K` that of another
+//! whose slot it left; after an accepted `M` it is empty, after an accepted `Z` or `Y` it is the c
+//! blocks. It has room for 128 blocks. One more is not kept, and the journal is *outgrown* then until
+//! the next accepted `M` or `Y`.
 //!
 //! A refused call prints its number instead. These print `?` and change nothing:
 //!
@@ -25,31 +35,40 @@
 //!   line ends at a line feed and nowhere else, so a tab or a carriage return is part of a field.
 //!   A last line without line feed counts; an empty rest behind the last line feed does not.
 //! - A number that is not written as it would be printed: with a plus sign, a zero in front, `-0`,
-//!   or out of range. k is 0 to 5, b 0 to 4095; n, own, tickets and items are any 32-bit
-//!   unsigned numbers, v any 32-bit signed one.
-//! - Bytes that are not lowercase, not whole, or more than 520. None are written as an empty field:
-//!   the line ends in the space.
-//! - A call other than `M` at a place where no replica is made. A refused `M` makes none, and leaves
-//!   one that is there as it is; an accepted one puts a new one in its place.
+//!   or out of range. k is 0 to 5, b of `F` 0 to 4095; n, own, tickets, items, b of `Z` and i are any
+//!   32-bit unsigned numbers, v any 32-bit signed one.
+//! - Bytes that are not lowercase, not whole, or more than 520, in `Y` more than 2,100. None are
+//!   written as an empty field: the line ends in the space.
+//! - A call other than `M` and `Y` at a place where no replica is made. A refused one of these makes
+//!   none, and leaves one that is there as it is; an accepted one puts a new one in its place.
 //! - `D` and `F` of a block that is not kept. Accepted sends count from 0 over the whole run, at
 //!   whatever place, and the blocks of the last 64 are kept, also when their replica is made anew.
+//!   Blocks that a restart gives back are not counted.
+//! - `Z` of more bytes than the journal has, `J` of a block that it has not, and both where it is
+//!   outgrown.
 
 mod parse;
+mod place;
 
 use std::collections::VecDeque;
 use std::io::{self, BufRead, Write};
 
 use self::parse::Line;
+use self::place::Place;
 use crate::block::BLOCK;
-use crate::replica::{Replica, ITEMS};
+use crate::replica::Replica;
 use crate::trace::{Answer, Call};
+
+pub use self::place::JOURNAL;
 
 /// The places for replicas.
 pub const PLACES: usize = 6;
 /// The blocks that are kept.
 pub const KEPT: usize = 64;
-/// The most bytes in a line.
+/// The most bytes in a line that delivers them.
 pub const MAX_BYTES: usize = 520;
+/// The most bytes in a line that restarts from them.
+pub const MAX_JOURNAL: usize = 2_100;
 
 /// Prints the answer to every line of the input.
 pub fn run(mut input: impl BufRead, mut output: impl Write) -> io::Result<()> {
@@ -66,7 +85,7 @@ pub fn run(mut input: impl BufRead, mut output: impl Write) -> io::Result<()> {
 /// A run: the replicas and the blocks sent.
 #[derive(Clone, Debug, Default, PartialEq, Eq)]
 pub struct Replay {
-    replicas: [Option<Replica>; PLACES],
+    places: [Option<Place>; PLACES],
     /// The blocks sent last.
     kept: VecDeque<[u8; BLOCK]>,
     sent: u64,
@@ -84,7 +103,12 @@ impl Replay {
 
     /// The replica at a place.
     pub fn replica(&self, place: usize) -> Option<&Replica> {
-        self.replicas[place].as_ref()
+        Some(&self.places[place].as_ref()?.replica)
+    }
+
+    /// The journal of a place, if it is not outgrown.
+    pub fn journal(&self, place: usize) -> Option<&[u8]> {
+        self.places[place].as_ref()?.journal()
     }
 
     /// The number of blocks sent in the run.
@@ -103,11 +127,26 @@ impl Replay {
         let (place, line) = parse::line(line)?;
         let call = match line {
             Line::Make { n, own, value } => {
-                let made = Replica::make(n, own, &[value; ITEMS]);
-                return Some(made.map(|replica| {
-                    self.replicas[place] = Some(replica);
-                    "0".to_string()
+                return Some(Place::make(n, own, value).map(|made| {
+                    self.places[place] = Some(made);
+                    accepted::<u32>(&[])
                 }));
+            }
+            Line::Cut { bytes, value } => {
+                let made = self.places[place].as_ref()?;
+                let journal = made.journal()?.get(..bytes as usize)?.to_vec();
+                let (n, own) = (made.replica.inbox.len() as u32, made.replica.own.into());
+                return Some(self.restart(place, n, own, value, journal));
+            }
+            Line::Restart {
+                n,
+                own,
+                value,
+                journal,
+            } => return Some(self.restart(place, n, own, value, journal)),
+            Line::Journal { i } => {
+                let block = self.places[place].as_ref()?.block(i as usize)?;
+                return Some(Ok(accepted(&[hex(block)])));
             }
             Line::Values => return Some(Ok(accepted(self.replica(place)?.values()))),
             Line::Call(call) => call,
@@ -119,7 +158,7 @@ impl Replay {
                 Call::Deliver { bytes }
             }
         };
-        let answer = self.replicas[place].as_mut()?.call(&call);
+        let answer = self.places[place].as_mut()?.call(&call);
         if let Ok(Answer::Block(block)) = &answer {
             self.kept.push_back(**block);
             if self.kept.len() > KEPT {
@@ -128,6 +167,20 @@ impl Replay {
             self.sent += 1;
         }
         Some(answer.map(|answer| show(&answer)))
+    }
+
+    /// Puts a restarted replica at a place, and gives what that prints.
+    fn restart(
+        &mut self,
+        place: usize,
+        n: u32,
+        own: u32,
+        value: i32,
+        journal: Vec<u8>,
+    ) -> Result<String, u8> {
+        let (made, count, block) = Place::restart(n, own, value, journal)?;
+        self.places[place] = Some(made);
+        Ok(accepted(&[count.to_string(), hex(&block)]))
     }
 }
 

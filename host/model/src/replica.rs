@@ -1,17 +1,20 @@
-//! A replica and its ten calls: [`Replica::make`] and the nine that a made replica takes, the
-//! client's in `client` and those that move the turn in `turn`.
+//! A replica and its calls: [`Replica::make`], [`Replica::restart`] from a journal, and the nine that
+//! a made replica takes, the client's in `client` and those that move the turn in `turn`.
 //!
 //! A refused call gives the number of [`crate::refusal`] whose condition is the first to hold, in
 //! the order that the call's comment names, and changes nothing. Only a write refused by 9 changes
 //! something: its transaction ends as aborted.
 
 mod client;
+mod restart;
 mod turn;
 
 use std::collections::BTreeMap;
 
 use crate::block::{Message, BLOCK, MAX_SLOT, RECORDS};
 use crate::refusal::{OUT_OF_RANGE, WRONG_LENGTH};
+
+pub use self::restart::Restarted;
 
 /// The items of a replica, numbered from 0.
 pub const ITEMS: usize = 128;

@@ -1,7 +1,7 @@
 //! Calls and answers as values, for lists of calls that are recorded, compared or observed.
 
 use crate::block::BLOCK;
-use crate::replica::{Replica, Report, Work};
+use crate::replica::{Replica, Report, Restarted, Work};
 
 /// A call at a replica that is made.
 #[derive(Clone, Debug, PartialEq, Eq)]
@@ -15,6 +15,15 @@ pub enum Call {
     Send,
     Deliver { bytes: Vec<u8> },
     Work,
+}
+
+/// What a restart is lent. The journal may have any length.
+#[derive(Clone, Debug, PartialEq, Eq)]
+pub struct Restart {
+    pub n: u32,
+    pub own: u32,
+    pub values: Vec<i32>,
+    pub journal: Vec<u8>,
 }
 
 /// The answer to an accepted call.
@@ -61,5 +70,29 @@ impl Replica {
             }
             Call::Work => Answer::Work(self.work()?),
         })
+    }
+
+    /// Runs one call, and appends to a journal what is appended by it: by a send its block, by a work
+    /// that of another whose slot it leaves.
+    pub fn call_journaled(&mut self, call: &Call, journal: &mut Vec<u8>) -> Result<Answer, u8> {
+        if *call == Call::Work {
+            let (work, left) = self.work_journaled()?;
+            journal.extend(left.iter().flatten());
+            return Ok(Answer::Work(work));
+        }
+        let answer = self.call(call)?;
+        if let Answer::Block(block) = &answer {
+            journal.extend_from_slice(&**block);
+        }
+        Ok(answer)
+    }
+}
+
+impl Restart {
+    /// Runs the restart, and puts its replica in the place of another. A refused one leaves that.
+    pub fn run(&self, replica: &mut Replica) -> Result<Restarted, u8> {
+        let (new, restarted) = Replica::restart(self.n, self.own, &self.values, &self.journal)?;
+        *replica = new;
+        Ok(restarted)
     }
 }

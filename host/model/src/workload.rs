@@ -5,6 +5,7 @@ mod cases;
 mod malformed;
 mod random;
 mod refusals;
+mod restarts;
 mod story;
 
 use crate::replay::{hex, Replay};
@@ -13,14 +14,26 @@ use crate::replica::Replica;
 /// The list. Its last line has no line feed.
 pub fn calls() -> Vec<u8> {
     let mut list = List::default();
-    malformed::not_made(&mut list);
-    cases::all(&mut list);
-    refusals::all(&mut list);
-    story::all(&mut list);
-    malformed::all(&mut list);
-    random::all(&mut list);
-    list.text.pop();
-    list.text
+    without_restarts(&mut list);
+    restarts::all(&mut list);
+    random::with_cuts(&mut list);
+    list.lines()
+}
+
+/// The list up to the first restart.
+pub fn calls_without_restarts() -> Vec<u8> {
+    let mut list = List::default();
+    without_restarts(&mut list);
+    list.lines()
+}
+
+fn without_restarts(list: &mut List) {
+    malformed::not_made(list);
+    cases::all(list);
+    refusals::all(list);
+    story::all(list);
+    malformed::all(list);
+    random::all(list);
 }
 
 /// A list in the making. Each line is played at once, so that the next may depend on its answer.
@@ -31,6 +44,12 @@ struct List {
 }
 
 impl List {
+    /// The lines, the last one without a line feed.
+    fn lines(mut self) -> Vec<u8> {
+        self.text.pop();
+        self.text
+    }
+
     /// Adds a line of any bytes but a line feed, and gives what it prints.
     fn line(&mut self, line: &[u8]) -> String {
         self.text.extend_from_slice(line);

@@ -41,7 +41,7 @@ fn output(input: &[u8]) -> Vec<u8> {
 
 #[test]
 fn stored_input() {
-    check("stdin", &workload::calls());
+    check("stdin", &workload::calls_without_restarts());
 }
 
 #[test]
@@ -64,6 +64,11 @@ struct Totals {
     own: usize,
     /// Transactions aborted by a work.
     aborted: usize,
+    /// Restarts by the place's own journal, restarts by other bytes, and those of either that had a
+    /// block to give back.
+    cuts: usize,
+    restarts: usize,
+    given_back: usize,
 }
 
 fn totals(input: &[u8], output: &[u8]) -> Totals {
@@ -88,6 +93,15 @@ fn totals(input: &[u8], output: &[u8]) -> Totals {
         let place: usize = line[1].parse().unwrap();
         match line[0] {
             "M" => own[place] = Some(line[3]),
+            "Z" | "Y" => {
+                if line[0] == "Y" {
+                    own[place] = Some(line[3]);
+                    totals.restarts += 1;
+                } else {
+                    totals.cuts += 1;
+                }
+                totals.given_back += usize::from(!answer[2].starts_with("00"));
+            }
             "S" => totals.sent += usize::from_str_radix(&answer[1][6..8], 16).unwrap(),
             "K" => {
                 totals.committed += usize::from(answer[2] != "0");
@@ -100,9 +114,11 @@ fn totals(input: &[u8], output: &[u8]) -> Totals {
     totals
 }
 
+/// The list that is to be stored.
 #[test]
-fn totals_of_the_stored_list() {
-    let (input, output) = (stored("stdin"), stored("stdout"));
+fn totals_of_the_list() {
+    let input = workload::calls();
+    let output = output(&input);
     assert_ne!(input.last(), Some(&b'\n'), "the last line has a line feed");
     let lines = |text: &[u8]| text.iter().filter(|&&byte| byte == b'\n').count();
     assert_eq!(
@@ -110,13 +126,17 @@ fn totals_of_the_stored_list() {
         lines(&output),
         "one answer for each line"
     );
+    assert!(input.starts_with(&workload::calls_without_restarts()));
 
     let totals = totals(&input, &output);
     println!("{totals:?}");
     assert!(totals.calls >= 20_000, "{totals:?}");
     assert!(totals.rejected > 300, "{totals:?}");
-    let due: Vec<u32> = (1..22).filter(|number| ![6, 13].contains(number)).collect();
+    // Slots are not spent in a list of this length, and no list leads to 22.
+    let due: Vec<u32> = (1..22).filter(|&number| number != 13).collect();
     assert!(totals.refused.keys().eq(&due), "{totals:?}");
+    assert!(totals.cuts > 200 && totals.restarts > 80, "{totals:?}");
+    assert!(totals.given_back > 150, "{totals:?}");
     assert!(totals.own > 1_000, "{totals:?}");
     assert!(
         totals.sent >= totals.own && totals.committed > 3_000,

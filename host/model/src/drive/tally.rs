@@ -1,7 +1,9 @@
 //! What the answers of a replica amount to, and what a run met.
 
-use crate::replica::{Replica, Report, ITEMS};
-use crate::trace::{Answer, Call};
+use crate::block;
+use crate::journal;
+use crate::replica::{Replica, Report, Restarted, ITEMS};
+use crate::trace::{Answer, Call, Restart};
 
 /// A replica under test: the model's, or another that is compared with it.
 pub trait Subject {
@@ -79,6 +81,32 @@ impl Tally {
         self.report.open = self.open.len() as u32;
     }
 
+    /// Takes in a restart: its report is that of the journal's blocks.
+    pub fn feed_restart(&mut self, restart: &Restart, answer: &Result<Restarted, u8>) {
+        if answer.is_err() {
+            return;
+        }
+        let blocks: Vec<_> = journal::blocks(restart.n, &restart.journal).collect();
+        let messages = blocks.iter().map(|block| block::decode(*block).unwrap());
+        let (mut commits, mut own) = (0, Vec::new());
+        for message in messages {
+            commits += message.records.len() as u32;
+            if message.sender == self.own {
+                own.extend(message.records.iter().map(|record| record.ticket));
+            }
+        }
+        let tickets = own.iter().copied().max().unwrap_or(0);
+        self.open.clear();
+        self.report = Report {
+            turn: blocks.len() as u32,
+            commits,
+            tickets,
+            committed: own.len() as u32,
+            aborted: tickets.saturating_sub(own.len() as u32),
+            ..Report::default()
+        };
+    }
+
     fn close(&mut self, ticket: u32) {
         self.open.retain(|&open| open != ticket);
     }
@@ -99,6 +127,9 @@ pub struct Seen {
     /// Blocks sent, by their number of records.
     pub sent: [u32; 7],
     pub delivered: u32,
+    pub restarts: u32,
+    /// Blocks first handed out by a restart, because a cut ended their send.
+    pub sent_by_restart: u32,
 }
 
 impl Seen {
@@ -134,6 +165,8 @@ impl Seen {
         self.read_only += other.read_only;
         self.withdrawn += other.withdrawn;
         self.delivered += other.delivered;
+        self.restarts += other.restarts;
+        self.sent_by_restart += other.sent_by_restart;
     }
 
     /// The refusal numbers met at least `least` times.

@@ -2,7 +2,7 @@
 
 use std::str::FromStr;
 
-use super::{MAX_BYTES, PLACES};
+use super::{MAX_BYTES, MAX_JOURNAL, PLACES};
 use crate::block::BLOCK;
 use crate::trace::Call;
 
@@ -13,6 +13,22 @@ pub(super) enum Line {
         n: u32,
         own: u32,
         value: i32,
+    },
+    /// A restart from the first bytes of the place's own journal.
+    Cut {
+        bytes: u32,
+        value: i32,
+    },
+    /// A restart from any bytes.
+    Restart {
+        n: u32,
+        own: u32,
+        value: i32,
+        journal: Vec<u8>,
+    },
+    /// A block of the place's journal.
+    Journal {
+        i: u32,
     },
     Values,
     /// A block that was sent in this run, maybe with a bit changed.
@@ -36,6 +52,17 @@ pub(super) fn line(line: &[u8]) -> Option<(usize, Line)> {
             own: number(own)?,
             value: number(value)?,
         },
+        (b"Z", [bytes, value]) => Line::Cut {
+            bytes: number(bytes)?,
+            value: number(value)?,
+        },
+        (b"Y", [n, own, value, hex]) => Line::Restart {
+            n: number(n)?,
+            own: number(own)?,
+            value: number(value)?,
+            journal: bytes(hex, MAX_JOURNAL)?,
+        },
+        (b"J", [i]) => Line::Journal { i: number(i)? },
         (b"V", []) => Line::Values,
         (b"D", [i]) => Line::Deliver {
             i: number(i)?,
@@ -71,7 +98,9 @@ fn call(letter: &[u8], arguments: &[&[u8]]) -> Option<Call> {
         },
         (b"Q", []) => Call::Report,
         (b"S", []) => Call::Send,
-        (b"H", [hex]) => Call::Deliver { bytes: bytes(hex)? },
+        (b"H", [hex]) => Call::Deliver {
+            bytes: bytes(hex, MAX_BYTES)?,
+        },
         (b"K", []) => Call::Work,
         _ => return None,
     })
@@ -88,10 +117,10 @@ fn at_most(field: &[u8], limit: usize) -> Option<usize> {
     number(field).filter(|&number| number <= limit)
 }
 
-/// At most 520 bytes, each two lowercase hexadecimal digits.
-fn bytes(hex: &[u8]) -> Option<Vec<u8>> {
+/// At most so many bytes, each two lowercase hexadecimal digits.
+fn bytes(hex: &[u8], most: usize) -> Option<Vec<u8>> {
     let (pairs, rest) = hex.as_chunks();
-    if pairs.len() > MAX_BYTES || !rest.is_empty() {
+    if pairs.len() > most || !rest.is_empty() {
         return None;
     }
     let byte = |&[high, low]: &[u8; 2]| Some(16 * digit(high)? + digit(low)?);

@@ -1,6 +1,9 @@
 //! The format, line by line.
 
+mod restarts;
+
 use super::*;
+use crate::replica::ITEMS;
 
 /// What `run` prints for an input.
 fn print(input: &[u8]) -> String {

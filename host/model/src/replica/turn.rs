@@ -1,7 +1,7 @@
 //! The calls that move the turn (document 01's "What moves the turn").
 
-use super::{Replica, Stage, Transaction, Work, SLOTS};
-use crate::block::{self, Header, BLOCK, NEXT, TO_COMMIT};
+use super::{Replica, Stage, Transaction, Work, ITEMS, SLOTS};
+use crate::block::{self, Header, Message, Record, BLOCK, NEXT, TO_COMMIT};
 use crate::refusal::{
     ALREADY_SENT, FAR_SLOT, NOTHING_WAITS, NOT_OPEN_AS_SENT, NOT_OUR_TURN, NOT_SENT, PAST_SLOT,
     SLOTS_SPENT, SLOT_TAKEN, WRONG_GROUP, WRONG_LENGTH,
@@ -83,24 +83,37 @@ impl Replica {
     /// Takes one step at the turn's message: commits its next writeset, or passes over a message
     /// without records. Refused by 21, 22.
     pub fn work(&mut self) -> Result<Work, u8> {
+        let (work, _) = self.step()?;
+        Ok(work)
+    }
+
+    /// As [`Replica::work`]; and beside the answer, if the turn left the slot of another, that one's
+    /// block, which is to be appended to the journal. An own block stands there since its send.
+    pub fn work_journaled(&mut self) -> Result<(Work, Option<[u8; BLOCK]>), u8> {
+        let (work, left) = self.step()?;
+        // A message has one block, so these are the bytes that were delivered.
+        let of_another = left.filter(|message| message.sender != self.own);
+        Ok((work, of_another.as_ref().map(block::encode)))
+    }
+
+    /// A work, and the message of the slot that the turn left.
+    fn step(&mut self) -> Result<(Work, Option<Message>), u8> {
         let Some(message) = &self.inbox[self.owner(self.turn)] else {
             return Err(NOTHING_WAITS);
         };
-        let sender = message.sender;
-        let mut aborted = Vec::new();
-        let Some(record) = message.records.get(self.done) else {
-            self.advance();
-            return Ok(Work {
-                sender,
-                ticket: 0,
-                moved: true,
-                aborted,
-            });
+        let mut work = Work {
+            sender: message.sender,
+            ticket: 0,
+            moved: true,
+            aborted: Vec::new(),
         };
-        let ticket = record.ticket;
-        let moved = self.done + 1 == message.records.len();
-        if sender == self.own {
-            let sent = |t: &Transaction| t.ticket == ticket && t.stage == Stage::Sent;
+        let Some(record) = message.records.get(self.done) else {
+            return Ok((work, self.advance()));
+        };
+        work.ticket = record.ticket;
+        work.moved = self.done + 1 == message.records.len();
+        if work.sender == self.own {
+            let sent = |t: &Transaction| t.ticket == record.ticket && t.stage == Stage::Sent;
             let at = self.open.iter().position(sent);
             self.open.remove(at.ok_or(NOT_OPEN_AS_SENT)?);
             self.committed += 1;
@@ -109,6 +122,7 @@ impl Replica {
                 let written = |item| t.writes.contains_key(item);
                 t.stage != Stage::Sent && record.entries.iter().any(|e| written(&e.item))
             };
+            let aborted = &mut work.aborted;
             aborted.extend(self.open.iter().filter(|t| hit(t)).map(|t| t.ticket));
             self.open.retain(|t| !aborted.contains(&t.ticket));
             self.queue.retain(|ticket| !aborted.contains(ticket));
@@ -116,20 +130,10 @@ impl Replica {
             self.applying = true;
         }
         self.commits += 1;
-        for entry in &record.entries {
-            self.values[usize::from(entry.item)] = entry.value;
-            self.stamps[usize::from(entry.item)] = self.commits;
-        }
+        put(record, self.commits, &mut self.values, &mut self.stamps);
         self.done += 1;
-        if moved {
-            self.advance();
-        }
-        Ok(Work {
-            sender,
-            ticket,
-            moved,
-            aborted,
-        })
+        let left = work.moved.then(|| self.advance()).flatten();
+        Ok((work, left))
     }
 
     /// The replica that a slot belongs to. Its message waits at that index of the inbox.
@@ -137,13 +141,26 @@ impl Replica {
         slot as usize % self.inbox.len()
     }
 
-    /// Ends the turn.
-    fn advance(&mut self) {
+    /// Ends the turn, and gives the message of the slot that it was.
+    fn advance(&mut self) -> Option<Message> {
         let owner = self.owner(self.turn);
-        self.inbox[owner] = None;
         self.turn += 1;
         self.outbox = None;
         self.done = 0;
         self.applying = false;
+        self.inbox[owner].take()
+    }
+}
+
+/// Gives the items of a writeset their values, and as their stamps the commit count just after it.
+pub(super) fn put(
+    writeset: &Record,
+    commits: u32,
+    values: &mut [i32; ITEMS],
+    stamps: &mut [u32; ITEMS],
+) {
+    for entry in &writeset.entries {
+        values[usize::from(entry.item)] = entry.value;
+        stamps[usize::from(entry.item)] = commits;
     }
 }

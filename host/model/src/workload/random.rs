@@ -1,5 +1,5 @@
 //! Random calls of groups of 2 to 6 replicas, by seed. Blocks arrive early, late, repeated, damaged,
-//! forged, or not at all for a while.
+//! forged, or not at all for a while; in some rounds replicas lose power.
 
 mod group;
 
@@ -10,6 +10,8 @@ use crate::samples::{self, Random};
 
 /// The calls of a round, before its groups come to rest.
 const CALLS: usize = 3_000;
+/// The same, where replicas lose power.
+const CALLS_AND_CUTS: usize = 1_800;
 
 /// How a round's calls are chosen.
 pub(super) struct Round {
@@ -22,6 +24,8 @@ pub(super) struct Round {
     /// Whether replicas get blocks that nobody of their group sent and that they must take. Then its
     /// copies need not be equal.
     pub forged: bool,
+    /// One call in so many is a cut, if this is not 0.
+    cuts: usize,
 }
 
 pub(super) const ROUNDS: [Round; 10] = [
@@ -37,6 +41,19 @@ pub(super) const ROUNDS: [Round; 10] = [
     Round::new(&[6], 128, 25, true),
 ];
 
+/// The seed of the first round in which replicas lose power.
+pub(super) const CUT_SEED: u64 = ROUNDS.len() as u64;
+
+/// The rounds in which replicas lose power.
+pub(super) const CUT_ROUNDS: [Round; 6] = [
+    Round::with_cuts(&[2], 24, 25, 50),
+    Round::with_cuts(&[3], 128, 25, 50),
+    Round::with_cuts(&[4], 24, 20, 50),
+    Round::with_cuts(&[5], 40, 20, 50),
+    Round::with_cuts(&[6], 128, 25, 50),
+    Round::with_cuts(&[2, 4], 12, 25, 30),
+];
+
 impl Round {
     const fn new(sizes: &'static [usize], items: usize, asks: usize, forged: bool) -> Round {
         Round {
@@ -44,6 +61,14 @@ impl Round {
             items,
             asks,
             forged,
+            cuts: 0,
+        }
+    }
+
+    const fn with_cuts(sizes: &'static [usize], items: usize, asks: usize, cuts: usize) -> Round {
+        Round {
+            cuts,
+            ..Round::new(sizes, items, asks, false)
         }
     }
 }
@@ -51,6 +76,12 @@ impl Round {
 pub(super) fn all(list: &mut List) {
     for (seed, round) in ROUNDS.iter().enumerate() {
         play(list, round, seed as u64);
+    }
+}
+
+pub(super) fn with_cuts(list: &mut List) {
+    for (round, seed) in CUT_ROUNDS.iter().zip(CUT_SEED..) {
+        play(list, round, seed);
     }
 }
 
@@ -64,9 +95,18 @@ pub(super) fn play(list: &mut List, round: &Round, seed: u64) -> Vec<Vec<usize>>
         groups.push(Group::make(list, &mut random, place, size, value));
         place += size;
     }
-    for _ in 0..CALLS {
+    let calls = if round.cuts > 0 {
+        CALLS_AND_CUTS
+    } else {
+        CALLS
+    };
+    for _ in 0..calls {
         let at = random.below(groups.len());
-        groups[at].call(list, &mut random, round);
+        if round.cuts > 0 && random.below(round.cuts) == 0 {
+            groups[at].cut(list, &mut random);
+        } else {
+            groups[at].call(list, &mut random, round);
+        }
     }
     for group in &mut groups {
         group.settle(list);

@@ -76,3 +76,29 @@ fn rounds() {
     let lines = list.text.iter().filter(|&&byte| byte == b'\n').count();
     assert!(lines > 30_000, "{lines} calls");
 }
+
+/// Groups whose members lose power end with equal copies too; cuts tear blocks, and some restarts have
+/// no own block to give back.
+#[test]
+fn rounds_with_cuts() {
+    let mut list = List::default();
+    for (round, seed) in random::CUT_ROUNDS.iter().zip(random::CUT_SEED..) {
+        for places in random::play(&mut list, round, seed) {
+            agree(&list, &places);
+            let report = list.replica(places[0]).report();
+            assert!(report.turn > 15 && report.commits > 10, "{report:?}");
+        }
+    }
+    let text = String::from_utf8(list.text.clone()).unwrap();
+    let cuts = text.lines().filter(|line| line.starts_with('Z'));
+    let bytes = cuts.map(|line| line.split(' ').nth(2).unwrap().parse::<u32>().unwrap());
+    let torn = bytes.filter(|bytes| bytes % 512 > 0).count();
+    let restarts = answers(&list, "Z ");
+    let none = "0".repeat(1024);
+    let without = restarts.iter().filter(|answer| answer.ends_with(&none));
+    let counts = (restarts.len(), torn, without.count());
+    assert!(
+        counts.0 > 200 && counts.1 > 30 && counts.2 > 5,
+        "{counts:?}"
+    );
+}

@@ -2,11 +2,14 @@
 
 mod cases;
 mod common;
+mod cuts;
 mod faults;
 mod group;
 mod history;
 mod observer;
 mod orders;
 mod refusals;
+mod restart_faults;
+mod restarts;
 mod single;
 mod story;

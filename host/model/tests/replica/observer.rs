@@ -1,6 +1,8 @@
 //! The observer, sentence by sentence of demand 3: lists of calls and answers that no right group
 //! gives, each of which breaks one sentence.
 
+mod restarts;
+
 use model::observer::Observer;
 use model::replica::{Report, Work, ITEMS};
 use model::trace::{Answer, Call};

@@ -36,7 +36,7 @@ fn compare(program: &Path, list: &str, due: &str) {
 /// struct, and those over lent parts, each with every length off by one.
 #[test]
 fn the_stored_list() {
-    let list = model::workload::calls();
+    let list = model::workload::calls_without_restarts();
     let mut said = Vec::new();
     answers(&list[..], &mut said).unwrap();
     let said = String::from_utf8(said).unwrap();

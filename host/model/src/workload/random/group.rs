@@ -11,6 +11,8 @@ use crate::workload::List;
 
 pub(super) struct Group {
     members: Vec<Member>,
+    /// The value that every item started with.
+    value: i32,
     /// By slot the number of its block in the run.
     blocks: BTreeMap<u32, u64>,
     /// The member that gets no block for now, if there is one of this index.
@@ -22,6 +24,8 @@ struct Member {
     own: usize,
     /// The slots of the blocks that it accepted.
     accepted: BTreeSet<u32>,
+    /// The bytes that a cut leaves of its journal at least.
+    floor: usize,
 }
 
 impl Group {
@@ -41,10 +45,12 @@ impl Group {
                 place,
                 own,
                 accepted: BTreeSet::new(),
+                floor: 0,
             }
         };
         Group {
             members: (0..size).map(member).collect(),
+            value,
             blocks: BTreeMap::new(),
             withheld: size,
         }
@@ -111,6 +117,35 @@ impl Group {
             _ => return false,
         }
         true
+    }
+
+    /// A cut at a random member, and its restart from what is left. A call before it may be one that
+    /// the cut ends; a block that is sent so and lost was never handed out.
+    pub fn cut(&mut self, list: &mut List, random: &mut Random) {
+        let at = random.below(self.members.len());
+        let Member { place, floor, .. } = self.members[at];
+        let slot = self.turn(list, at);
+        let own = self.owner(slot) == self.members[at].own;
+        let sends = own && !self.blocks.contains_key(&slot) && random.below(4) > 0;
+        if sends {
+            self.send(list, at);
+        } else if random.below(3) == 0 {
+            self.work(list, at);
+        }
+        let all = list.replay.journal(place).map_or(floor, <[u8]>::len);
+        let any = floor + random.below(all - floor + 1);
+        let left = random.pick(&[floor, all, any, any]);
+        let answer = list.call(&format!("Z {place} {left} {}", self.value));
+        if answer == "?" {
+            return;
+        }
+        if sends && self.turn(list, at) <= slot {
+            self.blocks.remove(&slot);
+        }
+        let gave_back = !answer.ends_with(&"0".repeat(2 * BLOCK));
+        let length = list.replay.journal(place).map_or(0, <[u8]>::len);
+        self.members[at].floor = if gave_back { length } else { 0 };
+        self.members[at].accepted.clear();
     }
 
     /// A delivery of a block that is repeated, damaged, of others, or not of this run.
@@ -226,6 +261,8 @@ impl Group {
         list.call(&format!("S {}", self.members[at].place));
         if list.replay.sent() > number {
             self.blocks.insert(turn, number);
+            let journal = list.replay.journal(self.members[at].place);
+            self.members[at].floor = journal.map_or(0, <[u8]>::len);
         }
     }
 

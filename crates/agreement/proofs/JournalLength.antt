@@ -1,0 +1,156 @@
+-- How many blocks a replica's journal has, with no premise: every call keeps it. Assumes nothing.
+use Prim.Native.Nat.{ℕ, suc, _*_, _/_, _≤_, _<_}
+use mathlib.Core.Path.{_≡_, refl, sym, ap, _∙_}
+use mathlib.Core.Bool.{Bool, true, false, cond}
+use mathlib.Core.List.{List, List·Memᴰ·head, List·Memᴰ·tail, [], _∷_, _++_, append-nil}
+use native.Mathlib.Omega.{arith}
+use lib.Dec.{eqb}
+use lib.IntN.{ℤ}
+use lib.ListN.{length, length-append, getD}
+use borrow.Author.Tests.{eq-eqb, ne-eqb}
+use Rattle.block.specs.Message.{ownerOf, signed32}
+use Rattle.block.specs.Bytes.{blockOf}
+use Rattle.block.proofs.BoolLaws.{not-so}
+use Rattle.block.proofs.AnswerLaws.{is-taken}
+use Rattle.block.proofs.Theorems.{theorems}
+use Rattle.memory.specs.declared.Turn.{Turn}
+use Rattle.memory.specs.Memory.{Memory, bump}
+use Rattle.memory.specs.Turns.{isOn, markApplying, advance}
+use Rattle.engine.specs.Calls.{Outcome}
+use Rattle.engine.specs.Make.{madeMemory}
+use Rattle.engine.specs.Client.{beginAt, readOnlyAt, queueAt, rewriteAt, insertWrite, staleAt, withdrawAt, reportStep}
+use Rattle.engine.specs.Moves.{messageFor, sentAlready, sendRefusal, sendNow, deliverNow, blockAtTurn, isLast, passNext, commitWriteset}
+use Rattle.engine.specs.Step.{Call, step}
+use Rattle.engine.specs.Step.Call.{begin, read, write, ask, withdraw, report, send, deliver, work}
+use Rattle.engine.specs.Restart.{blocksIn, restartedMemory, restartStep}
+use Rattle.engine.specs.Sent.{SentShape}
+use Rattle.engine.proofs.Tests.{same-by}
+use Rattle.engine.proofs.Steps.{begin-by, read-by, write-by, ask-by, withdraw-by, send-by, deliver-by, work-by, restart-by}
+use Rattle.engine.proofs.Shaping.{bumps}
+use Rattle.engine.proofs.ShapeTurn.{Working, working}
+use Rattle.engine.proofs.SentWork.{sender-owns, is-outbox}
+use Rattle.engine.proofs.Sent.{sent-shapes}
+use Rattle.engine.proofs.RestartLaws.{reads-good, reads-first}
+use Rattle.protocol.specs.Blocks.{join}
+use Rattle.agreement.specs.Group.{GroupCall, call, restart, performed, argumentsOf, journalAfter, Group, CallAt, fresh, next, run, Calls}
+use Rattle.agreement.specs.Journals.{blocksAt, JournalLength}
+use Rattle.agreement.proofs.View.{Sound}
+use Rattle.agreement.proofs.Sendable.{sendable, send-passed}
+use Rattle.agreement.proofs.JournalView.{join-first}
+use Rattle.agreement.proofs.Replicas.{SoundAt, stays, made-sound}
+use Rattle.agreement.proofs.Premises.{length-join}
+use Rattle.agreement.proofs.Theorem.{owes}
+
+-- ---- a work: the sent mark is on where the block at the turn is the replica's own
+
+turn-filled : (l b : List ℕ) (t : Turn) (mine last : Bool) → length b ≡ 512 → bump (t .slot) ≡ suc (t .slot) → isOn (t .sent) ≡ mine → length l ≡ 512 * blocksAt t
+    → length (l ++ cond last (cond mine [] b) []) ≡ 512 * blocksAt (cond last (advance t) (cond mine t (markApplying t)))
+turn-filled l b t true true long up on h = rw (append-nil l, up) (let e = rw on at h in omega arith)
+turn-filled l b t false true long up on h = rw up (let e = rw on at h in let a = length-append l b in omega arith)
+turn-filled l b t true false long up on h = rw (append-nil l) h
+turn-filled l b t false false long up on h = rw (append-nil l) h
+
+-- ---- the calls
+
+module _ (n : ℕ) (m : Memory) (s : Sound n m) (Q : SentShape m) (l : List ℕ) (H : length l ≡ 512 * blocksAt (m .turn)) where
+  abbrev Filled : Call → Outcome → Type 0
+  Filled c o = length (journalAfter l (call c) (o .answer)) ≡ 512 * blocksAt (o .memory .turn)
+
+  abbrev b : List ℕ
+  b = blockAtTurn m
+
+  abbrev mine : Bool
+  mine = eqb (getD (blockAtTurn m) 1 0) (m .counts .own)
+
+  module _ (k : Working m) where
+    long : length b ≡ 512
+    long = is-taken b (s .shape .places .waits (m .turn .slot) (omega arith) (omega (arith, s .shape .ranges .least)) (k .waits) .0) .long
+
+    owns : getD b 1 0 ≡ ownerOf (m .counts .replicas) (m .turn .slot)
+    owns = sender-owns m (s .shape) Q (k .waits)
+
+    mark : sentAlready m ≡ mine
+    mark =
+        same-by (getD b 1 0) (m .counts .own)
+        (λ e. is-outbox m (s .shape) Q (k .waits) (sym owns ∙ e) .0 ∙ sym (eq-eqb (getD b 1 0) (m .counts .own) e))
+        (λ d. not-so (sentAlready m) (λ t. d (owns ∙ Q .turn t)) ∙ sym (ne-eqb (getD b 1 0) (m .counts .own) d))
+
+    left : (last : Bool) → length (l ++ cond last (cond mine [] b) []) ≡ 512 * blocksAt (cond last (advance (m .turn)) (cond mine (m .turn) (markApplying (m .turn))))
+    left last = turn-filled l b (m .turn) mine last long (bumps m (s .shape) .slot) mark H
+
+  send-filled : (x : List ℕ) → sendRefusal m x ≡ 0 → length (l ++ blockOf (messageFor m)) ≡ 512 * suc (m .turn .slot)
+  send-filled x e =
+      let a = length-append l (blockOf (messageFor m)) in
+      let c = theorems .round-trip (messageFor m) (sendable n m s x e) .long in
+      let h = rw (send-passed m x e .unsent) at H in
+      omega arith
+
+  call-filled : (c : Call) → Filled c (step m c)
+  unfolding beginAt staleAt rewriteAt insertWrite readOnlyAt queueAt withdrawAt sendNow deliverNow passNext commitWriteset
+  call-filled begin = begin-by (Filled begin) m (λ e. H) (λ e. H)
+  call-filled (read t i) = read-by (Filled (read t i)) m t i (λ e. H) (λ e. H)
+  call-filled (write t i v) = write-by (Filled (write t i v)) m t i v (λ e. H) (λ e o. H) (λ e o. H) (λ e q. H)
+  call-filled (ask t) = ask-by (Filled (ask t)) m t (λ e. H) (λ e o. H) (λ e. H)
+  call-filled (withdraw t) = withdraw-by (Filled (withdraw t)) m t (λ e. H) (λ e. H)
+  call-filled report = unfold step reportStep in H
+  call-filled (send x) = send-by (Filled (send x)) m x (λ e. let h = send-filled x e in omega arith) (λ e. H)
+  call-filled (deliver x) = deliver-by (Filled (deliver x)) m x (λ e. H) (λ e. H)
+  call-filled work = work-by (Filled work) m (λ e k. left (working m (s .shape) e) true) (λ e k. left (working m (s .shape) e) (isLast m)) (λ e. H)
+
+-- a restart's journal is the blocks read, and its turn their number
+restart-filled : (n k : ℕ) (start : List ℤ) (m : Memory) (l j x : List ℕ) → length l ≡ 512 * blocksAt (m .turn)
+    → let o = restartStep m n k start j x in length (journalAfter l (restart j x) (o .answer)) ≡ 512 * blocksAt (o .memory .turn)
+unfolding restartedMemory
+restart-filled n k start m l j x H =
+    restart-by (λ (o : Outcome). length (journalAfter l (restart j x) (o .answer)) ≡ 512 * blocksAt (o .memory .turn)) m n k start j x
+    (λ e.
+    let a = ap length (sym (join-first (length (blocksIn n j)) j)) in
+    let b = ap (λ (bs : List (List ℕ)). length (join bs)) (reads-first n 0 (length j / 512) j) in
+    let c = length-join n (blocksIn n j) (reads-good n 0 (length j / 512) j) in
+    a ∙ b ∙ c ∙ (let z : 512 * length (blocksIn n j) ≡ 512 * blocksAt (restartedMemory n k start (blocksIn n j) .turn) = omega arith in z))
+    (λ e. H)
+
+-- ---- a run
+
+module _ (n : ℕ) (start : List ℤ) (least : 2 ≤ n) (most : n ≤ 6) (long : length start ≡ 128) where
+  -- replica k and its journal
+  record FilledAt (k : ℕ) (m : Memory) (l : List ℕ) : Type 0 where
+    sound : SoundAt n start least most long (owes n start) k m
+    sent : SentShape m
+    filled : length l ≡ 512 * blocksAt (m .turn)
+
+  filled-next : (k : ℕ) (m : Memory) (l : List ℕ) → FilledAt k m l → (c : GroupCall) → signed32 (argumentsOf c .value) ≡ true
+      → FilledAt k (performed n start k m c .memory) (journalAfter l c (performed n start k m c .answer))
+  filled-next k m l F (call c) v = record {
+    sound = stays n start least most long (owes n start) k m (call c) v (F .sound);
+    sent = sent-shapes .each m (F .sound .sound .shape) (F .sent) c;
+    filled = call-filled n m (F .sound .sound) (F .sent) l (F .filled) c;
+  }
+  filled-next k m l F (restart j x) v = record {
+    sound = stays n start least most long (owes n start) k m (restart j x) v (F .sound);
+    sent = restart-by (λ (o : Outcome). SentShape (o .memory)) m n k start j x (λ e. sent-shapes .restarted n k start j) (λ e. F .sent);
+    filled = restart-filled n k start m l j x (F .filled);
+  }
+
+  abbrev AllFilled : Group → Type 0
+  AllFilled g = (k : ℕ) → k < n → FilledAt k (g .memories k) (g .disks k .journal)
+
+  group-next : (g : Group) (c : CallAt) → AllFilled g → (c .at < n) × (signed32 (argumentsOf (c .does) .value) ≡ true) → AllFilled (next n start g c)
+  group-next g c F h k below = same-by k (c .at)
+      (λ e. rw (e, eq-eqb (c .at) (c .at) refl) (filled-next (c .at) (g .memories (c .at)) (g .disks (c .at) .journal) (F (c .at) (h .0)) (c .does) (h .1)))
+      (λ d. rw (ne-eqb k (c .at) d) (F k below))
+
+  filled-run : (cs : List CallAt) → Calls n cs → (g : Group) → AllFilled g → AllFilled (run n start g cs)
+  unfolding run
+  filled-run [] f g F = F
+  filled-run (c ∷ cs) f g F = filled-run cs (λ d q. f d (List·Memᴰ·tail q)) (next n start g c) (group-next g c F (f c (List·Memᴰ·head refl)))
+
+  fresh-filled : AllFilled (fresh n start)
+  fresh-filled k h = record {
+    sound = made-sound n start least most long (owes n start) k h;
+    sent = sent-shapes .made n k start;
+    filled = unfold madeMemory in refl;
+  }
+
+pub journal-length : JournalLength
+journal-length n start least most long cs f k h = filled-run n start least most long cs f (fresh n start) (fresh-filled n start least most long) k h .filled

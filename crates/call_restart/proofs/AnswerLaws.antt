@@ -1,0 +1,76 @@
+-- The answers of a restart, from what the make that it begins with gave. Assumes nothing.
+use Prim.Native.Nat.{ℕ}
+use mathlib.Core.Path.{_≡_, refl, sym, ap, _∙_}
+use mathlib.Core.Bool.{and-false}
+use mathlib.Core.List.{List}
+use lib.Dec.{eqb}
+use lib.IntN.{ℤ}
+use lib.ListN.{length, replicate}
+use borrow.Author.Tests.{eq-eqb, ne-eqb, eqb-true}
+use Rattle.block.specs.Answers.{firstOf}
+use Rattle.memory.specs.declared.Counts.{Counts}
+use Rattle.memory.specs.declared.Turn.{Turn}
+use Rattle.memory.specs.declared.Txn.{Txn}
+use Rattle.memory.specs.Memory.{Memory}
+use Rattle.memory.specs.Rows.{closed}
+use Rattle.engine.specs.Calls.{Outcome, outcome}
+use Rattle.engine.specs.Calls.Answer.{refused, restarted}
+use Rattle.engine.specs.Make.{madeMemory, makeRefusal, makeStep}
+use Rattle.engine.specs.Restart.{Replayed, blocksIn, commitBlocks, startReplay, restartRefusal, restartedMemory, restartStep}
+use Rattle.engine.proofs.Tests.{cond-by}
+use Rattle.call_reply.specs.Parts.{allParts}
+use Rattle.call_reply.specs.Replies.{number, Gives}
+use Rattle.call_make.specs.Made.{ifMade}
+use Rattle.call_make.proofs.MakeLaws.{Given, given}
+use Rattle.call_restart.specs.declared.Tally.{Tally}
+use Rattle.call_restart.specs.Replays.{replayed, blockNumber, Replays, answered}
+
+module _ (m : Memory) (n own : ℕ) (start : List ℤ) (journal block : List ℕ) where
+  pub restart-other : (length block ≡ 512 → ⊥) → outcome (refused 1) m ≡ restartStep m n own start journal block
+  unfolding restartStep restartRefusal firstOf
+  restart-other h = rw (ne-eqb (length block) 512 h, and-false (eqb (length start) 128))
+
+  module _ (long : length block ≡ 512) (k : ℕ) (left : Memory) (make : Gives number (makeStep m n own start) k left) where
+    same-refusal : restartRefusal m n own start block ≡ makeRefusal m n own start
+    unfolding restartRefusal makeRefusal
+    same-refusal = rw (eq-eqb (length block) 512 long)
+
+    -- the number of a make is its refusal
+    is-refusal : k ≡ makeRefusal m n own start
+    unfolding makeStep
+    is-refusal =
+        make .0
+        ∙ cond-by (λ (o : Outcome). number o ≡ makeRefusal m n own start) (eqb (makeRefusal m n own start) 0) (λ e. sym (eqb-true (makeRefusal m n own start) 0 e)) (λ e. refl)
+
+    -- whatever turn, counts and table the number comes with
+    pub restart-refused : (k ≡ 0 → ⊥) → (turn : Turn) (counts : Counts) (rows : List Txn)
+        → outcome (refused k)
+        (allParts (ifMade k turn (m .turn)) (ifMade k counts (m .counts)) (ifMade k rows (m .txns .table)) (left .txns .queue) (left .txns .items) (left .txns .writes) (left .txns .snapshots)
+        (left .store .values) (left .store .stamps) (left .blocks .places) (left .blocks .outbox))
+        ≡ restartStep m n own start journal block
+    unfolding restartStep makeStep
+    restart-refused h turn counts rows =
+        let l : left ≡ m = rw (← is-refusal, ne-eqb k 0 h) at (make .1) in
+        rw (same-refusal, ← is-refusal, ne-eqb k 0 h, l)
+
+    module _ (free : k ≡ 0) where
+      is-made : left ≡ madeMemory n own start
+      unfolding makeStep
+      is-made = rw (← is-refusal, free) at (make .1)
+
+      pub restart-given : Given m n own start
+      restart-given = given m n own start (sym is-refusal ∙ free)
+
+      -- the parts that the make cleared stay, and the blocks' values and stamps are added
+      pub restart-taken : (t : Tally) (v : List ℤ) (s : List ℕ) → Replays n own journal (replayed 0 (left .store .values) (left .store .stamps)) v s t
+          → outcome (restarted (t .blocks) (blockNumber (t .last) journal))
+          (allParts (answered n own t .turn) (answered n own t .counts) (replicate 6 closed) (left .txns .queue) (left .txns .items) (left .txns .writes) (left .txns .snapshots)
+          v s (left .blocks .places) (left .blocks .outbox))
+          ≡ restartStep m n own start journal block
+      unfolding restartStep restartedMemory madeMemory answered
+      restart-taken t v s p =
+          let r : replayed (t .commits) v s ≡ commitBlocks (startReplay start) (blocksIn n journal) = rw is-made at (p .store) in
+          let c : t .commits ≡ commitBlocks (startReplay start) (blocksIn n journal) .commits = ap (λ (x : Replayed). x .commits) r in
+          let a : v ≡ commitBlocks (startReplay start) (blocksIn n journal) .store .values = ap (λ (x : Replayed). x .store .values) r in
+          let b : s ≡ commitBlocks (startReplay start) (blocksIn n journal) .store .stamps = ap (λ (x : Replayed). x .store .stamps) r in
+          rw (same-refusal, ← is-refusal, free, is-made, p .blocks, p .last, p .highest, p .committed, c, a, b)

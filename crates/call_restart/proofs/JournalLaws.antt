@@ -1,0 +1,124 @@
+-- One turn of the loop over the blocks of a journal. Assumes nothing.
+use Prim.Native.Nat.{ℕ, suc, _+_, _-_, _*_, _/_, _≤_, _<_, max}
+use mathlib.Core.Path.{_≡_, sym, ap, _∙_}
+use mathlib.Core.Bool.{Bool, true, false, _&&_}
+use mathlib.Core.List.{List, [], _∷_}
+use native.Mathlib.Numerals.{add-one}
+use native.Mathlib.Omega.{arith}
+use lib.Dec.{eqb}
+use lib.IntN.{ℤ}
+use lib.ListN.{length, getD, take, drop, replicate, length-drop}
+use lib.Seq.{drop-drop, length-take-le}
+use Rattle.block.specs.Answers.{headerOf}
+use Rattle.block.proofs.BoolLaws.{both}
+use Rattle.block.proofs.ListLaws.{lent}
+use Rattle.engine.specs.Restart.{Replayed, isGood, blocksFrom, blocksIn, writesetsIn, commitAll, commitBlocks, isFrom, highestOwn, ownWritesets, lastOwn}
+use Rattle.engine.proofs.Tests.{bool-by}
+use Rattle.engine.proofs.BlockFacts.{taken-block}
+use Rattle.engine.proofs.RestartLaws.{good-taken, reads-good, reads-few, count-few, own-few}
+use Rattle.call_restart.specs.declared.Tally.{Tally}
+use Rattle.call_restart.specs.Replays.{replayed, blockNumber, counted, Replays}
+
+-- block i of a journal, and the blocks read from it on
+abbrev pub blockAt : List ℕ → ℕ → List ℕ
+blockAt journal i = take 512 (drop (512 * i) journal)
+
+abbrev pub rest : ℕ → List ℕ → ℕ → List (List ℕ)
+rest n journal i = blocksFrom n i (length journal / 512 - i) (drop (512 * i) journal)
+
+-- whether block i is read
+abbrev pub isNext : ℕ → List ℕ → ℕ → Bool
+isNext n journal i = isGood n (blockAt journal i) && eqb (headerOf (blockAt journal i) .slot) i
+
+module _ (n : ℕ) (journal : List ℕ) (i : ℕ) where
+  -- block i as the part of the journal that is lent
+  pub lent-block : lent (512 * i) (512 * i + 512) journal ≡ blockAt journal i
+  lent-block = let k : 512 * i + 512 - 512 * i ≡ 512 = omega arith in rw k
+
+  pub block-long : i < length journal / 512 → length (lent (512 * i) (512 * i + 512) journal) ≡ 512
+  block-long h = rw lent-block (length-take-le 512 (drop (512 * i) journal) (simp length-drop (omega arith)))
+
+  pub next-is : (r : Bool) → (let b = lent (512 * i) (512 * i + 512) journal in r ≡ (isGood n b && eqb (headerOf b .slot) i)) → isNext n journal i ≡ r
+  next-is r e = sym (rw lent-block at e)
+
+  rest-cons : i < length journal / 512 → isNext n journal i ≡ true → rest n journal i ≡ blockAt journal i ∷ rest n journal (i + 1)
+  unfolding blocksFrom
+  rest-cons h e =
+      let k : length journal / 512 - i ≡ suc (length journal / 512 - (i + 1)) = omega arith in
+      let d : 512 * i + 512 ≡ 512 * (i + 1) = omega arith in
+      rw (k, e, drop-drop 512 (512 * i) journal, d, add-one i)
+
+  pub rest-stop : i < length journal / 512 → isNext n journal i ≡ false → rest n journal i ≡ []
+  unfolding blocksFrom
+  rest-stop h e = let k : length journal / 512 - i ≡ suc (length journal / 512 - (i + 1)) = omega arith in rw (k, e)
+
+  pub rest-none : length journal / 512 ≤ i → rest n journal i ≡ []
+  unfolding blocksFrom
+  rest-none h = let k : length journal / 512 - i ≡ 0 = omega arith in rw k
+
+-- all blocks come to what the blocks still to be read come to on top of the tally, of values and stamps as they are now
+pub record Replaying (n own : ℕ) (journal : List ℕ) (before : Replayed) (values : List ℤ) (stamps : List ℕ) (t : Tally) : Type 0 where
+  pub there : t .blocks ≤ length journal / 512
+  pub blocks : length (blocksIn n journal) ≡ t .blocks + length (rest n journal (t .blocks))
+  pub store : commitBlocks before (blocksIn n journal) ≡ commitBlocks (replayed (t .commits) values stamps) (rest n journal (t .blocks))
+  pub highest : highestOwn own (blocksIn n journal) ≡ max (t .highest) (highestOwn own (rest n journal (t .blocks)))
+  pub committed : ownWritesets own (blocksIn n journal) ≡ t .committed + ownWritesets own (rest n journal (t .blocks))
+  pub last : lastOwn own (replicate 512 0) (blocksIn n journal) ≡ lastOwn own (blockNumber (t .last) journal) (rest n journal (t .blocks))
+  pub last-there : t .last ≤ t .blocks
+
+module _ (n own : ℕ) (journal : List ℕ) where
+  pub replay-start : (values : List ℤ) (stamps : List ℕ)
+      → Replaying n own journal (replayed 0 values stamps) values stamps (record { blocks = 0; commits = 0; highest = 0; committed = 0; last = 0 })
+  unfolding blockNumber
+  replay-start values stamps =
+      let k : length journal / 512 - 0 ≡ length journal / 512 = omega arith in
+      record {
+        there = omega arith;
+        blocks = rw k (omega arith);
+        store = rw k;
+        highest = rw k (omega arith);
+        committed = rw k (omega arith);
+        last = rw k;
+        last-there = omega arith;
+      }
+
+  module _ (before : Replayed) (values : List ℤ) (stamps : List ℕ) (t : Tally) (p : Replaying n own journal before values stamps t) where
+    pub replay-end : rest n journal (t .blocks) ≡ [] → Replays n own journal before values stamps t
+    unfolding commitBlocks highestOwn ownWritesets lastOwn
+    replay-end e = record {
+      blocks = sym (rw e at (p .blocks) ∙ omega arith);
+      store = sym (rw e at (p .store));
+      highest = sym (rw e at (p .highest) ∙ omega arith);
+      committed = sym (rw e at (p .committed) ∙ omega arith);
+      last = sym (rw e at (p .last));
+      last-there = omega arith;
+    }
+
+    module _ (more : t .blocks < length journal / 512) (next : isNext n journal (t .blocks) ≡ true) where
+      -- there are no more blocks than slots, and no more than six writesets in each
+      pub replay-room : (t .blocks < 4_294_967_295) × (t .committed + getD (blockAt journal (t .blocks)) 3 0 ≤ 4_294_967_295)
+      replay-room =
+          let most = length journal / 512 in
+          let f = reads-few n 0 most journal (omega arith) in
+          let c = count-few n (blocksIn n journal) (reads-good n 0 most journal) in
+          let o = own-few own (blocksIn n journal) in
+          let k = taken-block (blockAt journal (t .blocks)) (good-taken n (blockAt journal (t .blocks)) (both _ _ next .left)) .count in
+          (omega arith, omega arith)
+
+      pub replay-turn : (c : ℕ) (v : List ℤ) (s : List ℕ) → replayed c v s ≡ commitAll (replayed (t .commits) values stamps) (writesetsIn (blockAt journal (t .blocks)))
+          → Replaying n own journal before v s (counted own t c (blockAt journal (t .blocks)))
+      unfolding counted commitBlocks highestOwn ownWritesets lastOwn blockNumber
+      replay-turn c v s did =
+          let b = blockAt journal (t .blocks) in
+          let e = rest-cons n journal (t .blocks) more next in
+          record {
+            there = omega arith;
+            blocks = rw e at (p .blocks) ∙ omega arith;
+            store = rw e at (p .store) ∙ ap (λ (r : Replayed). commitBlocks r (rest n journal (t .blocks + 1))) (sym did);
+            highest = rw e at (p .highest) ∙ bool-by (isFrom own b) (λ f. rw f (omega arith)) (λ f. rw f (omega arith));
+            committed = rw e at (p .committed) ∙ bool-by (isFrom own b) (λ f. rw f (omega arith)) (λ f. rw f (omega arith));
+            last =
+                rw e at (p .last)
+                ∙ ap (λ (d : List ℕ). lastOwn own d (rest n journal (t .blocks + 1))) (bool-by (isFrom own b) (λ f. rw (f, add-one (t .blocks))) (λ f. rw f));
+            last-there = bool-by (isFrom own b) (λ f. rw f (omega arith)) (λ f. rw f (omega arith));
+          }

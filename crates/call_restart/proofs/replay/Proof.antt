@@ -1,0 +1,151 @@
+-- `replay` meets its contract. The loop's invariant: `Replaying`, and values and stamps keep their lengths. Assumes nothing.
+use Prim.Native.Nat.{_+_, _-_}
+use mathlib.Core.Path.{_≡_, refl, ap, _∙_}
+use mathlib.Core.Bool.{true}
+use native.Mathlib.Omega.{arith}
+use borrow.Author.Tests.{not-true, not-false}
+use lib.ListN.{length}
+use Rattle.call_restart.specs.declared.Tally.{Tally}
+use Rattle.call_restart.specs.Replays.{replayed, counted}
+use Rattle.call_restart.proofs.JournalLaws.{isNext, lent-block, block-long, next-is, rest-stop, rest-none, Replaying, replay-start, replay-end, replay-room, replay-turn}
+use borrow.Author.Needs.{needs}
+use Rattle.call_restart.proofs.replay.Statement.{statement}
+use Rattle.call_restart.proofs.replay.Tie as tie
+
+abbrev Inv-loop : tie.InvT-loop
+Inv-loop n own journal values₀ stamps₀ most tally₀ values stamps tally =
+    (length values ≡ length values₀) × (length stamps ≡ length stamps₀) × Replaying n own journal (replayed 0 values₀ stamps₀) values stamps tally
+
+abbrev μ-loop : tie.MeasureT-loop
+μ-loop n own journal values₀ stamps₀ most tally₀ values stamps tally = most - tally .blocks
+
+-- past the test the block is the next
+next : (c : tie.Else2 Inv-loop μ-loop) →
+    let b = c .before .before .before .before .before .before in
+    let a = b .before .before .before .args in
+    isNext (a .n) (a .journal .now) (b .loop .tally .blocks) ≡ true
+next c =
+    let q = c .before in
+    let b = q .before .before .before .before .before in
+    let a = b .before .before .before .args in
+    next-is (a .n) (a .journal .now) (b .loop .tally .blocks) (q .is-next .result) (q .is-next .ensures) ∙ not-false _ (c .if2 .left)
+
+loop-holds : tie.Need-loop-holds Inv-loop μ-loop
+loop-holds c = let a = c .before .before .args in (refl, refl, replay-start (a .n) (a .own) (a .journal .now) (a .values .now) (a .stamps .now))
+
+cast-if1 : tie.Need-cast-if1 Inv-loop μ-loop
+cast-if1 c = search needs
+
+cast-at : tie.Need-cast-at Inv-loop μ-loop
+cast-at c = search needs
+
+mul-at : tie.Need-mul-at Inv-loop μ-loop
+mul-at c = omega arith
+
+add-block : tie.Need-add-block Inv-loop μ-loop
+add-block c = omega arith
+
+sub-block : tie.Need-sub-block Inv-loop μ-loop
+sub-block c = omega arith
+
+part-block-start : tie.Need-part-block-start Inv-loop μ-loop
+part-block-start c = omega arith
+
+part-block-end : tie.Need-part-block-end Inv-loop μ-loop
+part-block-end c = omega arith
+
+is-next-requires : tie.Need-is-next-requires Inv-loop μ-loop
+is-next-requires c κs = search needs
+
+same-length : tie.Need-same-length Inv-loop μ-loop
+same-length c = search needs
+
+same-length-2 : tie.Need-same-length-2 Inv-loop μ-loop
+same-length-2 c = search needs
+
+returns : tie.Need-returns Inv-loop μ-loop
+returns c =
+    let q = c .before in
+    let b = q .before .before .before .before .before in
+    let a = b .before .before .before .args in
+    let i = b .loop .tally .blocks in
+    replay-end (a .n) (a .own) (a .journal .now) _ (b .loop .values) (b .loop .stamps) (b .loop .tally) (b .loop .inv .2)
+    (rest-stop (a .n) (a .journal .now) i (omega arith) (next-is (a .n) (a .journal .now) i (q .is-next .result) (q .is-next .ensures) ∙ not-true _ (c .if2 .taken)))
+
+commit-block-requires : tie.Need-commit-block-requires Inv-loop μ-loop
+commit-block-requires c κs =
+    let b = c .before .before .before .before .before .before .before .before in
+    let a = b .before .before .before .args in
+    block-long (a .n) (a .journal .now) (b .loop .tally .blocks) (omega arith)
+
+count-block-requires : tie.Need-count-block-requires Inv-loop μ-loop
+count-block-requires c κs =
+    let e = c .before .before .before .before .before .before in
+    let b = e .before .before .before .before .before .before in
+    let a = b .before .before .before .args in
+    let i = b .loop .tally .blocks in
+    let r = replay-room (a .n) (a .own) (a .journal .now) _ (b .loop .values) (b .loop .stamps) (b .loop .tally) (b .loop .inv .2) (omega arith) (next e) in
+    (block-long (a .n) (a .journal .now) i (omega arith), r .0, rw (lent-block (a .n) (a .journal .now) i) (r .1))
+
+loop-less : tie.Need-loop-less Inv-loop μ-loop
+unfolding counted
+loop-less c =
+    let b = c .before .before .before .before .before .before .before .before .before .before .before .before .before in
+    let e : c .count-block .result .blocks ≡ b .loop .tally .blocks + 1 = ap (λ (t : Tally). t .blocks) (c .count-block .ensures) in
+    omega arith
+
+loop-again : tie.Need-loop-again Inv-loop μ-loop
+loop-again c =
+    let p = c .before .before .before .before in
+    let e = p .before .before .before in
+    let b = e .before .before .before .before .before .before in
+    let a = b .before .before .before .args in
+    let i = b .loop .tally .blocks in
+    let v : length (p .commit-block .last .0) ≡ length (b .loop .values) = p .commit-block .kept .0 in
+    let s : length (p .commit-block .last .1 .0) ≡ length (b .loop .stamps) = p .commit-block .kept .1 .0 in
+    let l = lent-block (a .n) (a .journal .now) i in (
+      v ∙ b .loop .inv .0,
+      s ∙ b .loop .inv .1,
+      rw (c .count-block .ensures, l)
+          (replay-turn (a .n) (a .own) (a .journal .now) _ (b .loop .values) (b .loop .stamps) (b .loop .tally) (b .loop .inv .2) (omega arith) (next e)
+          (p .commit-block .result) (p .commit-block .last .0) (p .commit-block .last .1 .0) (rw l at (p .commit-block .ensures))),
+    )
+
+same-length-3 : tie.Need-same-length-3 Inv-loop μ-loop
+same-length-3 c = search needs
+
+same-length-4 : tie.Need-same-length-4 Inv-loop μ-loop
+same-length-4 c = search needs
+
+returns-2 : tie.Need-returns-2 Inv-loop μ-loop
+returns-2 c =
+    let b = c .before .before in
+    let a = b .before .before .before .args in
+    replay-end (a .n) (a .own) (a .journal .now) _ (b .loop .values) (b .loop .stamps) (b .loop .tally) (b .loop .inv .2)
+    (rest-none (a .n) (a .journal .now) (b .loop .tally .blocks) (omega arith))
+
+pub replay-spec : {M : Type 1} → statement M
+replay-spec =
+    tie.close
+    (tie.spec
+    Inv-loop
+    μ-loop
+    loop-holds
+    cast-if1
+    cast-at
+    mul-at
+    add-block
+    sub-block
+    part-block-start
+    part-block-end
+    is-next-requires
+    same-length
+    same-length-2
+    returns
+    commit-block-requires
+    count-block-requires
+    loop-less
+    loop-again
+    same-length-3
+    same-length-4
+    returns-2)

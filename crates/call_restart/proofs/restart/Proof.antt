@@ -1,0 +1,187 @@
+-- `restart` meets its contract: refused as its make is, or what the journal's blocks leave of the parts just made.
+use mathlib.Core.Path.{_≡_, _∙_}
+use mathlib.Core.List.{List, []}
+use native.Mathlib.Omega.{arith}
+use lib.ListN.{length, replicate}
+use Rattle.memory.specs.declared.Counts.{Counts}
+use Rattle.memory.specs.declared.Turn.{Turn}
+use Rattle.memory.specs.declared.Txn.{Txn}
+use Rattle.memory.specs.Memory.{Memory}
+use Rattle.memory.specs.Rows.{closed}
+use Rattle.engine.specs.Make.{turnZero, countsFor}
+use Rattle.call_reply.specs.Parts.{allParts}
+use Rattle.call_reply.specs.Replies.{restartReply}
+use Rattle.call_reply.proofs.ReplyLaws.{gives-with}
+use Rattle.call_make.proofs.MakeLaws.{Given}
+use Rattle.call_restart.specs.Replays.{answered}
+use Rattle.call_restart.proofs.AnswerLaws.{restart-other, restart-refused, restart-given, restart-taken}
+use borrow.Author.Needs.{needs}
+use Rattle.call_restart.proofs.restart.Statement.{statement}
+use Rattle.call_restart.proofs.restart.Tie as tie
+
+-- the memory lent, with any turn, counts and table
+abbrev before : tie.Start → Turn → Counts → List Txn → Memory
+before s turn counts rows =
+    let a = s .args in
+    allParts turn counts rows (a .queue .now) (a .items .now) (a .writes .now) (a .snapshots .now) (a .values .now) (a .stamps .now) (a .places .now) (a .outbox .now)
+
+refused-requires : tie.Need-refused-requires
+refused-requires c κs = search needs
+
+returns : tie.Need-returns
+returns c =
+    let s = c .before .before .before .before .before .before .before .before .before in
+    let a = s .args in
+    rw (c .refused .ensures)
+    (λ turn counts rows. gives-with restartReply (a .block .now) (restart-other (before s turn counts rows) (a .n) (a .own) (a .start .now) (a .journal .now) (a .block .now) (c .before .if1 .taken)))
+
+make-requires : tie.Need-make-requires
+make-requires c κs = search needs
+
+refused-requires-2 : tie.Need-refused-requires-2
+refused-requires-2 c κs = search needs
+
+same-length : tie.Need-same-length
+same-length c = search needs
+
+same-length-2 : tie.Need-same-length-2
+same-length-2 c = search needs
+
+same-length-3 : tie.Need-same-length-3
+same-length-3 c = search needs
+
+same-length-4 : tie.Need-same-length-4
+same-length-4 c = search needs
+
+same-length-5 : tie.Need-same-length-5
+same-length-5 c = search needs
+
+same-length-6 : tie.Need-same-length-6
+same-length-6 c = search needs
+
+same-length-7 : tie.Need-same-length-7
+same-length-7 c = search needs
+
+same-length-8 : tie.Need-same-length-8
+same-length-8 c = search needs
+
+returns-2 : tie.Need-returns-2
+returns-2 c =
+    let d = c .before .before .before .before .before .before .before .before .before .before .before .before .before .before .before .before in
+    let s = d .before .before .before .before .before .before .before .before .before .before .before .before .before .before .before .before .before in
+    let a = s .args in
+    rw (c .refused2 .ensures)
+    (λ turn counts rows.
+    gives-with restartReply (a .block .now)
+    (restart-refused (before s turn counts rows) (a .n) (a .own) (a .start .now) (a .journal .now) (a .block .now) (d .before .before .before .before .before .before .before .before .before .if1 .left)
+    (d .make .result .number) _ (d .make .ensures .0 turn counts rows) (c .before .if2 .taken) turnZero (countsFor 0 0) (replicate 6 closed)))
+
+-- what is known once the restart is not refused
+taken : (c : tie.Else2) → let s = c .before .before .before .before .before .before .before .before .before .before .before .before .before .before .before .before .before .before .before .before .before .before .before .before .before .before .before .before .before .before .before .before in Given (before s turnZero (countsFor 0 0) []) (s .args .n) (s .args .own) (s .args .start .now)
+taken c =
+    let d = c .before .before .before .before .before .before .before .before .before .before .before .before .before .before .before in
+    let s = d .before .before .before .before .before .before .before .before .before .before .before .before .before .before .before .before .before in
+    let a = s .args in
+    restart-given (before s turnZero (countsFor 0 0) []) (a .n) (a .own) (a .start .now) (a .journal .now) (a .block .now) (d .before .before .before .before .before .before .before .before .before .if1 .left)
+    (d .make .result .number) _ (d .make .ensures .0 turnZero (countsFor 0 0) []) (c .if2 .left)
+
+replay-requires : tie.Need-replay-requires
+replay-requires c κs = search needs
+
+give-back-requires : tie.Need-give-back-requires
+give-back-requires c κs = (c .before .before .before .before .before .before .before .before .before .before .before .before .before .before .before .before .before .before .before .before .before .before .before .before .before .before .before .before .before .before .before .if1 .left, c .before .before .before .before .replay .ensures .last-there)
+
+cast-answer : tie.Need-cast-answer
+cast-answer c = omega (arith, taken (c .before .before .before .before .before .before .before .before .before .before) .most)
+
+cast-answer-2 : tie.Need-cast-answer-2
+cast-answer-2 c = let g = taken (c .before .before .before .before .before .before .before .before .before .before) in omega (arith, g .most, g .own-low)
+
+answer-requires : tie.Need-answer-requires
+answer-requires c κs = search needs
+
+same-length-9 : tie.Need-same-length-9
+same-length-9 c = c .before .before .before .before .before .before .before .before .before .before .before .before .before .before .before .before .before .before .before .before .before .before .before .before .before .before .make .kept .1 .1 .1 .0
+
+same-length-10 : tie.Need-same-length-10
+same-length-10 c = c .before .before .before .before .before .before .before .before .before .before .before .before .before .before .before .before .before .before .before .before .before .before .before .before .before .before .make .kept .1 .1 .1 .1 .0
+
+same-length-11 : tie.Need-same-length-11
+same-length-11 c = c .before .before .before .before .before .before .before .before .before .before .before .before .before .before .before .before .before .before .before .before .before .before .before .before .before .before .make .kept .1 .1 .1 .1 .1 .0
+
+same-length-12 : tie.Need-same-length-12
+same-length-12 c = c .before .before .before .before .before .before .before .before .before .before .before .before .before .before .before .before .before .before .before .before .before .before .before .before .before .before .make .kept .1 .1 .1 .1 .1 .1 .0
+
+same-length-13 : tie.Need-same-length-13
+same-length-13 c =
+    let r = c .before .before .before .before .before .before .before .before in
+    let d = r .before .before .before .before .before .before .before .before .before .before .before .before .before .before .before .before .before .before in
+    let v : length (r .replay .last .1 .1 .1 .0) ≡ length (d .make .last .1 .1 .1 .1 .1 .1 .1 .0) = r .replay .kept .1 .1 .1 .0 in
+    let w : length (d .make .last .1 .1 .1 .1 .1 .1 .1 .0) ≡ length (d .before .before .before .before .before .before .before .before .before .before .before .before .before .before .before .before .before .args .values .now) = d .make .kept .1 .1 .1 .1 .1 .1 .1 .0 in
+    v ∙ w
+
+same-length-14 : tie.Need-same-length-14
+same-length-14 c =
+    let r = c .before .before .before .before .before .before .before .before in
+    let d = r .before .before .before .before .before .before .before .before .before .before .before .before .before .before .before .before .before .before in
+    let v : length (r .replay .last .1 .1 .1 .1 .0) ≡ length (d .make .last .1 .1 .1 .1 .1 .1 .1 .1 .0) = r .replay .kept .1 .1 .1 .1 .0 in
+    let w : length (d .make .last .1 .1 .1 .1 .1 .1 .1 .1 .0) ≡ length (d .before .before .before .before .before .before .before .before .before .before .before .before .before .before .before .before .before .args .stamps .now) = d .make .kept .1 .1 .1 .1 .1 .1 .1 .1 .0 in
+    v ∙ w
+
+same-length-15 : tie.Need-same-length-15
+same-length-15 c = c .before .before .before .before .before .before .before .before .before .before .before .before .before .before .before .before .before .before .before .before .before .before .before .before .before .before .make .kept .1 .1 .1 .1 .1 .1 .1 .1 .1 .0
+
+same-length-16 : tie.Need-same-length-16
+same-length-16 c = search needs
+
+same-length-17 : tie.Need-same-length-17
+same-length-17 c = search needs
+
+returns-3 : tie.Need-returns-3
+unfolding answered
+returns-3 c =
+    let g = c .before .before .before in
+    let r = g .before .before .before .before .before in
+    let e = r .before .before .before in
+    let d = e .before .before .before .before .before .before .before .before .before .before .before .before .before .before .before in
+    let s = d .before .before .before .before .before .before .before .before .before .before .before .before .before .before .before .before .before in
+    let a = s .args in
+    rw (c .answer .ensures, g .give-back .ensures)
+    (λ turn counts rows.
+    gives-with restartReply (a .block .now)
+    (restart-taken (before s turn counts rows) (a .n) (a .own) (a .start .now) (a .journal .now) (a .block .now) (d .before .before .before .before .before .before .before .before .before .if1 .left)
+    (d .make .result .number) _ (d .make .ensures .0 turn counts rows) (e .if2 .left)
+    (r .replay .result) _ _ (r .replay .ensures)))
+
+pub restart-spec : {M : Type 1} → statement M
+restart-spec =
+    tie.close
+    (tie.spec
+    refused-requires
+    returns
+    make-requires
+    refused-requires-2
+    same-length
+    same-length-2
+    same-length-3
+    same-length-4
+    same-length-5
+    same-length-6
+    same-length-7
+    same-length-8
+    returns-2
+    replay-requires
+    give-back-requires
+    cast-answer
+    cast-answer-2
+    answer-requires
+    same-length-9
+    same-length-10
+    same-length-11
+    same-length-12
+    same-length-13
+    same-length-14
+    same-length-15
+    same-length-16
+    same-length-17
+    returns-3)

@@ -1,0 +1,56 @@
+-- What a restart knows of the journal's blocks while it reads them.
+use Prim.Native.Nat.{ℕ, zero, suc, _+_, _-_, _*_, _≤_, max}
+use mathlib.Core.Path.{_≡_}
+use mathlib.Core.Bool.{cond}
+use mathlib.Core.List.{List}
+use lib.IntN.{ℤ}
+use lib.ListN.{length, getD, take, drop, replicate}
+use Rattle.call_reply.specs.declared.Restarted.{Restarted}
+use Rattle.engine.specs.Restart.{Replayed, blocksIn, writesetsIn, commitBlocks, isFrom, highestTicket, highestOwn, ownWritesets, lastOwn}
+use Rattle.call_restart.specs.declared.Tally.{Tally}
+
+-- commit count, values and stamps
+abbrev pub replayed : ℕ → List ℤ → List ℕ → Replayed
+replayed commits values stamps = record { commits = commits; store = record { values = values; stamps = stamps } }
+
+-- the k-th block of a journal, counted from 1; 512 zeros for the 0-th
+unfoldable pub blockNumber : ℕ → List ℕ → List ℕ
+blockNumber zero journal = replicate 512 0
+blockNumber (suc k) journal = take 512 (drop (512 * k) journal)
+
+-- one block more, with the commit count behind it
+unfoldable pub counted : ℕ → Tally → ℕ → List ℕ → Tally
+counted own r commits b = record {
+  blocks = r .blocks + 1;
+  commits = commits;
+  highest = cond (isFrom own b) (max (r .highest) (highestTicket (writesetsIn b))) (r .highest);
+  committed = cond (isFrom own b) (r .committed + getD b 3 0) (r .committed);
+  last = cond (isFrom own b) (r .blocks + 1) (r .last);
+}
+
+-- all blocks of a journal, from the values and stamps before them
+pub record Replays (n own : ℕ) (journal : List ℕ) (before : Replayed) (values : List ℤ) (stamps : List ℕ) (r : Tally) : Type 0 where
+  pub blocks : r .blocks ≡ length (blocksIn n journal)
+  pub store : replayed (r .commits) values stamps ≡ commitBlocks before (blocksIn n journal)
+  pub highest : r .highest ≡ highestOwn own (blocksIn n journal)
+  pub committed : r .committed ≡ ownWritesets own (blocksIn n journal)
+  pub last : blockNumber (r .last) journal ≡ lastOwn own (replicate 512 0) (blocksIn n journal)
+  pub last-there : 512 * r .last ≤ length journal
+
+-- what the restart is then answered
+unfoldable pub answered : ℕ → ℕ → Tally → Restarted
+answered n own r = record {
+  reply = record { number = 0; count = r .blocks };
+  turn = record { slot = r .blocks; sent = 0; applying = 0 };
+  counts = record {
+    replicas = n;
+    own = own;
+    commits = r .commits;
+    done = 0;
+    tickets = r .highest;
+    committed = r .committed;
+    «read_only» = 0;
+    aborted = r .highest - r .committed;
+    withdrawn = 0;
+  };
+}

@@ -1,0 +1,259 @@
+// A restart from a journal: the blocks that it has in slot order are committed, and the last own one is given back.
+ghost use mathlib.Core.Path.{_≡_};
+ghost use mathlib.Core.Bool.{_&&_};
+ghost use mathlib.Core.List.{List};
+ghost use lib.Dec.{eqb};
+ghost use lib.ListN.{length, getD, replicate};
+ghost use Prim.Native.Nat.{_+_, _*_, _≤_, _<_, max};
+ghost use Rattle.block.specs.Answers.{headerOf};
+ghost use Rattle.memory.specs.declared.Counts.{Counts};
+ghost use Rattle.memory.specs.declared.Turn.{Turn};
+ghost use Rattle.memory.specs.declared.Txn.{Txn};
+ghost use Rattle.memory.specs.Rows.{closed};
+ghost use Rattle.engine.specs.Make.{turnZero, countsFor};
+ghost use Rattle.engine.specs.Restart.{isGood, writesetsIn, commitAll, highestTicket, restartStep};
+ghost use Rattle.call_reply.specs.Parts.{allParts};
+ghost use Rattle.call_reply.specs.Replies.{restartReply, GivesWith};
+ghost use Rattle.call_make.specs.Made.{ifMade};
+ghost use Rattle.call_restart.specs.Replays.{replayed, blockNumber, counted, Replays, answered};
+use block::Read;
+use block_reader::read_block;
+use block_reader::record_at;
+use call_commit::apply;
+use call_make::make;
+use call_reply::RestartReply;
+use call_reply::Restarted;
+use call_reply::replies::no_restart;
+use memory::Counts;
+use memory::Turn;
+use memory::rows::bump;
+use memory::rows::clear_bytes;
+
+// What the blocks read so far come to: how many they are, the commit count behind them, and of the own ones the highest ticket, how many writesets they have, and
+// which is the last: how many blocks there are up to it, 0 where none is own.
+struct Tally {
+    blocks: u32,
+    commits: u32,
+    highest: u32,
+    committed: u32,
+    last: u32,
+}
+
+// Whether the bytes are a good block of a group of n and for that slot.
+fn is_next(block: &[u8], n: u32, slot: u32) -> bool
+    ensures { λ r. ⌜ r ≡ (isGood n (now (block .entry)) && eqb (headerOf (now (block .entry)) .slot) slot) ⌝ }
+{
+    let read = read_block(block);
+    let Read::Message(header) = read else {
+        return false;
+    };
+    if header.replicas as u32 != n {
+        return false;
+    }
+    header.slot == slot
+}
+
+// The block's writesets in order; the commit count behind them.
+fn commit_block(values: &mut [i32], stamps: &mut [u32], block: &[u8], commits: u32) -> u32
+    requires { ⌜ length (now block) ≡ 512 ⌝ }
+    ensures { λ r. ⌜ replayed r (now (values .exit)) (now (stamps .exit))
+        ≡ commitAll (replayed commits (now (values .entry)) (now (stamps .entry))) (writesetsIn (now (block .entry))) ⌝ }
+{
+    let count = block[3] as usize;
+    let mut after = commits;
+    let mut j: usize = 0;
+    while j < count {
+        after = bump(after);
+        apply(&mut *values, &mut *stamps, block, j, after);
+        j += 1;
+    }
+    after
+}
+
+// The ticket, or a higher one of the block's writesets: the highest.
+fn highest_ticket(ticket: u32, block: &[u8]) -> u32
+    requires { ⌜ length (now block) ≡ 512 ⌝ }
+    ensures { λ r. ⌜ r ≡ max ticket (highestTicket (writesetsIn (now (block .entry)))) ⌝ }
+{
+    let count = block[3] as usize;
+    let mut highest = ticket;
+    let mut j: usize = 0;
+    while j < count {
+        let other = record_at(block, j).ticket;
+        if highest < other {
+            highest = other;
+        }
+        j += 1;
+    }
+    highest
+}
+
+// One block more, with the commit count behind it.
+fn count_block(before: Tally, commits: u32, own: u32, block: &[u8]) -> Tally
+    requires { ⌜ (length (now block) ≡ 512) × (before .blocks < 4294967295) × (before .committed + getD (now block) 3 0 ≤ 4294967295) ⌝ }
+    ensures { λ r. ⌜ r ≡ counted own before commits (now (block .entry)) ⌝ }
+{
+    let next = before.blocks + 1;
+    let mut after = before;
+    after.blocks = next;
+    after.commits = commits;
+    if block[1] as u32 != own {
+        return after;
+    }
+    after.highest = highest_ticket(before.highest, block);
+    after.committed = before.committed + block[3] as u32;
+    after.last = next;
+    after
+}
+
+// The journal's blocks, each read and committed where it lies, up to one that is not the next good one.
+fn replay(n: u32, own: u32, journal: &[u8], values: &mut [i32], stamps: &mut [u32]) -> Tally
+    ensures { λ r. ⌜ Replays n own (now (journal .entry)) (replayed 0 (now (values .entry)) (now (stamps .entry))) (now (values .exit)) (now (stamps .exit)) r ⌝ }
+{
+    let most = journal.len() / 512;
+    let mut tally = Tally {
+        blocks: 0,
+        commits: 0,
+        highest: 0,
+        committed: 0,
+        last: 0,
+    };
+    while (tally.blocks as usize) < most {
+        let at = 512 * tally.blocks as usize;
+        let block = &journal[at..at + 512];
+        if !is_next(block, n, tally.blocks) {
+            return tally;
+        }
+        let commits = commit_block(&mut *values, &mut *stamps, block, tally.commits);
+        let after = count_block(tally, commits, own, block);
+        tally = after;
+    }
+    tally
+}
+
+// The k-th block of the journal, counted from 1; zeros for the 0-th.
+fn give_back(journal: &[u8], k: u32, block: &mut [u8])
+    requires { ⌜ (length (now block) ≡ 512) × (512 * k ≤ length (now journal)) ⌝ }
+    ensures { λ _. ⌜ now (block .exit) ≡ blockNumber k (now (journal .entry)) ⌝ }
+{
+    if k == 0 {
+        clear_bytes(&mut *block);
+        return;
+    }
+    let at = 512 * (k - 1) as usize;
+    let mut i: usize = 0;
+    while i < 512 {
+        block[i] = journal[at + i];
+        i += 1;
+    }
+}
+
+// A refused restart: the turn and the counts are not stored.
+fn refused(number: u8) -> Restarted
+    ensures { λ r. ⌜ r ≡ record { reply = record { number = number; count = 0 }; turn = turnZero; counts = countsFor 0 0 } ⌝ }
+{
+    Restarted {
+        reply: no_restart(number),
+        turn: Turn {
+            slot: 0,
+            sent: 0,
+            applying: 0,
+        },
+        counts: Counts {
+            replicas: 0,
+            own: 0,
+            commits: 0,
+            done: 0,
+            tickets: 0,
+            committed: 0,
+            read_only: 0,
+            aborted: 0,
+            withdrawn: 0,
+        },
+    }
+}
+
+// The turn behind the blocks committed, and the counts by them. The own blocks of an altered journal may have more writesets than their highest ticket says.
+fn answer(replicas: u8, own: u8, tally: Tally) -> Restarted
+    ensures { λ r. ⌜ r ≡ answered replicas own tally ⌝ }
+{
+    let mut aborted: u32 = 0;
+    if tally.committed < tally.highest {
+        aborted = tally.highest - tally.committed;
+    }
+    Restarted {
+        reply: RestartReply {
+            number: 0,
+            count: tally.blocks,
+        },
+        turn: Turn {
+            slot: tally.blocks,
+            sent: 0,
+            applying: 0,
+        },
+        counts: Counts {
+            replicas: replicas,
+            own: own,
+            commits: tally.commits,
+            done: 0,
+            tickets: tally.highest,
+            committed: tally.committed,
+            read_only: 0,
+            aborted: aborted,
+            withdrawn: 0,
+        },
+    }
+}
+
+// What a make is lent, a journal of any length, and 512 bytes for the block that is given back: the last own one of those committed, zeros where there is none.
+pub fn restart(
+    n: u32,
+    own: u32,
+    start: &[i32],
+    queue: &mut [u32],
+    items: &mut [u8],
+    writes: &mut [i32],
+    snapshots: &mut [i32],
+    values: &mut [i32],
+    stamps: &mut [u32],
+    places: &mut [u8],
+    outbox: &mut [u8],
+    journal: &[u8],
+    block: &mut [u8],
+) -> Restarted
+    ensures { λ r. ⌜ ((turn : Turn) (counts : Counts) (rows : List Txn) →
+        GivesWith restartReply
+        (restartStep
+        (allParts turn counts rows (now (queue .entry)) (now (items .entry)) (now (writes .entry)) (now (snapshots .entry))
+        (now (values .entry)) (now (stamps .entry)) (now (places .entry)) (now (outbox .entry)))
+        n own (now (start .entry)) (now (journal .entry)) (now (block .entry)))
+        (now (block .entry))
+        (r .reply)
+        (allParts (ifMade (r .reply .number) (r .turn) turn) (ifMade (r .reply .number) (r .counts) counts) (ifMade (r .reply .number) (replicate 6 closed) rows)
+        (now (queue .exit)) (now (items .exit)) (now (writes .exit)) (now (snapshots .exit))
+        (now (values .exit)) (now (stamps .exit)) (now (places .exit)) (now (outbox .exit)))
+        (now (block .exit))) ⌝ }
+{
+    if block.len() != 512 {
+        return refused(1);
+    }
+    let made = make(
+        n,
+        own,
+        start,
+        &mut *queue,
+        &mut *items,
+        &mut *writes,
+        &mut *snapshots,
+        &mut *values,
+        &mut *stamps,
+        &mut *places,
+        &mut *outbox,
+    );
+    if made.number != 0 {
+        return refused(made.number);
+    }
+    let tally = replay(n, own, journal, &mut *values, &mut *stamps);
+    give_back(journal, tally.last, &mut *block);
+    answer(n as u8, own as u8, tally)
+}
