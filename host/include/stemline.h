@@ -15,69 +15,47 @@
  * - The block goes to every replica of the group, the sender too, in any order, as
  *   often as you like. Each takes it with stemline_replica_take.
  *
+ * A replica that is to outlast a cut of the power has a journal: a file of blocks,
+ * one behind the other, which the host keeps. A file that is new is durable once
+ * its folder is (fsync).
+ *
+ * - Send: append the block, make the file durable (fsync), then hand the block out.
+ * - Work and take: append the blocks that they give for it, in order, before the
+ *   block of the next send. They are durable early enough with that one.
+ * - After a cut: read the file whole and call stemline_replica_restart; cut the
+ *   file to the blocks committed and make it durable; then hand the block that was
+ *   given back out once more. What waited at the replica is gone: every other one
+ *   hands it its last block once more.
+ * - With c blocks committed, a cut leaves at most (own + n - c % n) % n + 1 blocks
+ *   behind them, those up to the next own slot. A file with more is damaged or of a
+ *   group of another n: do not cut it. Nothing else tells another's journal.
+ * - Where the disk fails, hand nothing out and call nothing more. After a failed
+ *   fsync a block may be readable, count as written, and not be on the disk: first
+ *   cut the file to its length at the last good fsync, then restart. A restart does
+ *   not know that length: before its fsync write the last n blocks once more, in
+ *   place.
+ *
  * A call answers 0 where it is accepted, else the number of the first condition
  * that holds, in the order that its comment names; stemline_words says what a
  * number stands for. A refused call changes nothing; only STEMLINE_STALE ends its
  * transaction. Every call is defined on any content of the memory, and returns.
  *
- * host/examples/first.c is a whole program, host/examples/story.c a longer one.
+ * host/examples/first.c is a whole program, host/examples/story.c a longer one,
+ * host/examples/durable.c one with a journal.
  *
  * Calls at one replica come one after the other. Who keeps the parts of a replica
  * elsewhere than in a stemline_replica lends each call those that it needs: see
- * "The calls over lent parts". */
+ * stemline_calls.h, which also has the limits, the numbers and the answers. */
 #ifndef STEMLINE_H
 #define STEMLINE_H
 
-#include <stdbool.h>
-#include <stddef.h>
-#include <stdint.h>
 #include <string.h>
+
+#include "stemline_calls.h"
 
 #ifdef __cplusplus
 extern "C" {
 #endif
-
-/* ---- The limits */
-
-#define STEMLINE_REPLICAS 6      /* the most replicas of a group; the fewest are 2 */
-#define STEMLINE_SLOTS 100000000 /* slots of a run; a replica at this turn has processed them all */
-#define STEMLINE_TABLE 6         /* rows of the table: the most open transactions */
-#define STEMLINE_QUEUE 6         /* tickets of the queue: those asked and not yet sent */
-#define STEMLINE_ITEMS 128       /* items of a replica; as many values, stamps and values to start with */
-#define STEMLINE_WRITTEN 48      /* written items of all rows, 8 for each; as many values beside them */
-#define STEMLINE_SNAPSHOTS 768   /* values of all snapshots, 128 for each row */
-#define STEMLINE_BLOCK 512       /* bytes of a block */
-#define STEMLINE_STEPS 36        /* the most steps of one take: 6 blocks wait at most, of 6 writesets each */
-/* bytes of the places of n replicas */
-#define STEMLINE_PLACES(n) (STEMLINE_BLOCK * (size_t)(n))
-
-/* ---- The numbers */
-
-enum stemline_number {
-    STEMLINE_ACCEPTED = 0,
-    STEMLINE_WRONG_LENGTH = 1,
-    STEMLINE_OUT_OF_RANGE = 2,
-    STEMLINE_NOT_OPEN = 3,
-    STEMLINE_NOT_ACTIVE = 4,
-    STEMLINE_ALL_OPEN = 5,
-    STEMLINE_TICKETS_SPENT = 6,
-    STEMLINE_APPLYING = 7,
-    STEMLINE_LOCKED = 8,
-    STEMLINE_STALE = 9,
-    STEMLINE_WRITESET_FULL = 10,
-    STEMLINE_NOT_OUR_TURN = 11,
-    STEMLINE_ALREADY_SENT = 12,
-    STEMLINE_SLOTS_SPENT = 13,
-    STEMLINE_WRONG_CHECK = 14,
-    STEMLINE_WRONG_FORM = 15,
-    STEMLINE_WRONG_GROUP = 16,
-    STEMLINE_PAST_SLOT = 17,
-    STEMLINE_FAR_SLOT = 18,
-    STEMLINE_NOT_SENT = 19,
-    STEMLINE_SLOT_TAKEN = 20,
-    STEMLINE_NOTHING_WAITS = 21,
-    STEMLINE_NOT_OPEN_AS_SENT = 22
-};
 
 /* What a number stands for. */
 static inline const char *stemline_words(int number) {
@@ -112,30 +90,6 @@ static inline const char *stemline_words(int number) {
 
 /* ---- What a replica holds */
 
-/* An open transaction. Ticket 0 is a free row. Stage 0 is active, 1 asked, 2 sent. */
-typedef struct stemline_txn {
-    uint32_t ticket;
-    uint32_t stage;
-    uint32_t snapshot; /* the commit count at its begin */
-    uint32_t writes;   /* how many items it has written */
-} stemline_txn;
-
-/* A mark is off where it is 0, on where it is any other number. */
-typedef struct stemline_turn {
-    uint32_t slot;    /* the slot that is processed next */
-    uint8_t sent;     /* mark: the own block for it was sent */
-    uint8_t applying; /* mark: a block of another replica is committed in part */
-} stemline_turn;
-
-typedef struct stemline_counts {
-    uint8_t replicas; /* n */
-    uint8_t own;      /* the replica's own number */
-    uint32_t commits; /* writesets committed, own and others' */
-    uint8_t done;     /* writesets committed of the block at the turn */
-    uint32_t tickets; /* tickets given */
-    uint32_t committed, read_only, aborted, withdrawn; /* how own transactions ended */
-} stemline_counts;
-
 /* All of it, for a group of any size. The values committed are in values, by
  * item, for everybody to look at; only calls change anything. */
 typedef struct stemline_replica {
@@ -153,114 +107,26 @@ typedef struct stemline_replica {
     uint8_t outbox[STEMLINE_BLOCK]; /* the block sent last */
 } stemline_replica;
 
-/* ---- What a call answers. All but the number is 0 where it is refused. */
+/* ---- What a take answers */
 
-typedef struct stemline_begin_reply {
-    uint8_t number;
-    uint32_t ticket;
-} stemline_begin_reply;
-
-typedef struct stemline_read_reply {
-    uint8_t number;
-    int32_t value;
-} stemline_read_reply;
-
-typedef struct stemline_ask_reply {
-    uint8_t number;
-    bool read_only; /* it had no writes: it has committed and ended */
-} stemline_ask_reply;
-
-typedef struct stemline_report_values {
-    uint32_t turn, commits, tickets;
-    uint32_t open_count; /* open transactions */
-    uint32_t committed, read_only, aborted, withdrawn;
-} stemline_report_values;
-
-typedef struct stemline_report_reply {
-    uint8_t number;
-    stemline_report_values report;
-} stemline_report_reply;
-
-typedef struct stemline_work_reply {
-    uint8_t number;
-    uint8_t sender;
-    bool moved;      /* the turn went up */
-    uint8_t count;   /* how many of aborted count */
-    uint32_t ticket; /* of the writeset committed; 0 for a block without records */
-    uint32_t aborted[STEMLINE_TABLE]; /* own tickets aborted, rising, zeros behind */
-} stemline_work_reply;
+#define STEMLINE_STEPS 36 /* the most steps of one take: 6 blocks wait at most, of 6 writesets each */
 
 typedef struct stemline_take_reply {
     uint8_t number;  /* the deliver's: a take is refused where its deliver is */
     uint8_t refused; /* the number, other than 21, of a work that ended the steps; 0 where none did */
     uint8_t count;   /* how many of steps count */
     stemline_work_reply steps[STEMLINE_STEPS]; /* zeros behind */
+    uint8_t append_count; /* how many blocks of append count */
+    uint8_t append[STEMLINE_REPLICAS][STEMLINE_BLOCK]; /* for the journal, in order, zeros behind */
 } stemline_take_reply;
-
-/* ---- The calls over lent parts
- *
- * Each does what the function over a stemline_replica of its name does, further
- * down. A lent array is a pointer and its number of elements; the pointer is
- * aligned and not null, and no two lent parts overlap. The lengths are those that
- * the arrays have in stemline_replica, but the places are STEMLINE_PLACES(n) long;
- * the values to start with are 128, a block is 512 bytes. A wrong length is 1, and
- * is tested first; at a make with an n out of range the places may have any. */
-
-uint8_t stemline_make(
-    stemline_txn *table, size_t table_length, stemline_turn *turn, stemline_counts *counts,
-    uint32_t n, uint32_t own, const int32_t *start, size_t start_length,
-    uint32_t *queue, size_t queue_length, uint8_t *items, size_t items_length,
-    int32_t *writes, size_t writes_length, int32_t *snapshots, size_t snapshots_length,
-    int32_t *values, size_t values_length, uint32_t *stamps, size_t stamps_length,
-    uint8_t *places, size_t places_length, uint8_t *outbox, size_t outbox_length);
-
-stemline_begin_reply stemline_begin(
-    stemline_txn *table, size_t table_length, stemline_counts *counts,
-    const int32_t *values, size_t values_length, int32_t *snapshots, size_t snapshots_length);
-
-stemline_read_reply stemline_read(
-    const stemline_txn *table, size_t table_length, uint32_t ticket,
-    const uint8_t *items, size_t items_length, const int32_t *writes, size_t writes_length,
-    const int32_t *snapshots, size_t snapshots_length, uint32_t item);
-
-uint8_t stemline_write(
-    stemline_txn *table, size_t table_length, const stemline_turn *turn, stemline_counts *counts,
-    uint32_t ticket, uint8_t *items, size_t items_length, int32_t *writes, size_t writes_length,
-    const uint32_t *stamps, size_t stamps_length, uint32_t item, int32_t value);
-
-stemline_ask_reply stemline_ask(
-    stemline_txn *table, size_t table_length, stemline_counts *counts, uint32_t ticket,
-    uint32_t *queue, size_t queue_length);
-
-uint8_t stemline_withdraw(
-    stemline_txn *table, size_t table_length, stemline_counts *counts, uint32_t ticket);
-
-stemline_report_reply stemline_report(
-    const stemline_txn *table, size_t table_length, const stemline_turn *turn,
-    const stemline_counts *counts);
-
-uint8_t stemline_send(
-    stemline_txn *table, size_t table_length, stemline_turn *turn, const stemline_counts *counts,
-    uint32_t *queue, size_t queue_length, const uint8_t *items, size_t items_length,
-    const int32_t *writes, size_t writes_length, uint8_t *outbox, size_t outbox_length,
-    uint8_t *block, size_t block_length);
-
-uint8_t stemline_deliver(
-    const stemline_turn *turn, const stemline_counts *counts, uint8_t *places, size_t places_length,
-    const uint8_t *outbox, size_t outbox_length, const uint8_t *bytes, size_t bytes_length);
-
-stemline_work_reply stemline_work(
-    stemline_txn *table, size_t table_length, stemline_turn *turn, stemline_counts *counts,
-    uint32_t *queue, size_t queue_length, const uint8_t *items, size_t items_length,
-    int32_t *values, size_t values_length, uint32_t *stamps, size_t stamps_length,
-    uint8_t *places, size_t places_length);
 
 /* ---- The calls at a replica
  *
  * r is not null; an array that is given beside it does not lie in it. */
 
 /* The bytes of the places that a call is lent for a group of n. For an n above 6
- * they are all that there are, and a make is refused by 2, deliver and work by 1. */
+ * they are all that there are, and make and restart are refused by 2, deliver and
+ * work by 1. */
 static inline size_t stemline_lent_places(uint32_t n) {
     return STEMLINE_PLACES(n < STEMLINE_REPLICAS ? n : STEMLINE_REPLICAS);
 }
@@ -274,6 +140,23 @@ static inline uint8_t stemline_replica_make(
         r->queue, STEMLINE_QUEUE, r->items, STEMLINE_WRITTEN, r->writes, STEMLINE_WRITTEN,
         r->snapshots, STEMLINE_SNAPSHOTS, r->values, STEMLINE_ITEMS, r->stamps, STEMLINE_ITEMS,
         r->places, stemline_lent_places(n), r->outbox, STEMLINE_BLOCK);
+}
+
+/* As a make, with the values that the group started with; then commits the blocks
+ * of a journal, up to the first that is torn, fails its check or form, has another n
+ * or is not of the next slot. Transactions that were open are gone; tickets go on
+ * above the highest in its own blocks. The block given back is the last own one
+ * of those committed, to be handed out once more, or 512 zeros if there is none.
+ * The journal may have any length; with length 0 it may be null. Refused by 2. */
+static inline stemline_restart_reply stemline_replica_restart(
+    stemline_replica *r, uint32_t n, uint32_t own, const int32_t start[STEMLINE_ITEMS],
+    const uint8_t *journal, size_t length, uint8_t block[STEMLINE_BLOCK]) {
+    return stemline_restart(
+        r->table, STEMLINE_TABLE, &r->turn, &r->counts, n, own, start, STEMLINE_ITEMS,
+        r->queue, STEMLINE_QUEUE, r->items, STEMLINE_WRITTEN, r->writes, STEMLINE_WRITTEN,
+        r->snapshots, STEMLINE_SNAPSHOTS, r->values, STEMLINE_ITEMS, r->stamps, STEMLINE_ITEMS,
+        r->places, stemline_lent_places(n), r->outbox, STEMLINE_BLOCK,
+        length > 0 ? journal : (const uint8_t *)"", length, block, STEMLINE_BLOCK);
 }
 
 /* Opens a transaction on the values as they are now and gives its ticket.
@@ -328,7 +211,8 @@ static inline bool stemline_replica_is_turn(const stemline_replica *r) {
 }
 
 /* Writes the block for the own slot, with all that is asked, be it nothing. It
- * goes to every replica of the group, this one too. Refused by 13, 11, 12. */
+ * goes to the journal, and from there, once it is durable, to every replica of the
+ * group, this one too. Refused by 13, 11, 12. */
 static inline uint8_t stemline_replica_send(stemline_replica *r, uint8_t block[STEMLINE_BLOCK]) {
     return stemline_send(
         r->table, STEMLINE_TABLE, &r->turn, &r->counts, r->queue, STEMLINE_QUEUE,
@@ -346,18 +230,21 @@ static inline uint8_t stemline_replica_deliver(
 }
 
 /* Takes one step at the block of the turn: commits its next writeset, or passes
- * over a block without records. Refused by 1, 21, 22. */
-static inline stemline_work_reply stemline_replica_work(stemline_replica *r) {
+ * over a block without records. Where the turn leaves another's slot, the block
+ * that stood there is written to block and append is true: it goes to the journal.
+ * Else block stays as it is. Refused by 1, 21, 22. */
+static inline stemline_work_reply stemline_replica_work(
+    stemline_replica *r, uint8_t block[STEMLINE_BLOCK]) {
     return stemline_work(
         r->table, STEMLINE_TABLE, &r->turn, &r->counts, r->queue, STEMLINE_QUEUE,
         r->items, STEMLINE_WRITTEN, r->values, STEMLINE_ITEMS, r->stamps, STEMLINE_ITEMS,
-        r->places, stemline_lent_places(r->counts.replicas));
+        r->places, stemline_lent_places(r->counts.replicas), block, STEMLINE_BLOCK);
 }
 
 /* What a replica does with a block that arrives: delivers it, then works until
  * nothing waits for the turn. Gives the steps in their order: none where the
  * block is early and has to wait; those of blocks that waited already too, where
- * this is the one that they waited for.
+ * this is the one that they waited for. The blocks to append go to the journal.
  * Refused by 1, 14, 15, 16, 17, 18, 19, 20, as the deliver is: nothing is worked,
  * and what waits already goes on waiting. So it is with a block that comes a
  * second time (17 or 20), which a host may pass over.
@@ -370,13 +257,16 @@ static inline stemline_take_reply stemline_replica_take(
     stemline_take_reply reply;
     memset(&reply, 0, sizeof reply);
     reply.number = stemline_replica_deliver(r, bytes, length);
-    while (reply.number == STEMLINE_ACCEPTED && reply.count < STEMLINE_STEPS) {
-        stemline_work_reply work = stemline_replica_work(r);
+    /* each block that is left leaves its place empty, so there are at most 6 to append */
+    while (reply.number == STEMLINE_ACCEPTED && reply.count < STEMLINE_STEPS
+           && reply.append_count < STEMLINE_REPLICAS) {
+        stemline_work_reply work = stemline_replica_work(r, reply.append[reply.append_count]);
         if (work.number != STEMLINE_ACCEPTED) {
             reply.refused = work.number == STEMLINE_NOTHING_WAITS ? 0 : work.number;
             break;
         }
         reply.steps[reply.count++] = work;
+        reply.append_count = (uint8_t)(reply.append_count + work.append);
     }
     return reply;
 }

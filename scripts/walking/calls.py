@@ -1,4 +1,4 @@
-"""The ten calls: parameters, the call by value behind each, and what it says."""
+"""The calls: parameters, the call by value behind each, and what it says."""
 
 from dataclasses import dataclass
 
@@ -19,7 +19,7 @@ def shared(elem):
 # the fields of what a call by value returns, in order
 FIELDS = {
     "Begun": ["reply", "counts", "row"], "Asked": ["reply", "counts", "row"], "Changed": ["number", "counts", "row"],
-    "Made": ["number", "turn", "counts"], "Sent": ["number", "turn", "rows"], "Worked": ["reply", "turn", "counts", "ended"],
+    "Made": ["number", "turn", "counts"], "Restarted": ["reply", "turn", "counts"], "Sent": ["number", "turn", "rows"], "Worked": ["reply", "turn", "counts", "ended"],
 }
 # the fields of the counts, and of the replies, that a walk reads
 COUNT = {"tickets": 4, "read_only": 6, "aborted": 7, "withdrawn": 8}
@@ -113,12 +113,22 @@ class Call:
         return self.by_row is not None and not self.by_rows
 
     @property
+    def makes(self):
+        """Whether it makes a replica: it is passed nothing of one that was there, and speaks of every one."""
+        return self.name in ("make", "restart")
+
+    @property
     def turn_passed(self):
-        return self.turn is not None and self.name != "make"
+        return self.turn is not None and not self.makes
 
     @property
     def counts_passed(self):
-        return self.counts is not None and self.name != "make"
+        return self.counts is not None and not self.makes
+
+    @property
+    def lent_block(self):
+        """Whether it is lent bytes for a block that it hands out."""
+        return "block" in [name for name, _ in self.params]
 
     @property
     def direct(self):
@@ -128,7 +138,7 @@ class Call:
     @property
     def every(self):
         """What the contract speaks of every one of."""
-        return "" if self.name == "make" else "(m : Memory) → "
+        return "" if self.makes else "(m : Memory) → "
 
     def field(self, name):
         """The way to a field of the result, in its laws."""
@@ -161,6 +171,13 @@ CALLS = {
              ("items", mut("u8")), ("writes", mut("i32")), ("snapshots", mut("i32")), ("values", mut("i32")), ("stamps", mut("u32")),
              ("places", mut("u8")), ("outbox", mut("u8"))],
             "", "allParts {h} {c} {t} " + ALL, "makeStep {m} size me start", "", "allParts {h} {c} {t} " + LATER, "number",
+        ),
+        Call(
+            "restart", "call_restart.restart", "Restarted", "RestartReply",
+            [("table", TABLE_MUT), ("turn", TURN_MUT), ("counts", COUNTS_MUT), ("size", U32), ("me", U32), ("start", shared("i32")), ("queue", mut("u32")),
+             ("items", mut("u8")), ("writes", mut("i32")), ("snapshots", mut("i32")), ("values", mut("i32")), ("stamps", mut("u32")),
+             ("places", mut("u8")), ("outbox", mut("u8")), ("journal", shared("u8")), ("block", mut("u8"))],
+            "no_restart", "allParts {h} {c} {t} " + ALL, "restartStep {m} size me start journal block", "", "allParts {h} {c} {t} " + LATER, "restartReply",
         ),
         Call(
             "begin", "call_client.begin", "Begun", "BeginReply",
@@ -205,8 +222,8 @@ CALLS = {
         Call(
             "work", "call_work.work", "Worked", "WorkReply",
             [("table", TABLE_MUT), ("turn", TURN_MUT), ("counts", COUNTS_MUT), ("queue", mut("u32")), ("items", shared("u8")), ("values", mut("i32")),
-             ("stamps", mut("u32")), ("places", mut("u8"))],
-            "no_work", "workParts m {h} {c} {t} queue items values stamps places", "workStep {m}", "",
+             ("stamps", mut("u32")), ("places", mut("u8")), ("block", mut("u8"))],
+            "no_work", "workParts m {h} {c} {t} queue items values stamps places", "withBlock block workStep {m}", "",
             "workParts m {h} {c} {t} queue′ items values′ stamps′ places′", "workReply",
         ),
     ]

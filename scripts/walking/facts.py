@@ -8,7 +8,8 @@ NOTHING = {
     "ReadReply": "record { number = 1; value = pos 0 }",
     "AskReply": "record { number = 1; «read_only» = false }",
     "ReportReply": "record { number = 1; report = noReport }",
-    "WorkReply": "record { number = 1; sender = 0; moved = false; count = 0; ticket = 0; aborted = replicate 6 0 }",
+    "WorkReply": "record { number = 1; sender = 0; moved = false; count = 0; ticket = 0; aborted = replicate 6 0; append = false }",
+    "RestartReply": "record { number = 1; count = 0 }",
     "u8": "1",
 }
 HELD = {"table": "List Txn", "turn": "Turn", "counts": "Counts"}
@@ -55,8 +56,8 @@ class Facts:
         return f"(λ (x : Memory). {self.call.step.format(m='x')})"
 
     def claim(self, reply, after, outcome):
-        if self.call.name == "send":
-            return f"GivesBlock ({outcome}) block ({reply}) ({after}) block′"
+        if self.call.lent_block:
+            return f"GivesWith {self.call.replied} ({outcome}) block ({reply}) ({after}) block′"
         return f"Gives {self.call.replied} ({outcome}) ({reply}) ({after})"
 
     # ---- what the call by value says
@@ -77,13 +78,13 @@ class Facts:
                 now["table"] = "(r .rows)"
             elif field in HELD:
                 now[field] = f"(r .{field})"
-        if call.name == "make":
-            all_of = "(turn : Turn) (counts : Counts) (table : List Txn) → "
-            now = {"turn": "(ifMade (r .number) (r .turn) turn)", "counts": "(ifMade (r .number) (r .counts) counts)", "table": "(ifMade (r .number) (replicate 6 closed) table)"}
+        if call.makes:
+            all_of, number = "(turn : Turn) (counts : Counts) (table : List Txn) → ", "(r .number)" if call.reply == "u8" else "(r .reply .number)"
+            now = {what: f"(ifMade {number} {new} {what})" for what, new in [("turn", "(r .turn)"), ("counts", "(r .counts)"), ("table", "(replicate 6 closed)")]}
         outcome = (call.at_row if call.by_row else call.step).format(m=f"({self.before(table)})")
         claim = f"{all_of}{self.claim(reply_of(call), self.after(**now), outcome)}"
         claim = f"({claim}) × {BESIDE[call.name]}" if call.name in BESIDE else claim
-        claim += f" × (r .ended ≡ endedMarks ({self.before(table)}))" * (call.name == "work")
+        claim += f" × (r .ended ≡ endedMarks block ({self.before(table)}))" * (call.name == "work")
         types = " → ".join(t for _, t in names)
         return f"abbrev pub {self.name}On : {types} → Type 0\n{self.name}On {' '.join(n for n, _ in names)} = {claim}\n"
 
@@ -108,8 +109,8 @@ class Facts:
     def refused(self):
         call = self.call
         types, names = self.binder()
-        lam = "λ m. " * (call.name != "make")
-        parts = "(refl, refl), refl" if call.name == "send" else "refl, refl"
+        lam = "λ m. " * (not call.makes)
+        parts = "(refl, refl), refl" if call.lent_block else "refl, refl"
         args = [n for n, _ in self.holds + self.rest] + [f"({no_reply(call)})"] + call.changing + [n[:-1] for n, _ in self.muts]
         return (
             f"pub {call.name}-not : {types} → (length table ≡ 6 → ⊥) → {self.name}Did {' '.join(args)}\n"
@@ -174,13 +175,13 @@ def client():
 
 
 def turn():
-    head = SAYS.format(whose="a make, a send, a deliver or a work says") + USES.format(path="_≡_, refl", pos="", lists="replicate", least="")
+    head = SAYS.format(whose="a make, a restart, a send, a deliver or a work says") + USES.format(path="_≡_, refl", pos="", lists="replicate", least="")
     head += "use Rattle.memory.specs.Rows.{closed, endRows}\n"
-    head += "use Rattle.engine.specs.Make.{turnZero, countsFor, makeStep}\nuse Rattle.engine.specs.Moves.{sendStep, deliverStep, workStep}\n"
+    head += "use Rattle.engine.specs.Make.{turnZero, countsFor, makeStep}\nuse Rattle.engine.specs.Restart.{restartStep}\nuse Rattle.engine.specs.Moves.{sendStep, deliverStep, workStep}\n"
     head += "use Rattle.call_reply.specs.Parts.{allParts, sendParts, deliverParts, workParts}\n"
-    head += "use Rattle.call_reply.specs.Replies.{number, workReply, Gives, GivesBlock}\n"
-    head += "".join(f"use Rattle.call_reply.specs.declared.{t}.{{{t}}}\n" for t in ["WorkReply", "Made", "Sent", "Worked"])
-    head += "use Rattle.call_reply.specs.Called.{called}\n"
+    head += "use Rattle.call_reply.specs.Replies.{number, workReply, restartReply, Gives, GivesWith}\n"
+    head += "".join(f"use Rattle.call_reply.specs.declared.{t}.{{{t}}}\n" for t in ["WorkReply", "RestartReply", "Made", "Restarted", "Sent", "Worked"])
+    head += "use Rattle.call_reply.specs.Called.{called, withBlock}\n"
     head += "use Rattle.call_make.specs.Made.{ifMade}\nuse Rattle.call_work.specs.Writesets.{endedMarks}\n"
     head += "use Rattle.call_reply.proofs.CalledLaws.{called-other}\n\n"
-    return head + "\n".join(Facts(CALLS[n]).text() for n in ["make", "send", "work"]) + "\n" + DELIVERED
+    return head + "\n".join(Facts(CALLS[n]).text() for n in ["make", "restart", "send", "work"]) + "\n" + DELIVERED

@@ -29,7 +29,7 @@ HELPERS = {  # by the name in a proof
 }
 # the law behind each return but that of a wrong table, in order
 WAYS = {
-    "make": ["make-kept", "make-did"], "begin": ["begin-kept", "begin-did"], "write": ["write-stale", "write-kept", "write-did"], "ask": ["ask-kept", "ask-ended", "ask-queued"],
+    "make": ["make-kept", "make-did"], "restart": ["restart-kept", "restart-did"], "begin": ["begin-kept", "begin-did"], "write": ["write-stale", "write-kept", "write-did"], "ask": ["ask-kept", "ask-ended", "ask-queued"],
     "withdraw": ["withdraw-kept", "withdraw-did"], "send": ["send-kept", "send-did"], "work": ["work-kept", "work-did"],
 }
 
@@ -271,7 +271,7 @@ class Walk(Names):
             asked = f"(record {{ ticket = {row} .ticket; stage = 1; snapshot = {row} .snapshot; writes = {row} .writes }})"
             self.writes_table("stage", f"(set ys {index} {asked})", f"(length-set ys {index} {asked})", f"{index} (is₁ .1) 1 one-fits", operands, local)
         elif name == "end_rows":
-            if call.name == "make":
+            if call.makes:
                 self.writes_table("ended", "(endRows all-ended ys)", "(ended-length all-ended ys)", "all-ended all-ended-val", operands, local, " all-ended-is")
             else:
                 ended = call.field("ended")

@@ -1,6 +1,6 @@
 -- A replica's journal has the blocks put down, in slot order, up to its turn and what it has sent for it. Assumes nothing.
 use Prim.Native.Nat.{ℕ, _*_, _/_}
-use mathlib.Core.Path.{_≡_, sym, ap, _∙_, subst}
+use mathlib.Core.Path.{_≡_, sym, ap, _∙_}
 use mathlib.Core.List.{List, [], map}
 use native.Mathlib.Nat.{lt-mul-div-succ}
 use native.Mathlib.Omega.{arith}
@@ -14,23 +14,20 @@ use Rattle.protocol.specs.Writesets.{Message}
 use Rattle.protocol.specs.Journal.{Journal, journal, inSlotOrder}
 use Rattle.protocol.specs.Blocks.{join, readBlocks}
 use Rattle.protocol.specs.Observer.{Handout, handoutMessage}
-use Rattle.protocol.specs.Machine.{MachineSystem}
 use Rattle.protocol.proofs.BlockLaws.{Read, read-part}
 use Rattle.protocol.proofs.SequenceLaws.{map-take}
 use Rattle.protocol.proofs.RestartLaws.{read-all}
 use Rattle.protocol.proofs.Tracking.{InOrder}
 use Rattle.protocol.proofs.JournalLaws.{Journaled}
-use Rattle.protocol.proofs.Refinement.{MachineInv, inv-commands, fresh-inv}
 use Rattle.agreement.specs.Group.{messageIn, fresh, run}
 use Rattle.agreement.specs.Journals.{blocksAt, InSlotOrder, JournalTheorem}
 use Rattle.agreement.proofs.View.{setup}
 use Rattle.agreement.proofs.RestartView.{reads-in-order, read-enough}
 use Rattle.agreement.proofs.RestartStep.{lentMessages}
 use Rattle.agreement.proofs.JournalView.{OnDisk}
-use Rattle.agreement.proofs.Replicas.{places-apart}
-use Rattle.agreement.proofs.Runs.{machine, machineOf, commands, journalsRun, runs, fresh-kept, kept-run}
-use Rattle.agreement.proofs.Premises.{length-join, premise}
-use Rattle.agreement.proofs.Theorem.{owes}
+use Rattle.agreement.proofs.Runs.{fresh-kept, kept-run}
+use Rattle.agreement.proofs.Premises.{length-join}
+use Rattle.agreement.proofs.Theorem.{owes, journalsAfter, InvAfter, inv-after}
 use Rattle.agreement.proofs.JournalLength.{journal-length}
 
 module _ (n : ℕ) (l : List ℕ) (K : List (Message ℤ)) (H : OnDisk n l K) where
@@ -75,22 +72,9 @@ in-order n start D k turn count l J H L Q w = record {
 pub journals : JournalTheorem
 journals n start least most long cs f p k h =
     in-order n start (run n start (fresh n start) cs .handouts) k (run n start (fresh n start) cs .memories k .turn .slot) (blocksAt (run n start (fresh n start) cs .memories k .turn))
-    (run n start (fresh n start) cs .disks k .journal) (J k)
+    (run n start (fresh n start) cs .disks k .journal) (journalsAfter n start least most long cs k)
     (kept-run n start least most long (owes n start) cs f (λ j. journal [] 0) (fresh n start) (fresh-kept n start least most long (owes n start)) .disks k)
     (I .inv .whole .inOrder) (I .inv .journals k) (journal-length n start least most long cs f k h)
   where
-    J : ℕ → Journal ℤ
-    J = journalsRun n start least most long (owes n start) (λ j. journal [] 0) (fresh n start) cs
-
-    Inv : MachineSystem (setup n start) (machine n start least most long (owes n start)) → Type 0
-    Inv = MachineInv (setup n start) (machine n start least most long (owes n start)) (places-apart n start)
-
-    before : Inv (machineOf n start least most long (owes n start) (λ j. journal [] 0) (fresh n start))
-    before = fresh-inv (setup n start) (machine n start least most long (owes n start)) (places-apart n start)
-
-    I : Inv (machineOf n start least most long (owes n start) J (run n start (fresh n start) cs))
-    I =
-        subst Inv (runs n start least most long (owes n start) cs f (λ j. journal [] 0) (fresh n start))
-        (inv-commands (setup n start) (machine n start least most long (owes n start)) (places-apart n start) (commands n start least most long (owes n start) cs f)
-        (machineOf n start least most long (owes n start) (λ j. journal [] 0) (fresh n start)) before
-        (premise n start least most long (owes n start) cs f (λ j. journal [] 0) (fresh n start) (fresh-kept n start least most long (owes n start)) before (λ j. omega arith) p))
+    I : InvAfter n start least most long cs
+    I = inv-after n start least most long cs f p

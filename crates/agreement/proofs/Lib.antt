@@ -33,5 +33,6 @@ pub mod Agreement
 pub mod Theorem
 pub mod JournalLength
 pub mod Journals
+pub mod Tickets
 -- what holds with no premise
 pub mod Handed

@@ -153,7 +153,7 @@ all-same (w ∷ ws) fit r s h u =
     let a = all-same ws (f .right) (commitOne r w) (storeAfter (map writeOf (w .entries)) s) (one-same w (f .left) r s h (omega arith)) (omega arith) in
     (a .0, let q = a .1 in omega arith)
 
-writesets-seen : (b : List ℕ) → messageIn b .writesets ≡ map writesetFrom (messageOf b .records)
+pub writesets-seen : (b : List ℕ) → messageIn b .writesets ≡ map writesetFrom (messageOf b .records)
 unfolding messageIn
 writesets-seen b = refl
 

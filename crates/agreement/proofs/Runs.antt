@@ -94,6 +94,12 @@ module _ (n : ℕ) (B : List (Message ℤ)) where
 
 -- ---- a run
 
+-- with one more call at its end
+pub run-on : (n : ℕ) (start : List ℤ) (before : List CallAt) (g : Group) (c : CallAt) → run n start g (before ++ (c ∷ [])) ≡ next n start (run n start g before) c
+unfolding run
+run-on n start [] g c = refl
+run-on n start (b ∷ bs) g c = run-on n start bs (next n start g b) c
+
 module _ (n : ℕ) (start : List ℤ) (least : 2 ≤ n) (most : n ≤ 6) (long : length start ≡ 128)
     (owes : (m : Memory) → Sound n m → (c : Call) → Owed n start m c (step m c)) where
   abbrev pub machine : Machine (setup n start)

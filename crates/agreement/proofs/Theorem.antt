@@ -1,14 +1,17 @@
--- Agreement, the theorem. Assumes nothing.
-use Prim.Native.Nat.{ℕ}
+-- Agreement, the theorem, and the invariant after a list of calls. Assumes nothing.
+use Prim.Native.Nat.{ℕ, _≤_}
+use mathlib.Core.Path.{_≡_, subst}
 use mathlib.Core.List.{List, []}
 use native.Mathlib.Omega.{arith}
 use lib.IntN.{ℤ}
+use lib.ListN.{length}
 use Rattle.memory.specs.Memory.{Memory}
 use Rattle.engine.specs.Step.{Call, step}
 use Rattle.engine.specs.Step.Call.{begin, read, write, ask, withdraw, report, send, deliver, work}
-use Rattle.protocol.specs.Journal.{journal}
-use Rattle.protocol.proofs.Refinement.{fresh-inv}
-use Rattle.agreement.specs.Group.{fresh}
+use Rattle.protocol.specs.Journal.{Journal, journal}
+use Rattle.protocol.specs.Machine.{MachineSystem}
+use Rattle.protocol.proofs.Refinement.{MachineInv, inv-commands, fresh-inv}
+use Rattle.agreement.specs.Group.{CallAt, fresh, run, Calls, Premise}
 use Rattle.agreement.specs.Statement.{AgreementTheorem}
 use Rattle.agreement.proofs.View.{setup, Sound, Owed}
 use Rattle.agreement.proofs.BeginStep.{begin-owes}
@@ -20,7 +23,7 @@ use Rattle.agreement.proofs.SendStep.{send-owes}
 use Rattle.agreement.proofs.DeliverStep.{deliver-owes}
 use Rattle.agreement.proofs.WorkStep.{work-owes}
 use Rattle.agreement.proofs.Replicas.{places-apart}
-use Rattle.agreement.proofs.Runs.{machine, fresh-kept}
+use Rattle.agreement.proofs.Runs.{machine, machineOf, commands, journalsRun, runs, fresh-kept}
 use Rattle.agreement.proofs.Premises.{premise}
 use Rattle.agreement.proofs.Agreement.{agreement-from}
 
@@ -40,3 +43,24 @@ agreement n start least most long cs f p =
     agreement-from n start least most long (owes n start) cs f
     (premise n start least most long (owes n start) cs f (λ k. journal [] 0) (fresh n start) (fresh-kept n start least most long (owes n start))
     (fresh-inv (setup n start) (machine n start least most long (owes n start)) (places-apart n start)) (λ k. omega arith) p)
+
+-- ---- the invariant after a list of calls
+
+module _ (n : ℕ) (start : List ℤ) (least : 2 ≤ n) (most : n ≤ 6) (long : length start ≡ 128) (cs : List CallAt) where
+  -- the model's journals
+  abbrev pub journalsAfter : ℕ → Journal ℤ
+  journalsAfter = journalsRun n start least most long (owes n start) (λ j. journal [] 0) (fresh n start) cs
+
+  abbrev Inv : MachineSystem (setup n start) (machine n start least most long (owes n start)) → Type 0
+  Inv = MachineInv (setup n start) (machine n start least most long (owes n start)) (places-apart n start)
+
+  abbrev pub InvAfter : Type 0
+  InvAfter = Inv (machineOf n start least most long (owes n start) journalsAfter (run n start (fresh n start) cs))
+
+  pub inv-after : Calls n cs → Premise n start cs → InvAfter
+  inv-after f p =
+      let before = fresh-inv (setup n start) (machine n start least most long (owes n start)) (places-apart n start) in
+      subst Inv (runs n start least most long (owes n start) cs f (λ j. journal [] 0) (fresh n start))
+      (inv-commands (setup n start) (machine n start least most long (owes n start)) (places-apart n start) (commands n start least most long (owes n start) cs f)
+      (machineOf n start least most long (owes n start) (λ j. journal [] 0) (fresh n start)) before
+      (premise n start least most long (owes n start) cs f (λ j. journal [] 0) (fresh n start) (fresh-kept n start least most long (owes n start)) before (λ j. omega arith) p))

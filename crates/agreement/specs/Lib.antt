@@ -3,6 +3,7 @@
 pub mod Group
 pub mod Statement
 pub mod Journals
+pub mod Tickets
 -- what holds with no premise
 pub mod Handed
 pub mod SixRows

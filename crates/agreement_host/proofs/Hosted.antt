@@ -2,18 +2,23 @@
 use Prim.Native.Nat.{ℕ, _≤_, _<_}
 use mathlib.Core.Path.{_≡_, refl, sym, ap, _∙_}
 use mathlib.Core.List.{List, List·Memᴰ·head, List·Memᴰ·not-nil, List·Memᴰ·tail, [], _∷_, _++_}
+use lib.Dec.{eqb}
 use lib.IntN.{ℤ}
 use lib.ListN.{length}
 use Rattle.memory.specs.Memory.{Memory}
-use Rattle.engine.specs.Calls.{Outcome}
+use Rattle.engine.specs.Calls.{Outcome, outcome}
+use Rattle.engine.specs.Calls.Answer.{refused}
 use Rattle.engine.specs.Shape.{Shape}
 use Rattle.engine.specs.Make.{madeMemory, makeStep}
+use Rattle.engine.specs.Moves.{workStep}
 use Rattle.engine.specs.Step.{Call, step, after}
+use Rattle.engine.proofs.Tests.{cond-by}
 use Rattle.engine.proofs.Shapes.{shapes}
-use Rattle.call_reply.specs.Called.{called}
-use Rattle.call_reply.proofs.CalledLaws.{called-six}
+use Rattle.call_reply.specs.Called.{called, withBlock}
+use Rattle.call_reply.proofs.CalledLaws.{called-six, block-512, block-other}
 use Rattle.protocol.proofs.ListLaws.{snoc-all}
 use Rattle.agreement.specs.Group.{performed, Group, CallAt, nextBy, fresh, next, run, Calls}
+use Rattle.agreement.proofs.Runs.{run-on}
 use Rattle.agreement.proofs.Handed.{six-rows}
 use Rattle.agreement_host.specs.Hosted.{hostStep, hostAfter, hostDid, hostRun, Hosted}
 
@@ -25,18 +30,13 @@ list-of (c ∷ cs) m s =
     ∙ list-of cs (step m c .memory) (shapes .each m s c)
 
 module _ (n : ℕ) (start : List ℤ) (least : 2 ≤ n) (most : n ≤ 6) (long : length start ≡ 128) where
-  run-on : (before : List CallAt) (g : Group) (c : CallAt) → run n start g (before ++ (c ∷ [])) ≡ next n start (run n start g before) c
-  unfolding run
-  run-on [] g c = refl
-  run-on (b ∷ bs) g c = run-on bs (next n start g b) c
-
   -- behind a first part of the list
   group-of : (cs before : List CallAt) → Calls n before → Calls n cs → hostRun n start (run n start (fresh n start) before) cs ≡ run n start (run n start (fresh n start) before) cs
   unfolding hostRun run
   group-of [] before b f = refl
   group-of (c ∷ cs) before b f =
       let g = run n start (fresh n start) before in
-      let on : run n start (fresh n start) (before ++ (c ∷ [])) ≡ next n start g c = run-on before (fresh n start) c in
+      let on : run n start (fresh n start) (before ++ (c ∷ [])) ≡ next n start g c = run-on n start before (fresh n start) c in
       let here = f c (List·Memᴰ·head refl) in
       ap (λ (o : Outcome). hostRun n start (nextBy n start o g c) cs) (called-six (λ x. performed n start (c .at) x (c .does)) (g .memories (c .at)) (six-rows .tables n start least most long before b (c .at) (here .0)))
       ∙ ap (λ (x : Group). hostRun n start x cs) (sym on)
@@ -47,9 +47,21 @@ module _ (n : ℕ) (start : List ℤ) (least : 2 ≤ n) (most : n ≤ 6) (long :
   unfolding run
   group cs f = group-of cs [] (λ c q. absurd (List·Memᴰ·not-nil q)) f
 
+works : (m : Memory) (block : List ℕ) → length block ≡ 512 → called (withBlock block workStep) m ≡ called workStep m
+unfolding called
+works m block h = rw (block-512 workStep m block h)
+
+works-not : (m : Memory) (block : List ℕ) → (length block ≡ 512 → ⊥) → called (withBlock block workStep) m ≡ outcome (refused 1) m
+unfolding called
+works-not m block h =
+    rw (block-other workStep m block h)
+    (cond-by (λ (o : Outcome). o ≡ outcome (refused 1) m) (eqb (length (m .txns .table)) 6) (λ e. refl) (λ e. refl))
+
 pub hosted : Hosted
 hosted = record {
   makes = λ m n own values six. called-six (λ x. makeStep x n own values) m six;
+  works = works;
+  works-not = works-not;
   steps = λ n own values least most mine long cs c. called-six (λ x. step x c) _ (shapes .all n own values least most mine long cs .lengths .table);
   lists = λ n own values least most mine long cs. list-of cs (madeMemory n own values) (shapes .made n own values least most mine long);
   groups = group;

@@ -1,16 +1,18 @@
 -- A host's calls are the engine's. The contracts of the exported functions that are lent a table have `called`, which puts the test of its length in front of a step (a deliver
--- is lent none, and has the step itself); on every memory that calls lead to it is the step. So what is proved of lists of calls, the agreement of the copies too, is proved of
--- what hosts' calls do, one after the other. Restarts are in a group's list as they will be exported: with the same test.
+-- is lent none, and has the step itself), and a work also has `withBlock`, the test of the bytes lent for the block to append; on every memory that calls lead to, with 512 bytes
+-- lent, it is the step, and with any other length it is refused by 1. So what is proved of lists of calls, the agreement of the copies too, is proved of what hosts' calls do, one after the other, restarts too.
 use Prim.Native.Nat.{ℕ, _≤_, _<_}
 use mathlib.Core.Path.{_≡_}
 use mathlib.Core.List.{List, [], _∷_}
 use lib.IntN.{ℤ}
 use lib.ListN.{length}
 use Rattle.memory.specs.Memory.{Memory}
-use Rattle.engine.specs.Calls.{Outcome}
+use Rattle.engine.specs.Calls.{Outcome, outcome}
+use Rattle.engine.specs.Calls.Answer.{refused}
 use Rattle.engine.specs.Make.{madeMemory, makeStep}
+use Rattle.engine.specs.Moves.{workStep}
 use Rattle.engine.specs.Step.{Call, step, after}
-use Rattle.call_reply.specs.Called.{called}
+use Rattle.call_reply.specs.Called.{called, withBlock}
 use Rattle.agreement.specs.Group.{performed, Group, CallAt, nextBy, fresh, run, Calls}
 
 -- a host's call at one replica
@@ -34,6 +36,10 @@ module _ (n : ℕ) (start : List ℤ) where
 pub record Hosted : Type 0 where
   -- a make on a table of six rows, whatever else is lent
   pub makes : (m : Memory) (n own : ℕ) (values : List ℤ) → length (m .txns .table) ≡ 6 → called (λ x. makeStep x n own values) m ≡ makeStep m n own values
+  -- a work that is lent 512 bytes for the block to append
+  pub works : (m : Memory) (block : List ℕ) → length block ≡ 512 → called (withBlock block workStep) m ≡ called workStep m
+  -- lent any other length it is refused by 1, whatever the table, and the memory is as before
+  pub works-not : (m : Memory) (block : List ℕ) → (length block ≡ 512 → ⊥) → called (withBlock block workStep) m ≡ outcome (refused 1) m
   -- one call
   pub steps : (n own : ℕ) (values : List ℤ) → 2 ≤ n → n ≤ 6 → own < n → length values ≡ 128 → (cs : List Call) (c : Call)
       → let m = after (madeMemory n own values) cs in hostStep m c ≡ step m c

@@ -1,14 +1,13 @@
--- Each answer of a deliver, from the tests that lead to it, and what its loops leave. Assumes nothing.
+-- Each answer of a deliver, from the tests that lead to it, and the bytes that it compares. Assumes nothing.
 use Prim.Native.Nat.{ℕ, suc, _+_, _*_, _-_, _≤_, _<_}
-use mathlib.Core.Path.{_≡_, refl, sym, ap, subst, _∙_}
+use mathlib.Core.Path.{_≡_, refl, sym, ap, _∙_}
 use mathlib.Core.Bool.{Bool, true, false, not, _&&_, and-false}
-use mathlib.Core.List.{List, [], _∷_, append-nil, append-assoc}
-use native.Mathlib.Nat.{zero-add}
+use mathlib.Core.List.{List, [], _∷_, append-assoc}
 use native.Mathlib.Numerals.{add-one}
 use native.Mathlib.Omega.{arith}
 use lib.Dec.{eqb, ltb, leb}
-use lib.ListN.{length, getD, set, take, drop, drop-of-length-le}
-use lib.Seq.{drop-cons, drop-drop, drop-length, paste, paste-suc, take-all, take-length}
+use lib.ListN.{length, getD, take, drop}
+use lib.Seq.{drop-cons, drop-drop, drop-length, paste, take-all}
 use borrow.Author.Tests.{eq-eqb, ne-eqb, lt-ltb, le-ltb, le-leb, lt-leb, eqb-true}
 use borrow.Rule.Slice.PartMut.{putMid, mid-len}
 use Rattle.block.specs.declared.Header.{Header}
@@ -54,15 +53,6 @@ module _ (a b : List ℕ) (i : ℕ) (h : i < length a) (k : i < length b) where
 pub same-end : (a b : List ℕ) → length a ≡ length b → sameBytes (drop (length a) a) (drop (length a) b) ≡ true
 unfolding sameBytes
 same-end a b e = rw (drop-length a, e, drop-length b)
-
--- ---- bytes copied
-
-pub paste-next : (d l : List ℕ) (i : ℕ) → i < length d → i < length l → set (paste d 0 l i) i (getD l i 0) ≡ paste d 0 l (i + 1)
-paste-next d l i h k =
-    rw (add-one i) (subst (λ (j : ℕ). set (paste d 0 l i) j (getD l i 0) ≡ paste d 0 l (suc i)) (zero-add i) (paste-suc d 0 l i 0 (omega (arith, zero-add i)) k))
-
-pub paste-whole : (d l : List ℕ) → length d ≡ length l → paste d 0 l (length l) ≡ l
-paste-whole d l h = rw (take-length l, zero-add, drop-of-length-le d {i = length l} (omega arith)) (append-nil l)
 
 -- ---- the lengths
 

@@ -13,6 +13,7 @@ ghost use Rattle.call_deliver.specs.Lengths.{lengthsFit};
 use block::Header;
 use block::Read;
 use block_reader::read_block;
+use call_reply::blocks::copy_bytes;
 use memory::Counts;
 use memory::Turn;
 use memory::cursor::place_start;
@@ -93,18 +94,6 @@ fn refusal(
     0
 }
 
-// The bytes, into their place.
-fn put_block(place: &mut [u8], bytes: &[u8])
-    requires { ⌜ length (now place) ≡ length (now bytes) ⌝ }
-    ensures { λ _. ⌜ now (place .exit) ≡ now (bytes .entry) ⌝ }
-{
-    let mut i: usize = 0;
-    while i < bytes.len() {
-        place[i] = bytes[i];
-        i += 1;
-    }
-}
-
 // Keeps an accepted block in the place of its slot.
 pub fn deliver(turn: Turn, counts: Counts, places: &mut [u8], outbox: &[u8], bytes: &[u8]) -> u8
     ensures { λ r. ⌜ ((m : Memory) →
@@ -125,6 +114,6 @@ pub fn deliver(turn: Turn, counts: Counts, places: &mut [u8], outbox: &[u8], byt
         return number;
     }
     let at = place_start(counts.replicas, header.slot);
-    put_block(&mut places[at..at + 512], bytes);
+    copy_bytes(bytes, &mut places[at..at + 512]);
     0
 }

@@ -1,3 +1,4 @@
--- Replies from outcomes, and calls with a lent table.
+-- Replies from outcomes, blocks copied, and calls with a lent table or with bytes lent for a block.
 pub mod ReplyLaws
+pub mod BlockLaws
 pub mod CalledLaws

@@ -1,8 +1,9 @@
 -- What a call hands a host beside the memory: each reply is a function of the call's outcome.
 use Prim.Native.Nat.{ℕ, _-_}
 use mathlib.Core.Path.{_≡_}
-use mathlib.Core.Bool.{Bool, true, false}
+use mathlib.Core.Bool.{Bool, true, false, cond, not}
 use mathlib.Core.List.{List, [], _++_}
+use lib.Dec.{eqb}
 use lib.IntN.{ℤ, pos}
 use lib.ListN.{length, replicate}
 use Rattle.memory.specs.Memory.{Memory}
@@ -146,6 +147,7 @@ workReply o =
       count = length (s .aborted);
       ticket = s .ticket;
       aborted = sixOf (s .aborted);
+      append = not (eqb (length (s .append)) 0);
     }
 
 abbrev pub restartReply : Outcome → RestartReply
@@ -157,10 +159,11 @@ restartReply o = record { number = number o; count = countIn (o .answer) }
 abbrev pub Gives : {R : Type 0} → (Outcome → R) → Outcome → R → Memory → Type 0
 Gives of o r left = (r ≡ of o) × (left ≡ o .memory)
 
--- a send and a restart also leave a block in the lent bytes; any other answer leaves what was there
+-- a send, a restart and a work with a block to append also leave a block in the lent bytes; any other answer leaves what was there
 abbrev pub blockLeft : Answer → List ℕ → List ℕ
 blockLeft (sent b) old = b
 blockLeft (restarted c b) old = b
+blockLeft (worked s) old = cond (eqb (length (s .append)) 0) old (s .append)
 blockLeft (refused n) old = old
 blockLeft made old = old
 blockLeft (began t) old = old
@@ -171,7 +174,6 @@ blockLeft readOnly old = old
 blockLeft withdrew old = old
 blockLeft (reported r) old = old
 blockLeft kept old = old
-blockLeft (worked s) old = old
 
 abbrev pub GivesWith : {R : Type 0} → (Outcome → R) → Outcome → List ℕ → R → Memory → List ℕ → Type 0
 GivesWith of o lent r left block = Gives of o r left × (block ≡ blockLeft (o .answer) lent)

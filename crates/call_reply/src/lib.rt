@@ -4,6 +4,7 @@ use memory::Counts;
 use memory::Turn;
 use memory::Txn;
 
+pub mod blocks;
 pub mod replies;
 
 // In each reply document 01's number, 0 where the call is accepted. The ticket is 0 where the begin is refused.
@@ -34,7 +35,8 @@ pub struct ReportReply {
     pub report: Report,
 }
 
-// Whose writeset was committed (ticket 0 for a *next*), whether the turn moved, and the tickets aborted, rising, zeros behind the first `count`.
+// Whose writeset was committed (ticket 0 for a *next*), whether the turn moved, the tickets aborted, rising, zeros behind the first `count`, and whether the lent
+// bytes now hold a block to append to the journal.
 #[repr(C)]
 pub struct WorkReply {
     pub number: u8,
@@ -43,6 +45,7 @@ pub struct WorkReply {
     pub count: u8,
     pub ticket: u32,
     pub aborted: [u32; 6],
+    pub append: bool,
 }
 
 // How many blocks of the journal were committed, 0 where the restart is refused: the journal goes on behind them.

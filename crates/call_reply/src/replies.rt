@@ -58,7 +58,7 @@ pub fn no_report(number: u8) -> ReportReply
 }
 
 pub fn no_work(number: u8) -> WorkReply
-    ensures { λ r. ⌜ r ≡ record { number = number; sender = 0; moved = false; count = 0; ticket = 0; aborted = replicate 6 0 } ⌝ }
+    ensures { λ r. ⌜ r ≡ record { number = number; sender = 0; moved = false; count = 0; ticket = 0; aborted = replicate 6 0; append = false } ⌝ }
 {
     WorkReply {
         number: number,
@@ -67,6 +67,7 @@ pub fn no_work(number: u8) -> WorkReply
         count: 0,
         ticket: 0,
         aborted: [0; 6],
+        append: false,
     }
 }
 

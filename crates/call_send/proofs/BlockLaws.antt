@@ -46,16 +46,7 @@ module _ {A : Type 0} (d : A) (l : List A) (i : ℕ) (h : i < length l) where
   pub map-turn : (f : A → A) → set (map f (take i l) ++ drop i l) i (f (getD l i d)) ≡ map f (take (i + 1) l) ++ drop (i + 1) l
   map-turn f = rw (map-next f) (put-next (map f (take i l)) (f (getD l i d)) (length-map (take i l) f ∙ length-take-le i l (omega arith)))
 
-  -- each from another list
-  pub copy-turn : (s : List A) → i < length s → set (take i s ++ drop i l) i (getD s i d) ≡ take (i + 1) s ++ drop (i + 1) l
-  copy-turn s k =
-      let e : take (i + 1) s ≡ take i s ++ (getD s i d ∷ []) = rw (add-one i) (take-suc s i d k) in
-      rw e (put-next (take i s) (getD s i d) (length-take-le i s (omega arith)))
-
 module _ {A : Type 0} (n : ℕ) (l : List A) (h : length l ≡ n) where
-  pub copy-end : (s : List A) → length s ≡ n → take n s ++ drop n l ≡ s
-  copy-end s k = rw (take-all n s (omega arith), drop-of-length-le l {i = n} (omega arith)) (append-nil s)
-
   pub map-end : (f : A → A) → map f (take n l) ++ drop n l ≡ map f l
   map-end f = rw (take-all n l (omega arith), drop-of-length-le l {i = n} (omega arith)) (append-nil (map f l))
 

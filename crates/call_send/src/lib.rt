@@ -17,6 +17,7 @@ use block_check::write_check;
 use block_writer::write_header;
 use block_writer::write_record;
 use call_reply::Sent;
+use call_reply::blocks::copy_bytes;
 use memory::Counts;
 use memory::Turn;
 use memory::Txn;
@@ -131,17 +132,6 @@ fn header_for(turn: Turn, counts: Counts, count: u8) -> Header
     }
 }
 
-fn copy_block(block: &[u8], to: &mut [u8])
-    requires { ⌜ (length (now block) ≡ 512) × (length (now to) ≡ 512) ⌝ }
-    ensures { λ _. ⌜ now (to .exit) ≡ now (block .entry) ⌝ }
-{
-    let mut i: usize = 0;
-    while i < 512 {
-        to[i] = block[i];
-        i += 1;
-    }
-}
-
 // The block of the message for the turn.
 fn put_block(
     block: &mut [u8],
@@ -162,7 +152,7 @@ fn put_block(
 {
     let count = queue_end(queue);
     let zeros = [0u8; 512];
-    copy_block(&zeros, &mut *block);
+    copy_bytes(&zeros, &mut *block);
     write_header(&mut block[0..16], header_for(turn, counts, count as u8));
     put_writesets(&mut *block, count, rows, queue, items, writes);
     write_check(&mut *block);
@@ -232,7 +222,7 @@ pub fn send(
         };
     }
     put_block(&mut *block, turn, counts, rows, &*queue, items, writes);
-    copy_block(&*block, &mut *outbox);
+    copy_bytes(&*block, &mut *outbox);
     clear_numbers(&mut *queue);
     let after = turn.mark_sent();
     let sent = send_rows(rows);

@@ -10,7 +10,7 @@ use borrow.Author.Tests.{eq-eqb, ne-eqb, eqb-true, eqb-false, not-false}
 use lib.Dec.{eqb, leb}
 use lib.IntN.{ℤ}
 use lib.ListN.{length, getD, set, take, drop, replicate, take-append-drop, List·getD-eq-default}
-use lib.Seq.{slice, set-out, length-take-le}
+use lib.Seq.{slice, set-out, length-slice, length-take-le}
 use Rattle.block.specs.Answers.{firstOf, recordAt}
 use Rattle.block.specs.Message.{Record}
 use Rattle.block.proofs.BoolLaws.{both}
@@ -32,13 +32,14 @@ use Rattle.engine.specs.Moves.{workLent, workRefusal, isSent, blockAtTurn, writ
 use Rattle.call_commit.specs.Marks.{hitMarks}
 use Rattle.call_commit.proofs.EndLaws.{end-none, end-mark, end-hit}
 use Rattle.call_reply.specs.Parts.{workParts}
-use Rattle.call_reply.specs.Replies.{workReply, Gives}
+use Rattle.call_reply.specs.Replies.{workReply, Gives, blockLeft, GivesWith}
 use Rattle.call_work.specs.declared.Ended.{Ended}
 use Rattle.call_work.specs.Writesets.{noMarks, endedMarks, endedOf, queueLeft}
 
 -- what an outcome gives, the same outcome by another name gives
-pub same-gives : {R : Type 0} (of : Outcome → R) {p o : Outcome} → p ≡ o → {r : R} {left : Memory} → Gives of p r left → Gives of o r left
-same-gives of e g = (g .0 ∙ ap of e, g .1 ∙ ap memory e)
+pub same-gives : {R : Type 0} (of : Outcome → R) {p o : Outcome} → p ≡ o → (lent : List ℕ) {r : R} {left : Memory} {block : List ℕ}
+    → GivesWith of p lent r left block → GivesWith of o lent r left block
+same-gives of e lent g = ((g .0 .0 ∙ ap of e, g .0 .1 ∙ ap memory e), g .1 ∙ ap (λ (x : Outcome). blockLeft (x .answer) lent) e)
 
 -- ---- lengths
 
@@ -92,14 +93,19 @@ module _ (m : Memory) where
 
   -- ---- the answers
 
+  -- a block of another length is refused before anything is looked at
+  pub marks-other : (lent : List ℕ) → (length lent ≡ 512 → ⊥) → noMarks ≡ endedMarks lent m
+  unfolding endedMarks
+  marks-other lent h = rw (ne-eqb (length lent) 512 h)
+
   module _ (n : ℕ) (number : n ≡ workRefusal m) where
     pub work-refused : (n ≡ 0 → ⊥) → outcome (refused n) m ≡ workStep m
     unfolding workStep
     work-refused h = rw (← number, ne-eqb n 0 h)
 
-    pub marks-refused : (n ≡ 0 → ⊥) → noMarks ≡ endedMarks m
+    pub marks-refused : (lent : List ℕ) → length lent ≡ 512 → (n ≡ 0 → ⊥) → noMarks ≡ endedMarks lent m
     unfolding endedMarks
-    marks-refused h = rw (← number, ne-eqb n 0 h)
+    marks-refused lent full h = rw (eq-eqb (length lent) 512 full, ← number, ne-eqb n 0 h)
 
     module _ (none : n ≡ 0) (at : ℕ) (start : at ≡ placeStart (m .counts .replicas) (m .turn .slot)) where
       -- the block at the turn lies in the places
@@ -119,24 +125,52 @@ module _ (m : Memory) where
       unfolding workStep
       work-writeset h = rw (← number, none, ← start, first-byte (m .blocks .places) at, ne-eqb (getD (m .blocks .places) at 0) 1 h)
 
-      pub marks-next : getD (m .blocks .places) at 0 ≡ 1 → noMarks ≡ endedMarks m
-      unfolding endedMarks
-      marks-next h = rw (← number, none, ← start, first-byte (m .blocks .places) at, eq-eqb (getD (m .blocks .places) at 0) 1 h)
+      module _ (lent : List ℕ) (full : length lent ≡ 512) where
+        pub marks-next : getD (m .blocks .places) at 0 ≡ 1 → noMarks ≡ endedMarks lent m
+        unfolding endedMarks
+        marks-next h = rw (eq-eqb (length lent) 512 full, ← number, none, ← start, first-byte (m .blocks .places) at, eq-eqb (getD (m .blocks .places) at 0) 1 h)
 
-      pub marks-writeset : (getD (m .blocks .places) at 0 ≡ 1 → ⊥) →
-          let block = slice at (at + 512) (m .blocks .places) in
-          (e : Ended) → e ≡ endedOf (eqb (getD block 1 0) (m .counts .own)) (writesetAt block (m .counts .done)) (m .turn) (m .counts) (m .txns .table) (m .txns .items)
-          → e .marks ≡ endedMarks m
-      unfolding endedMarks endedOf
-      marks-writeset h e ee = rw (ee, ← number, none, ← start, first-byte (m .blocks .places) at, ne-eqb (getD (m .blocks .places) at 0) 1 h)
+        pub marks-writeset : (getD (m .blocks .places) at 0 ≡ 1 → ⊥) →
+            let block = slice at (at + 512) (m .blocks .places) in
+            (e : Ended) → e ≡ endedOf (eqb (getD block 1 0) (m .counts .own)) (writesetAt block (m .counts .done)) (m .turn) (m .counts) (m .txns .table) (m .txns .items)
+            → e .marks ≡ endedMarks lent m
+        unfolding endedMarks endedOf
+        marks-writeset h e ee = rw (ee, eq-eqb (length lent) 512 full, ← number, none, ← start, first-byte (m .blocks .places) at, ne-eqb (getD (m .blocks .places) at 0) 1 h)
 
--- a *next*: t is the turn after it
-pub next-passed : (m : Memory) (at : ℕ) → at ≡ placeStart (m .counts .replicas) (m .turn .slot) → (t : Turn) → t ≡ advance (m .turn)
-    → outcome (worked (record { sender = getD (m .blocks .places) (at + 1) 0; ticket = 0; moved = true; aborted = []; append = appending m true }))
+-- ---- what is handed out
+
+-- another's block b, where the turn leaves it
+module _ (b : List ℕ) (full : length b ≡ 512) where
+  append-said : (moved mine : Bool) → (moved && not mine) ≡ not (eqb (length (cond moved (cond mine [] b) [])) 0)
+  append-said true true = refl
+  append-said true false = rw full
+  append-said false mine = refl
+
+  append-left : (moved mine : Bool) (lent : List ℕ)
+      → cond (moved && not mine) b lent ≡ cond (eqb (length (cond moved (cond mine [] b) [])) 0) lent (cond moved (cond mine [] b) [])
+  append-left true true lent = refl
+  append-left true false lent = rw full
+  append-left false mine lent = refl
+
+block-long : (places : List ℕ) (at start : ℕ) → at ≡ start → at + 512 ≤ length places → length (slice start (start + 512) places) ≡ 512
+block-long places at start e h = length-slice start (start + 512) places (omega arith) ∙ omega arith
+
+-- a *next*: t is the turn after it, block what the bytes lent become
+pub next-passed : (m : Memory) (at : ℕ) → at ≡ placeStart (m .counts .replicas) (m .turn .slot) → at + 512 ≤ length (m .blocks .places)
+    → (t : Turn) → t ≡ advance (m .turn) →
+    let other = not (eqb (getD (m .blocks .places) (at + 1) 0) (m .counts .own)) in
+    (append : Bool) → append ≡ other → (lent block : List ℕ) → block ≡ cond other (slice at (at + 512) (m .blocks .places)) lent
+    → GivesWith workReply (passNext m) lent
+    (record { number = 0; sender = getD (m .blocks .places) (at + 1) 0; moved = true; count = 0; ticket = 0; aborted = replicate 6 0; append = append })
     (withTurn m t (withDone (m .counts) 0) (record { places = set (m .blocks .places) at 0; outbox = m .blocks .outbox }))
-    ≡ passNext m
+    block
 unfolding passNext
-next-passed m at start t e = rw (e, ← at-place (m .blocks .places) at 1 (omega arith), start)
+next-passed m at start room t e append ea lent block eb =
+    let places = m .blocks .places in
+    let full = block-long places at (placeStart (m .counts .replicas) (m .turn .slot)) start room in
+    let mine = eqb (getD (blockAtTurn m) 1 0) (m .counts .own) in
+    rw (e, ea, eb, ← at-place places at 1 (omega arith), start)
+    ((rw (append-said (blockAtTurn m) full true mine), refl), append-left (blockAtTurn m) full true mine lent)
 
 -- ---- a writeset
 
@@ -195,41 +229,48 @@ module _ (m : Memory) (turn : Turn) (counts : Counts) (rows : List Txn) (queue i
   before = workParts m turn counts rows queue items values stamps places
 
   -- what is answered and left, by the writeset's end e and its place in the block
-  abbrev Left : Outcome → Ended → Bool → ℕ → List ℕ → List ℤ → List ℕ → Turn → Counts → List ℕ → Type 0
-  Left o e last sender q v s t c p =
+  abbrev Left : Outcome → Ended → Bool → ℕ → Bool → List ℕ → List ℤ → List ℕ → Turn → Counts → List ℕ → Type 0
+  Left o e last sender append q v s t c p =
       Gives workReply o
-      (record { number = 0; sender = sender; moved = last; count = e .count; ticket = e .ticket; aborted = e .aborted })
+      (record { number = 0; sender = sender; moved = last; count = e .count; ticket = e .ticket; aborted = e .aborted; append = append })
       (workParts m t c (endRows (e .marks) rows) q items v s p)
 
-  by-cases : (mine last : Bool) (w : Record) →
+  by-cases : (mine last : Bool) (w : Record) (append : Bool) → append ≡ not (eqb (length (appending before last)) 0) →
       let e = endedOf mine w turn counts rows items in
       let sender = getD (blockAtTurn before) 1 0 in
       Left
       (outcome (worked (record { sender = sender; ticket = w .ticket; moved = last; aborted = cond mine [] (hitTickets (w .entries) items 0 rows); append = appending before last }))
       (committed before mine last w))
-      e last sender (queueLeft mine w rows items queue) (applied (w .entries) values) (stamped (e .counts .commits) (w .entries) stamps)
+      e last sender append (queueLeft mine w rows items queue) (applied (w .entries) values) (stamped (e .counts .commits) (w .entries) stamps)
       (cond last (advance (e .turn)) (e .turn)) (withDone (e .counts) (cond last 0 (e .counts .done + 1)))
       (cond last (set places (placeStart (counts .replicas) (turn .slot)) 0) places)
   unfolding endedOf
-  by-cases true true w = (refl, rw (own-rows rows (rowOf (w .ticket) rows) six))
-  by-cases true false w = (refl, rw (own-rows rows (rowOf (w .ticket) rows) six))
-  by-cases false true w = (refl, rw (end-hit (w .entries) items 0 rows))
-  by-cases false false w = (refl, rw (end-hit (w .entries) items 0 rows))
+  by-cases true true w append ea = (rw ea, rw (own-rows rows (rowOf (w .ticket) rows) six))
+  by-cases true false w append ea = (rw ea, rw (own-rows rows (rowOf (w .ticket) rows) six))
+  by-cases false true w append ea = (rw ea, rw (end-hit (w .entries) items 0 rows))
+  by-cases false false w append ea = (rw ea, rw (end-hit (w .entries) items 0 rows))
 
-  -- e, q, v, s, p: the writeset's end, and what queue, values, stamps and places became
-  pub writeset-committed : (at : ℕ) → at ≡ placeStart (counts .replicas) (turn .slot) →
+  -- e, q, v, s, p, b: the writeset's end, and what queue, values, stamps, places and the bytes lent became
+  pub writeset-committed : (at : ℕ) → at ≡ placeStart (counts .replicas) (turn .slot) → at + 512 ≤ length places →
       let block = slice at (at + 512) places in
       let mine = eqb (getD block 1 0) (counts .own) in
       let w = writesetAt block (counts .done) in
       (e : Ended) → e ≡ endedOf mine w turn counts rows items
       → (q : List ℕ) (v : List ℤ) (s : List ℕ) → q ≡ queueLeft mine w rows items queue → v ≡ applied (w .entries) values → s ≡ stamped (e .counts .commits) (w .entries) stamps
       → let last = leb (getD places (at + 3) 0) (e .counts .done + 1) in
+      let append = last && not (eqb (getD places (at + 1) 0) (e .counts .own)) in
       (p : List ℕ) → p ≡ cond last (set places at 0) places
-      → Left (commitWriteset before (eqb (getD (blockAtTurn before) 1 0) (counts .own)) (writesetAt (blockAtTurn before) (counts .done)))
-      e last (getD places (at + 1) 0) q v s (cond last (advance (e .turn)) (e .turn)) (withDone (e .counts) (cond last 0 (e .counts .done + 1))) p
+      → (lent b : List ℕ) → b ≡ cond append block lent →
+      let o = commitWriteset before (eqb (getD (blockAtTurn before) 1 0) (counts .own)) (writesetAt (blockAtTurn before) (counts .done)) in
+      Left o e last (getD places (at + 1) 0) append q v s (cond last (advance (e .turn)) (e .turn)) (withDone (e .counts) (cond last 0 (e .counts .done + 1))) p
+      × (b ≡ blockLeft (o .answer) lent)
   unfolding commitWriteset endedOf
-  writeset-committed at start e ee q v s eq ev eS p ep =
+  writeset-committed at start room e ee q v s eq ev eS p ep lent b eb =
       let second = at-place places at 1 (omega arith) in
       let fourth = at-place places at 3 (omega arith) in
-      rw (eq, ev, eS, ep, ee, ← second, ← fourth, start)
-      (by-cases (eqb (getD (blockAtTurn before) 1 0) (counts .own)) (isLast before) (writesetAt (blockAtTurn before) (counts .done)))
+      let full = block-long places at (placeStart (counts .replicas) (turn .slot)) start room in
+      let mine = eqb (getD (blockAtTurn before) 1 0) (counts .own) in
+      rw (eq, ev, eS, ep, eb, ee, ← second, ← fourth, start) (
+        by-cases mine (isLast before) (writesetAt (blockAtTurn before) (counts .done)) _ (append-said (blockAtTurn before) full (isLast before) mine),
+        append-left (blockAtTurn before) full (isLast before) mine lent,
+      )

@@ -1,6 +1,6 @@
 -- What a work looks at, the rows that it ends, and a writeset's end: what it does to turn, counts and transactions, whatever its place in the block.
 use Prim.Native.Nat.{ℕ, _+_, min}
-use mathlib.Core.Bool.{Bool, true, false, cond}
+use mathlib.Core.Bool.{Bool, true, false, cond, _&&_}
 use mathlib.Core.List.{List, []}
 use lib.Dec.{eqb}
 use lib.ListN.{length, getD, set, replicate}
@@ -29,11 +29,11 @@ noMarks = replicate 6 false
 abbrev pub marksOf : Bool → Record → List Txn → List ℕ → List Bool
 marksOf mine w rows items = cond mine (set noMarks (rowOf (w .ticket) rows) true) (hitMarks (w .entries) items 0 rows)
 
--- the marks of the rows that a work ends: none where it is refused, none by a *next*
-unfoldable pub endedMarks : Memory → List Bool
-endedMarks m =
+-- the marks of the rows that a work with these bytes lent for a block ends: none where it is refused, none by a *next*
+unfoldable pub endedMarks : List ℕ → Memory → List Bool
+endedMarks lent m =
     let b = blockAtTurn m in
-    cond (eqb (workRefusal m) 0)
+    cond (eqb (length lent) 512 && eqb (workRefusal m) 0)
     (cond (eqb (getD b 0 0) 1) noMarks (marksOf (eqb (getD b 1 0) (m .counts .own)) (writesetAt b (m .counts .done)) (m .txns .table) (m .txns .items)))
     noMarks
 

@@ -4,16 +4,19 @@ ghost use mathlib.Core.Bool.{true, false, cond, not, _&&_};
 ghost use Prim.Native.Nat.{_+_, _*_, _≤_};
 ghost use lib.Dec.{eqb, ltb, leb};
 ghost use lib.ListN.{length, getD, set, replicate};
+ghost use lib.Seq.{slice};
 ghost use Rattle.memory.specs.Memory.{Memory, withDone};
 ghost use Rattle.memory.specs.Rows.{rowOf, rowAt, endRows};
 ghost use Rattle.memory.specs.Turns.{advance, placeStart};
 ghost use Rattle.engine.specs.Moves.{workLent, workRefusal, passNext, workStep};
 ghost use Rattle.call_reply.specs.Parts.{workParts};
-ghost use Rattle.call_reply.specs.Replies.{workReply, Gives};
+ghost use Rattle.call_reply.specs.Replies.{workReply, GivesWith};
+ghost use Rattle.call_reply.specs.Called.{withBlock};
 ghost use Rattle.call_work.specs.Writesets.{turnParts, noMarks, endedMarks};
 use block_reader::record_at;
 use call_reply::WorkReply;
 use call_reply::Worked;
+use call_reply::blocks::copy_bytes;
 use call_reply::replies::no_work;
 use ending::end_writeset;
 use memory::Counts;
@@ -116,7 +119,7 @@ fn refusal(fits: bool, at: usize, rows: [Txn; 6], turn: Turn, counts: Counts, pl
 fn unchanged(number: u8, turn: Turn, counts: Counts) -> Worked
     ensures { λ r. ⌜ r
         ≡ record {
-          reply = record { number = number; sender = 0; moved = false; count = 0; ticket = 0; aborted = replicate 6 0 };
+          reply = record { number = number; sender = 0; moved = false; count = 0; ticket = 0; aborted = replicate 6 0; append = false };
           turn = turn;
           counts = counts;
           ended = noMarks;
@@ -130,17 +133,34 @@ fn unchanged(number: u8, turn: Turn, counts: Counts) -> Worked
     }
 }
 
-// A *next* passed: the place empties, the turn advances, and no row ends.
-fn pass_next(turn: Turn, counts: Counts, places: &mut [u8], at: usize) -> Worked
-    requires { ⌜ (at ≡ placeStart (counts .replicas) (turn .slot)) × (at + 512 ≤ length (now places)) ⌝ }
+// Hands out the block that the turn leaves, for the journal, where another sent it: the replica's own is in the journal since its send. Whether it did.
+fn hand_out(sender: u8, own: u8, place: &[u8], block: &mut [u8]) -> bool
+    requires { ⌜ length (now block) ≡ length (now place) ⌝ }
+    ensures { λ r. ⌜ (let other = not (eqb sender own) in
+        (r ≡ other) × (now (block .exit) ≡ cond other (now (place .entry)) (now (block .entry)))) ⌝ }
+{
+    if sender == own {
+        return false;
+    }
+    copy_bytes(place, &mut *block);
+    true
+}
+
+// A *next* passed: its block is handed out, the place empties, the turn advances, and no row ends.
+fn pass_next(turn: Turn, counts: Counts, places: &mut [u8], at: usize, block: &mut [u8]) -> Worked
+    requires { ⌜ (at ≡ placeStart (counts .replicas) (turn .slot)) × (at + 512 ≤ length (now places)) × (length (now block) ≡ 512) ⌝ }
     ensures { λ r. ⌜ ((m : Memory) →
-        Gives workReply
+        GivesWith workReply
         (passNext (turnParts m turn counts (m .txns .table) (now (places .entry))))
+        (now (block .entry))
         (r .reply)
-        (turnParts m (r .turn) (r .counts) (m .txns .table) (now (places .exit))))
+        (turnParts m (r .turn) (r .counts) (m .txns .table) (now (places .exit)))
+        (now (block .exit)))
         × (r .ended ≡ noMarks) ⌝ }
 {
     let sender = places[at + 1];
+    let end = at + 512;
+    let append = hand_out(sender, counts.own, &places[at..end], &mut *block);
     places[at] = 0;
     let mut after = counts;
     after.done = 0;
@@ -152,6 +172,7 @@ fn pass_next(turn: Turn, counts: Counts, places: &mut [u8], at: usize) -> Worked
             count: 0,
             ticket: 0,
             aborted: [0; 6],
+            append: append,
         },
         turn: turn.advance(),
         counts: after,
@@ -160,7 +181,14 @@ fn pass_next(turn: Turn, counts: Counts, places: &mut [u8], at: usize) -> Worked
 }
 
 // The answer to a writeset committed.
-fn answered(sender: u8, moved: bool, turn: Turn, counts: Counts, ended: Ended) -> Worked
+fn answered(
+    sender: u8,
+    moved: bool,
+    append: bool,
+    turn: Turn,
+    counts: Counts,
+    ended: Ended,
+) -> Worked
     ensures { λ r. ⌜ r
         ≡ record {
           reply = record {
@@ -170,6 +198,7 @@ fn answered(sender: u8, moved: bool, turn: Turn, counts: Counts, ended: Ended) -
             count = ended .count;
             ticket = ended .ticket;
             aborted = ended .aborted;
+            append = append;
           };
           turn = turn;
           counts = counts;
@@ -186,6 +215,7 @@ fn answered(sender: u8, moved: bool, turn: Turn, counts: Counts, ended: Ended) -
             count: ended.count,
             ticket: ended.ticket,
             aborted: aborted,
+            append: append,
         },
         turn: turn,
         counts: counts,
@@ -193,10 +223,11 @@ fn answered(sender: u8, moved: bool, turn: Turn, counts: Counts, ended: Ended) -
     }
 }
 
-// After a writeset: with its block's last one the place empties and the turn advances.
-fn pass_writeset(ended: Ended, places: &mut [u8], at: usize) -> Worked
-    requires { ⌜ at + 512 ≤ length (now places) ⌝ }
+// After a writeset: with its block's last one the block is handed out, the place empties and the turn advances.
+fn pass_writeset(ended: Ended, places: &mut [u8], at: usize, block: &mut [u8]) -> Worked
+    requires { ⌜ (at + 512 ≤ length (now places)) × (length (now block) ≡ 512) ⌝ }
     ensures { λ r. ⌜ (let last = leb (getD (now (places .entry)) (at + 3) 0) (ended .counts .done + 1) in
+        let append = last && not (eqb (getD (now (places .entry)) (at + 1) 0) (ended .counts .own)) in
         (r
         ≡ record {
           reply = record {
@@ -206,12 +237,14 @@ fn pass_writeset(ended: Ended, places: &mut [u8], at: usize) -> Worked
             count = ended .count;
             ticket = ended .ticket;
             aborted = ended .aborted;
+            append = append;
           };
           turn = cond last (advance (ended .turn)) (ended .turn);
           counts = withDone (ended .counts) (cond last 0 (ended .counts .done + 1));
           ended = ended .marks;
         })
-        × (now (places .exit) ≡ cond last (set (now (places .entry)) at 0) (now (places .entry)))) ⌝ }
+        × (now (places .exit) ≡ cond last (set (now (places .entry)) at 0) (now (places .entry)))
+        × (now (block .exit) ≡ cond append (slice at (at + 512) (now (places .entry))) (now (block .entry)))) ⌝ }
 {
     let sender = places[at + 1];
     let count = places[at + 3];
@@ -219,16 +252,18 @@ fn pass_writeset(ended: Ended, places: &mut [u8], at: usize) -> Worked
     let mut counts = ended.counts;
     let next = counts.done as u32 + 1;
     if count as u32 <= next {
+        let end = at + 512;
+        let append = hand_out(sender, counts.own, &places[at..end], &mut *block);
         places[at] = 0;
         counts.done = 0;
         let advanced = turn.advance();
-        return answered(sender, true, advanced, counts, ended);
+        return answered(sender, true, append, advanced, counts, ended);
     }
     counts.done = next as u8;
-    answered(sender, false, turn, counts, ended)
+    answered(sender, false, false, turn, counts, ended)
 }
 
-// Processes the next step at the turn: a *next*, or one writeset.
+// Processes the next step at the turn: a *next*, or one writeset. The block lent last is for the journal: another's, where the turn leaves its slot.
 pub fn work(
     rows: [Txn; 6],
     turn: Turn,
@@ -238,13 +273,21 @@ pub fn work(
     values: &mut [i32],
     stamps: &mut [u32],
     places: &mut [u8],
+    block: &mut [u8],
 ) -> Worked
     ensures { λ r. ⌜ ((m : Memory) →
         let before = workParts m turn counts rows (now (queue .entry)) (now (items .entry)) (now (values .entry)) (now (stamps .entry)) (now (places .entry)) in
-        Gives workReply (workStep before) (r .reply)
+        GivesWith workReply
+        (withBlock (now (block .entry)) workStep before)
+        (now (block .entry))
+        (r .reply)
         (workParts m (r .turn) (r .counts) (endRows (r .ended) rows) (now (queue .exit)) (now (items .entry)) (now (values .exit)) (now (stamps .exit)) (now (places .exit)))
-        × (r .ended ≡ endedMarks before)) ⌝ }
+        (now (block .exit))
+        × (r .ended ≡ endedMarks (now (block .entry)) before)) ⌝ }
 {
+    if block.len() != 512 {
+        return unchanged(1, turn, counts);
+    }
     let fits = lengths_fit(
         counts.replicas,
         queue.len(),
@@ -259,7 +302,7 @@ pub fn work(
         return unchanged(number, turn, counts);
     }
     if places[at] == 1 {
-        return pass_next(turn, counts, &mut *places, at);
+        return pass_next(turn, counts, &mut *places, at, &mut *block);
     }
     let end = at + 512;
     let ended = end_writeset(
@@ -272,5 +315,5 @@ pub fn work(
         &mut *stamps,
         &places[at..end],
     );
-    pass_writeset(ended, &mut *places, at)
+    pass_writeset(ended, &mut *places, at, &mut *block)
 }

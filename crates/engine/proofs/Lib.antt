@@ -46,3 +46,4 @@ pub mod Queues
 pub mod Histories
 pub mod Worked
 pub mod Restarts
+pub mod Tickets

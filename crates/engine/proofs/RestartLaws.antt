@@ -103,7 +103,7 @@ highest-few n own (b ∷ bs) g =
 
 -- ---- committing them
 
-length-writesets : (b : List ℕ) (j k : ℕ) → length (writesetsFrom b j k) ≡ k
+pub length-writesets : (b : List ℕ) (j k : ℕ) → length (writesetsFrom b j k) ≡ k
 unfolding writesetsFrom
 length-writesets b j zero = refl
 length-writesets b j (suc k) = ap suc (length-writesets b (suc j) k)

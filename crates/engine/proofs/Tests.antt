@@ -67,7 +67,7 @@ unfolding bump
 bump-is n h = omega arith
 
 -- no more numbers below n, all different, than n
-pigeons : (n : ℕ) (f : ℕ → ℕ) → ((k : ℕ) → k ≤ n → f k < n) → ((j k : ℕ) → j < k → k ≤ n → f j ≡ f k → ⊥) → ⊥
+pub pigeons : (n : ℕ) (f : ℕ → ℕ) → ((k : ℕ) → k ≤ n → f k < n) → ((j k : ℕ) → j < k → k ≤ n → f j ≡ f k → ⊥) → ⊥
 pigeons zero f small apart = omega (arith, small 0 (omega arith))
 pigeons (suc n) f small apart = pigeons n g small′ apart′
   where

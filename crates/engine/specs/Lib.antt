@@ -13,3 +13,4 @@ pub mod Claims
 pub mod Sent
 pub mod History
 pub mod Restarts
+pub mod Tickets

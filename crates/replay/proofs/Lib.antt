@@ -1,4 +1,2 @@
 -- Laws that the proofs of several functions cite.
-pub mod EffectLaws
-pub mod EndLaws
-pub mod RunLaws
+pub mod PlaceLaws

@@ -1,2 +1,2 @@
--- What a call at a replica gives and leaves.
-pub mod Effects
+-- What a call at a place does, where a journal is kept too.
+pub mod Places

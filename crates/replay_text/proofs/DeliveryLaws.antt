@@ -15,7 +15,7 @@ use lib.Seq.{drop-cons, drop-length, set-at, set-append-left, set-out, take-all}
 use Rattle.block.specs.Message.{within}
 use Rattle.block.specs.Theorems.{flipped, flipBit}
 use Rattle.block.proofs.BoolLaws.{both}
-use Rattle.replay_text.specs.Deliveries.{hexNumber, hexPair, isHex, isHexText, unhex, isKept, namesBytes, bytesNamed, padded, delivery}
+use Rattle.replay_text.specs.Deliveries.{hexNumber, hexPair, isHex, isHexText, mostBytes, digitsOf, unhex, isKept, namesBytes, bytesNamed, padded, delivery}
 use Rattle.replay_text.specs.declared.Call.{Call}
 use Rattle.replay_text.specs.declared.Delivery.{Delivery}
 
@@ -99,24 +99,24 @@ hex-odd [] h = absurd (h refl)
 hex-odd (a ∷ []) h = refl
 hex-odd (a ∷ (b ∷ rest)) h = rw (hex-odd rest (λ e. h (omega arith))) (and-false (ltb (hexPair a b) 256))
 
--- ---- 520 bytes, of which the first i are filled
+-- ---- 2100 bytes, of which the first i are filled
 
 pub record Filled (front bytes : List ℕ) (i : ℕ) : Type 0 where
-  pub long : length bytes ≡ 520
+  pub long : length bytes ≡ 2100
   pub count : length front ≡ i
-  pub is : bytes ≡ front ++ replicate (520 - i) 0
+  pub is : bytes ≡ front ++ replicate (2100 - i) 0
 
 pub filled-none : {bytes : List ℕ} → bytes ≡ padded [] → Filled [] bytes 0
 unfolding padded
 filled-none e = record { long = rw e refl; count = refl; is = e }
 
-pub filled-next : {front bytes : List ℕ} {i : ℕ} (x : ℕ) → i < 520 → Filled front bytes i → Filled (front ++ (x ∷ [])) (set bytes i x) (i + 1)
+pub filled-next : {front bytes : List ℕ} {i : ℕ} (x : ℕ) → i < 2100 → Filled front bytes i → Filled (front ++ (x ∷ [])) (set bytes i x) (i + 1)
 filled-next {front} {bytes} {i} x h f =
-    let e : 520 - i ≡ suc (520 - (i + 1)) = omega arith in
+    let e : 2100 - i ≡ suc (2100 - (i + 1)) = omega arith in
     record {
       long = length-set bytes i x ∙ f .long;
       count = length-append front (x ∷ []) ∙ omega (arith, f .count);
-      is = rw (f .is, e, set-at front 0 (replicate (520 - (i + 1)) 0) x i (f .count), append-assoc);
+      is = rw (f .is, e, set-at front 0 (replicate (2100 - (i + 1)) 0) x i (f .count), append-assoc);
     }
 
 pub filled-all : {front bytes : List ℕ} {i : ℕ} → Filled front bytes i → bytes ≡ padded front
@@ -161,7 +161,7 @@ a-delivery e f = rw (e, filled-all f, f .count)
 
 pub delivery-short : (d : Delivery) (known : Bool) (bytes : List ℕ) → d ≡ delivery known bytes → d .count ≤ length (d .bytes)
 unfolding padded
-delivery-short d true bytes e = rw e (omega (arith, length-append bytes (replicate (520 - length bytes) 0)))
+delivery-short d true bytes e = rw e (omega (arith, length-append bytes (replicate (2100 - length bytes) 0)))
 delivery-short d false bytes e = rw e (omega arith)
 
 -- ---- digits read: the first i bytes are those that the first 2·i digits write, and what the other digits write is to come
@@ -175,7 +175,7 @@ pub decoded-none : {d bytes : List ℕ} → bytes ≡ padded [] → Decoded d by
 decoded-none e = record { digits = refl; behind = refl; filled = filled-none e }
 
 module _ (d bytes : List ℕ) (i x : ℕ) (is : x ≡ hexPair (getD d (2 * i) 0) (getD d (2 * i + 1) 0)) (more : 2 * i + 1 < length d) (f : Decoded d bytes i) where
-  pub decoded-next : x < 256 → i < 520 → Decoded d (set bytes i x) (i + 1)
+  pub decoded-next : x < 256 → i < 2100 → Decoded d (set bytes i x) (i + 1)
   decoded-next h k =
       let e : drop i (unhex d) ≡ x ∷ unhex (drop (2 * (i + 1)) d) = f .behind ∙ rw is (unhex-next d i more) in
       let g : isHex (drop (2 * i) d) ≡ isHex (drop (2 * (i + 1)) d) = rw (hex-next d i more, ← is, lt-ltb x 256 h) in
@@ -185,15 +185,15 @@ module _ (d bytes : List ℕ) (i x : ℕ) (is : x ≡ hexPair (getD d (2 * i) 0)
         filled = rw (ap (λ (n : ℕ). take n (unhex d)) (add-one i) ∙ take-next (unhex d) i e) (filled-next x k (f .filled));
       }
 
-  pub decoded-not : 256 ≤ x → isHexText d ≡ false
-  decoded-not h = rw (f .digits, hex-next d i more, ← is, le-ltb x 256 h) (and-false (leb (length d) 1040))
+  pub decoded-not : (most : ℕ) → 256 ≤ x → isHexText most d ≡ false
+  decoded-not most h = rw (f .digits, hex-next d i more, ← is, le-ltb x 256 h) (and-false (leb (length d) (2 * most)))
 
-pub decoded-all : (d bytes : List ℕ) (i : ℕ) → 2 * i ≡ length d → length d ≤ 1040 → Decoded d bytes i
-    → _≡_ {A = Delivery} (record { known = true; count = i; bytes = bytes }) (delivery (isHexText d) (unhex d))
+pub decoded-all : (d bytes : List ℕ) (i most : ℕ) → 2 * i ≡ length d → length d ≤ 2 * most → Decoded d bytes i
+    → _≡_ {A = Delivery} (record { known = true; count = i; bytes = bytes }) (delivery (isHexText most d) (unhex d))
 unfolding isHex unhex
-decoded-all d bytes i e h f =
+decoded-all d bytes i most e h f =
     let r : drop (2 * i) d ≡ [] = rw e (drop-length d) in
-    let known : isHexText d ≡ true = rw (le-leb (length d) 1040 h, f .digits, r) in
+    let known : isHexText most d ≡ true = rw (le-leb (length d) (2 * most) h, f .digits, r) in
     a-delivery known (rw (take-whole (unhex d) i (rw r at (f .behind))) at (f .filled))
 
 -- ---- a bit changed
@@ -227,7 +227,7 @@ module _ (l : List ℕ) (d : Delivery) (p t : ℕ) (e : d ≡ delivery true l) w
   unfolding flipBit padded
   flipped-in h =
       let k : p < length l = rw e at h in
-      rw (e, length-set l p (flipped t (getD l p 0)), set-append-left l (replicate (520 - length l) 0) p (flipped t (getD (padded l) p 0)) k, List·getD-append l (replicate (520 - length l) 0) 0 p k)
+      rw (e, length-set l p (flipped t (getD l p 0)), set-append-left l (replicate (2100 - length l) 0) p (flipped t (getD (padded l) p 0)) k, List·getD-append l (replicate (2100 - length l) 0) 0 p k)
 
   pub flipped-out : d .count ≤ p → _≡_ {A = Delivery} (record { known = true; count = d .count; bytes = d .bytes }) (delivery true (flipBit l p t))
   unfolding flipBit
@@ -252,26 +252,18 @@ module _ (c : Call) (line : List ℕ) (sent : ℕ) where
   bit-out (inl e) h = rw (e, lt-leb (c .second) 4095 h) (and-false (isKept (c .first) sent))
   bit-out (inr e) h = rw (e, lt-leb (c .second) 4095 h) (and-false (isKept (c .first) sent))
 
-  pub line-short : c .letter ≡ 72 → length line < 4 → namesBytes c line sent ≡ false
-  unfolding namesBytes
-  line-short e h = rw (e, lt-leb 4 (length line) h)
-
   module _ (block : List ℕ) where
     pub names-block : c .letter ≡ 68 → isKept (c .first) sent ≡ true → c .second ≤ 4095
-        → delivery true (take 520 block) ≡ delivery (namesBytes c line sent) (bytesNamed c line block)
+        → delivery true (take 2100 block) ≡ delivery (namesBytes c line sent) (bytesNamed c line block)
     unfolding namesBytes bytesNamed
     names-block e k h = rw (e, k, le-leb (c .second) 4095 h)
 
     pub names-flipped : c .letter ≡ 70 → isKept (c .first) sent ≡ true → c .second ≤ 4095
-        → delivery true (flipBit (take 520 block) (c .second / 8) (c .second % 8)) ≡ delivery (namesBytes c line sent) (bytesNamed c line block)
+        → delivery true (flipBit (take 2100 block) (c .second / 8) (c .second % 8)) ≡ delivery (namesBytes c line sent) (bytesNamed c line block)
     unfolding namesBytes bytesNamed
     names-flipped e k h = rw (e, k, le-leb (c .second) 4095 h)
 
-    pub names-digits : c .letter ≡ 72 → 4 ≤ length line
-        → delivery (isHexText (drop 4 line)) (unhex (drop 4 line)) ≡ delivery (namesBytes c line sent) (bytesNamed c line block)
+    pub names-digits : ((c .letter ≡ 68) ⊎ (c .letter ≡ 70) → ⊥)
+        → delivery (isHexText (mostBytes (c .letter)) (digitsOf c line)) (unhex (digitsOf c line)) ≡ delivery (namesBytes c line sent) (bytesNamed c line block)
     unfolding namesBytes bytesNamed
-    names-digits e h = rw (e, le-leb 4 (length line) h)
-
-    pub names-none : (c .letter ≡ 68 → ⊥) → (c .letter ≡ 70 → ⊥) → (c .letter ≡ 72 → ⊥) → delivery true [] ≡ delivery (namesBytes c line sent) (bytesNamed c line block)
-    unfolding namesBytes bytesNamed
-    names-none p q r = rw (ne-eqb (c .letter) 68 p, ne-eqb (c .letter) 70 q, ne-eqb (c .letter) 72 r)
+    names-digits other = rw (ne-eqb (c .letter) 68 (λ e. other (inl e)), ne-eqb (c .letter) 70 (λ e. other (inr e)))

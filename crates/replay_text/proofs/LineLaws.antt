@@ -9,14 +9,14 @@ use native.Mathlib.Omega.{arith}
 use borrow.Author.Tests.{lt-ltb, le-ltb, le-leb, lt-leb, leb-true, eq-eqb, ne-eqb}
 use lib.Dec.{eqb, ltb, leb}
 use lib.IntN.{ℤ, pos}
-use lib.ListN.{length, getD, drop, drop-of-length-le}
+use lib.ListN.{length, getD, drop, length-drop, drop-of-length-le}
 use lib.Seq.{drop-cons}
 use mir.Facts.{toZ-pos, toZ-neg}
 use mir.Syntax.{w32}
 use mir.Val.{toZ}
 use Rattle.block.specs.Message.{within}
 use Rattle.replay_text.specs.declared.Call.{Call}
-use Rattle.replay_text.specs.Lines.{Field, digitNumber, upTo, digitsFrom, readDigits, readNumber, positive, negative, readSigned, readValue, callWith, noCall, atEnd, oneNumber, twoNumbers, numbersAndValue, bytesBehind, callBehind, callOf, replicaNamed}
+use Rattle.replay_text.specs.Lines.{Field, digitNumber, upTo, digitsFrom, readDigits, readNumber, positive, negative, readSigned, readValue, callWith, noCall, withDigits, bytesBehind, nothingBehind, atEnd, oneNumber, twoNumbers, numberAndValue, numbersAndValue, callBehind, callOf, replicaNamed}
 use Rattle.replay_text.specs.Lines.Field.{none, found}
 
 -- ---- digits
@@ -133,26 +133,31 @@ module _ (line : List ℕ) (at : ℕ) where
 
 -- ---- the line's end
 
-pub end-not : (line : List ℕ) (end : ℕ) (c : Call) → end < length line → noCall ≡ atEnd c (drop end line)
-end-not line end c h = rw (text-at line end h)
+module _ (line : List ℕ) (end : ℕ) (c : Call) where
+  pub bytes-short : length line ≤ end → noCall ≡ bytesBehind c (drop end line)
+  bytes-short h = rw (text-past line end h)
 
-pub end-is : (line : List ℕ) (end : ℕ) (c : Call) → length line ≤ end → c ≡ atEnd c (drop end line)
-end-is line end c h = rw (text-past line end h)
+  pub bytes-other : end < length line → (getD line end 0 ≡ 32 → ⊥) → noCall ≡ bytesBehind c (drop end line)
+  bytes-other h e = rw (text-at line end h, ne-eqb (getD line end 0) 32 e)
 
--- ---- bytes behind a space, and the replica's place
+  pub bytes-are : end < length line → getD line end 0 ≡ 32 → withDigits c (length line - (end + 1)) ≡ bytesBehind c (drop end line)
+  bytes-are h e = rw (text-at line end h, eq-eqb (getD line end 0) 32 e, length-drop (end + 1) line)
 
-module _ (line : List ℕ) (letter : ℕ) where
-  pub bytes-short : length line < 4 → noCall ≡ bytesBehind letter (drop 3 line)
-  unfolding bytesBehind
-  bytes-short h = rw (text-past line 3 (omega arith))
+  pub end-bytes : (c .letter ≡ 72) ⊎ (c .letter ≡ 89) → bytesBehind c (drop end line) ≡ atEnd c (drop end line)
+  unfolding atEnd
+  end-bytes (inl e) = rw e
+  end-bytes (inr e) = rw e
 
-  pub bytes-other : 4 ≤ length line → (getD line 3 0 ≡ 32 → ⊥) → noCall ≡ bytesBehind letter (drop 3 line)
-  unfolding bytesBehind
-  bytes-other h e = rw (text-at line 3 (omega arith), ne-eqb (getD line 3 0) 32 e)
+  module _ (other : (c .letter ≡ 72) ⊎ (c .letter ≡ 89) → ⊥) where
+    pub end-not : end < length line → noCall ≡ atEnd c (drop end line)
+    unfolding atEnd
+    end-not h = rw (ne-eqb (c .letter) 72 (λ e. other (inl e)), ne-eqb (c .letter) 89 (λ e. other (inr e)), text-at line end h)
 
-  pub bytes-are : 4 ≤ length line → getD line 3 0 ≡ 32 → callWith letter 0 0 (pos 0) ≡ bytesBehind letter (drop 3 line)
-  unfolding bytesBehind
-  bytes-are h e = rw (text-at line 3 (omega arith), eq-eqb (getD line 3 0) 32 e)
+    pub end-is : length line ≤ end → c ≡ atEnd c (drop end line)
+    unfolding atEnd
+    end-is h = rw (ne-eqb (c .letter) 72 (λ e. other (inl e)), ne-eqb (c .letter) 89 (λ e. other (inr e)), text-past line end h)
+
+-- ---- the replica's place
 
 module _ (line : List ℕ) where
   pub named-short : length line < 3 → 6 ≡ replicaNamed line
@@ -242,6 +247,10 @@ module _ (letter : ℕ) (text : List ℕ) where
   unfolding twoNumbers
   two-none e = rw e
 
+  pub value-no-number : readNumber text ≡ none → noCall ≡ numberAndValue letter text
+  unfolding numberAndValue
+  value-no-number e = rw e
+
   pub three-none : readNumber text ≡ none → noCall ≡ numbersAndValue letter text
   unfolding numbersAndValue
   three-none e = rw e
@@ -254,6 +263,14 @@ module _ (letter : ℕ) (text : List ℕ) where
     pub two-short : readNumber rest ≡ none → noCall ≡ twoNumbers letter text
     unfolding twoNumbers
     two-short e = rw (first, e)
+
+    pub value-missing : readValue rest ≡ none → noCall ≡ numberAndValue letter text
+    unfolding numberAndValue
+    value-missing e = rw (first, e)
+
+    pub value-is : {v : ℤ} {end : List ℕ} → readValue rest ≡ found v end → atEnd (callWith letter a 0 v) end ≡ numberAndValue letter text
+    unfolding numberAndValue
+    value-is e = rw (first, e)
 
     pub three-short : readNumber rest ≡ none → noCall ≡ numbersAndValue letter text
     unfolding numbersAndValue
@@ -284,51 +301,61 @@ module _ (line : List ℕ) where
   call-long h e = rw (le-ltb (length line) 3 h) e
 
 module _ (letter : ℕ) (text : List ℕ) where
-  pub behind-value : (letter ≡ 77) ⊎ (letter ≡ 87) → numbersAndValue letter text ≡ callBehind letter text
+  pub behind-three : (letter ≡ 77) ⊎ ((letter ≡ 87) ⊎ (letter ≡ 89)) → numbersAndValue letter text ≡ callBehind letter text
   unfolding callBehind
-  behind-value (inl e) = rw e
-  behind-value (inr e) = rw e
+  behind-three (inl e) = rw e
+  behind-three (inr (inl e)) = rw e
+  behind-three (inr (inr e)) = rw e
 
   pub behind-two : (letter ≡ 70) ⊎ (letter ≡ 82) → twoNumbers letter text ≡ callBehind letter text
   unfolding callBehind
   behind-two (inl e) = rw e
   behind-two (inr e) = rw e
 
-  pub behind-one : (letter ≡ 67) ⊎ ((letter ≡ 88) ⊎ (letter ≡ 68)) → oneNumber letter text ≡ callBehind letter text
+  pub behind-one : (letter ≡ 67) ⊎ ((letter ≡ 68) ⊎ ((letter ≡ 74) ⊎ (letter ≡ 88))) → oneNumber letter text ≡ callBehind letter text
   unfolding callBehind
   behind-one (inl e) = rw e
   behind-one (inr (inl e)) = rw e
-  behind-one (inr (inr e)) = rw e
+  behind-one (inr (inr (inl e))) = rw e
+  behind-one (inr (inr (inr e))) = rw e
 
-  pub behind-bytes : letter ≡ 72 → bytesBehind letter text ≡ callBehind letter text
+  pub behind-value : letter ≡ 90 → numberAndValue letter text ≡ callBehind letter text
   unfolding callBehind
-  behind-bytes e = rw e
+  behind-value e = rw e
 
-  pub behind-bare : (letter ≡ 66) ⊎ ((letter ≡ 75) ⊎ ((letter ≡ 81) ⊎ ((letter ≡ 83) ⊎ (letter ≡ 86)))) → atEnd (callWith letter 0 0 (pos 0)) text ≡ callBehind letter text
+  -- B, H, K, Q, S, V
+  abbrev Bare : Type 0
+  Bare = (letter ≡ 66) ⊎ ((letter ≡ 72) ⊎ ((letter ≡ 75) ⊎ ((letter ≡ 81) ⊎ ((letter ≡ 83) ⊎ (letter ≡ 86)))))
+
+  pub behind-bare : Bare → atEnd (callWith letter 0 0 (pos 0)) text ≡ callBehind letter text
   unfolding callBehind
   behind-bare (inl e) = rw e
   behind-bare (inr (inl e)) = rw e
   behind-bare (inr (inr (inl e))) = rw e
   behind-bare (inr (inr (inr (inl e)))) = rw e
-  behind-bare (inr (inr (inr (inr e)))) = rw e
+  behind-bare (inr (inr (inr (inr (inl e))))) = rw e
+  behind-bare (inr (inr (inr (inr (inr e))))) = rw e
 
-  pub behind-none : ((letter ≡ 77) ⊎ (letter ≡ 87) → ⊥) → ((letter ≡ 70) ⊎ (letter ≡ 82) → ⊥) → ((letter ≡ 67) ⊎ (letter ≡ 88) → ⊥) → (letter ≡ 68 → ⊥) → (letter ≡ 72 → ⊥)
-      → ((letter ≡ 66) ⊎ ((letter ≡ 75) ⊎ ((letter ≡ 81) ⊎ ((letter ≡ 83) ⊎ (letter ≡ 86)))) → ⊥)
+  pub behind-none : ((letter ≡ 77) ⊎ ((letter ≡ 87) ⊎ (letter ≡ 89)) → ⊥) → ((letter ≡ 70) ⊎ (letter ≡ 82) → ⊥)
+      → ((letter ≡ 67) ⊎ ((letter ≡ 74) ⊎ (letter ≡ 88)) → ⊥) → (letter ≡ 68 → ⊥) → (letter ≡ 90 → ⊥) → (Bare → ⊥)
       → noCall ≡ callBehind letter text
   unfolding callBehind
-  behind-none a b d e f g =
+  behind-none a b d g e f =
       rw (
         ne-eqb letter 77 (λ x. a (inl x)),
-        ne-eqb letter 87 (λ x. a (inr x)),
+        ne-eqb letter 87 (λ x. a (inr (inl x))),
+        ne-eqb letter 89 (λ x. a (inr (inr x))),
         ne-eqb letter 82 (λ x. b (inr x)),
         ne-eqb letter 70 (λ x. b (inl x)),
         ne-eqb letter 67 (λ x. d (inl x)),
-        ne-eqb letter 88 (λ x. d (inr x)),
-        ne-eqb letter 68 e,
-        ne-eqb letter 72 f,
-        ne-eqb letter 66 (λ x. g (inl x)),
-        ne-eqb letter 81 (λ x. g (inr (inr (inl x)))),
-        ne-eqb letter 83 (λ x. g (inr (inr (inr (inl x))))),
-        ne-eqb letter 75 (λ x. g (inr (inl x))),
-        ne-eqb letter 86 (λ x. g (inr (inr (inr (inr x))))),
+        ne-eqb letter 68 g,
+        ne-eqb letter 74 (λ x. d (inr (inl x))),
+        ne-eqb letter 88 (λ x. d (inr (inr x))),
+        ne-eqb letter 90 e,
+        ne-eqb letter 66 (λ x. f (inl x)),
+        ne-eqb letter 72 (λ x. f (inr (inl x))),
+        ne-eqb letter 75 (λ x. f (inr (inr (inl x)))),
+        ne-eqb letter 81 (λ x. f (inr (inr (inr (inl x))))),
+        ne-eqb letter 83 (λ x. f (inr (inr (inr (inr (inl x)))))),
+        ne-eqb letter 86 (λ x. f (inr (inr (inr (inr (inr x)))))),
       )

@@ -1,4 +1,4 @@
--- Which bytes a line delivers. The blocks sent count from 0 over the whole run, and the last 64 are kept.
+-- Which bytes a line names. The blocks sent count from 0 over the whole run, and the last 64 are kept.
 use Prim.Native.Nat.{ℕ, _+_, _*_, _-_, _/_, _%_}
 use mathlib.Core.Bool.{Bool, true, false, cond, _&&_, _||_}
 use mathlib.Core.List.{List, [], _∷_, _++_}
@@ -36,26 +36,33 @@ unhex [] = []
 unhex (a ∷ []) = []
 unhex (a ∷ (b ∷ rest)) = hexPair a b ∷ unhex rest
 
--- at most 520 bytes
-abbrev pub isHexText : List ℕ → Bool
-isHexText digits = leb (length digits) 1040 && isHex digits
+-- at most so many bytes
+abbrev pub isHexText : ℕ → List ℕ → Bool
+isHexText most digits = leb (length digits) (2 * most) && isHex digits
 
--- whether the line of the call names bytes: for D and F a block that is kept and a bit of it, for H the digits behind `H k `. Any other call needs none
+-- H writes out at most 520 bytes, Y 2,100
+abbrev pub mostBytes : ℕ → ℕ
+mostBytes letter = cond (eqb letter 72) 520 2_100
+
+-- the digits that end the line
+abbrev pub digitsOf : Call → List ℕ → List ℕ
+digitsOf c line = drop (length line - c .digits) line
+
+-- whether the line of the call names bytes: for D and F a block that is kept and a bit of it, for others the digits that end it. A call without digits has no bytes
 unfoldable pub namesBytes : Call → List ℕ → ℕ → Bool
 namesBytes c line sent =
-    cond (eqb (c .letter) 68 || eqb (c .letter) 70) (isKept (c .first) sent && leb (c .second) 4095)
-    (cond (eqb (c .letter) 72) (leb 4 (length line) && isHexText (drop 4 line)) true)
+    cond (eqb (c .letter) 68 || eqb (c .letter) 70) (isKept (c .first) sent && leb (c .second) 4095) (isHexText (mostBytes (c .letter)) (digitsOf c line))
 
 -- the bytes that it names, given the block kept at that place
 unfoldable pub bytesNamed : Call → List ℕ → List ℕ → List ℕ
 bytesNamed c line block =
-    cond (eqb (c .letter) 68) (take 520 block)
-    (cond (eqb (c .letter) 70) (flipBit (take 520 block) (c .second / 8) (c .second % 8))
-    (cond (eqb (c .letter) 72) (unhex (drop 4 line)) []))
+    cond (eqb (c .letter) 68) (take 2_100 block)
+    (cond (eqb (c .letter) 70) (flipBit (take 2_100 block) (c .second / 8) (c .second % 8))
+    (unhex (digitsOf c line)))
 
--- zeros behind, 520 bytes in all
+-- zeros behind, 2,100 bytes in all
 unfoldable pub padded : List ℕ → List ℕ
-padded bytes = bytes ++ replicate (520 - length bytes) 0
+padded bytes = bytes ++ replicate (2_100 - length bytes) 0
 
 abbrev pub delivery : Bool → List ℕ → Delivery
 delivery known bytes = cond known (record { known = true; count = length bytes; bytes = padded bytes }) (record { known = false; count = 0; bytes = padded [] })

@@ -1,6 +1,6 @@
 -- A line as a call: its letter, a space, the place of its replica, and then fields, each behind one space. A number is written as it would be printed.
 use Prim.Native.Nat.{ℕ, zero, suc, _+_, _*_, _-_}
-use mathlib.Core.Bool.{cond, _||_}
+use mathlib.Core.Bool.{Bool, cond, _||_}
 use mathlib.Core.List.{List, [], _∷_}
 use lib.Dec.{eqb, ltb, leb}
 use lib.IntN.{ℤ, pos, negsuc}
@@ -73,16 +73,28 @@ valueField Value·Missing line = none
 
 -- ---- calls
 
+-- with no bytes
 abbrev pub callWith : ℕ → ℕ → ℕ → ℤ → Call
-callWith letter first second value = record { letter = letter; first = first; second = second; value = value }
+callWith letter first second value = record { letter = letter; first = first; second = second; value = value; digits = 0 }
 
 abbrev pub noCall : Call
 noCall = callWith 0 0 0 (pos 0)
 
--- nothing stands behind it
-abbrev pub atEnd : Call → List ℕ → Call
-atEnd c [] = c
-atEnd c (b ∷ text) = noCall
+abbrev pub withDigits : Call → ℕ → Call
+withDigits c n = record { letter = c .letter; first = c .first; second = c .second; value = c .value; digits = n }
+
+-- behind a space, what is to be the digits of bytes: they are read where the bytes are wanted
+abbrev pub bytesBehind : Call → List ℕ → Call
+bytesBehind c [] = noCall
+bytesBehind c (b ∷ text) = cond (eqb b 32) (withDigits c (length text)) noCall
+
+abbrev pub nothingBehind : Call → List ℕ → Call
+nothingBehind c [] = c
+nothingBehind c (b ∷ text) = noCall
+
+-- H and Y end in bytes, any other call in nothing
+unfoldable pub atEnd : Call → List ℕ → Call
+atEnd c text = cond (eqb (c .letter) 72 || eqb (c .letter) 89) (bytesBehind c text) (nothingBehind c text)
 
 abbrev pub then : {A : Type 0} → Field A → (A → List ℕ → Call) → Call
 then none f = noCall
@@ -95,25 +107,28 @@ unfoldable pub twoNumbers : ℕ → List ℕ → Call
 twoNumbers letter text =
     then (readNumber text) (λ (a : ℕ) (rest : List ℕ). then (readNumber rest) (λ (b : ℕ) (end : List ℕ). atEnd (callWith letter a b (pos 0)) end))
 
+unfoldable pub numberAndValue : ℕ → List ℕ → Call
+numberAndValue letter text =
+    then (readNumber text) (λ (a : ℕ) (rest : List ℕ). then (readValue rest) (λ (v : ℤ) (end : List ℕ). atEnd (callWith letter a 0 v) end))
+
 unfoldable pub numbersAndValue : ℕ → List ℕ → Call
 numbersAndValue letter text =
     then (readNumber text) (λ (a : ℕ) (rest : List ℕ).
     then (readNumber rest) (λ (b : ℕ) (more : List ℕ).
     then (readValue more) (λ (v : ℤ) (end : List ℕ). atEnd (callWith letter a b v) end)))
 
--- bytes behind a space: they are read where they are delivered
-unfoldable pub bytesBehind : ℕ → List ℕ → Call
-bytesBehind letter [] = noCall
-bytesBehind letter (b ∷ text) = cond (eqb b 32) (callWith letter 0 0 (pos 0)) noCall
+-- B, H, K, Q, S, V: no number
+abbrev pub isBare : ℕ → Bool
+isBare letter = eqb letter 66 || (eqb letter 72 || (eqb letter 75 || (eqb letter 81 || (eqb letter 83 || eqb letter 86))))
 
 -- the call by its letter, with the text behind its replica
 unfoldable pub callBehind : ℕ → List ℕ → Call
 callBehind letter text =
-    cond (eqb letter 77 || eqb letter 87) {- M, W -} (numbersAndValue letter text)
+    cond (eqb letter 77 || (eqb letter 87 || eqb letter 89)) {- M, W, Y -} (numbersAndValue letter text)
     (cond (eqb letter 82 || eqb letter 70) {- R, F -} (twoNumbers letter text)
-    (cond (eqb letter 67 || (eqb letter 88 || eqb letter 68)) {- C, X, D -} (oneNumber letter text)
-    (cond (eqb letter 72) {- H -} (bytesBehind letter text)
-    (cond (eqb letter 66 || (eqb letter 81 || (eqb letter 83 || (eqb letter 75 || eqb letter 86)))) {- B, Q, S, K, V -} (atEnd (callWith letter 0 0 (pos 0)) text)
+    (cond (eqb letter 67 || (eqb letter 68 || (eqb letter 74 || eqb letter 88))) {- C, D, J, X -} (oneNumber letter text)
+    (cond (eqb letter 90) {- Z -} (numberAndValue letter text)
+    (cond (isBare letter) (atEnd (callWith letter 0 0 (pos 0)) text)
     noCall))))
 
 unfoldable pub callOf : List ℕ → Call

@@ -1,11 +1,11 @@
-// The bytes that a line delivers: a block sent in this run, of which the last 64 are kept, or what the line writes out.
+// The bytes that a line names: a block sent in this run, of which the last 64 are kept, or what the line writes out.
 ghost use mathlib.Core.Path.{_≡_};
 ghost use mathlib.Core.Bool.{true, false};
-ghost use Prim.Native.Nat.{_/_, _%_, _<_, min};
+ghost use Prim.Native.Nat.{_/_, _%_, _≤_, _<_, min};
 ghost use mathlib.Core.List.{[]};
 ghost use lib.ListN.{take};
 ghost use Rattle.block.specs.Theorems.{flipped, flipBit};
-ghost use Rattle.replay_text.specs.Deliveries.{keptStart, isKept, hexNumber, hexPair, isHexText, unhex, namesBytes, bytesNamed, padded, delivery};
+ghost use Rattle.replay_text.specs.Deliveries.{keptStart, isKept, hexNumber, hexPair, isHexText, mostBytes, digitsOf, unhex, namesBytes, bytesNamed, padded, delivery};
 use super::Call;
 use super::Delivery;
 
@@ -26,10 +26,10 @@ fn is_kept(i: u32, sent: u64) -> bool
     sent <= block + 64
 }
 
-fn zeros() -> [u8; 520]
+fn zeros() -> [u8; 2100]
     ensures { λ r. ⌜ r ≡ padded [] ⌝ }
 {
-    [0; 520]
+    [0; 2100]
 }
 
 fn nothing() -> Delivery
@@ -66,14 +66,15 @@ fn hex_pair(a: u8, b: u8) -> u16
     16 * (high as u16) + low as u16
 }
 
-// The bytes that digits write.
-fn decode(digits: &[u8]) -> Delivery
-    ensures { λ r. ⌜ r ≡ delivery (isHexText (now (digits .entry))) (unhex (now (digits .entry))) ⌝ }
+// The bytes that digits write, at most so many.
+fn decode(digits: &[u8], most: usize) -> Delivery
+    requires { ⌜ most ≤ 2100 ⌝ }
+    ensures { λ r. ⌜ r ≡ delivery (isHexText most (now (digits .entry))) (unhex (now (digits .entry))) ⌝ }
 {
     if digits.len() % 2 != 0 {
         return nothing();
     }
-    if 1040 < digits.len() {
+    if 2 * most < digits.len() {
         return nothing();
     }
     let n = digits.len() / 2;
@@ -100,11 +101,11 @@ fn lesser(a: usize, b: usize) -> usize
     if a < b { a } else { b }
 }
 
-// The block's bytes, at most 520.
+// The block's bytes, at most 2100.
 fn copied(block: &[u8]) -> Delivery
-    ensures { λ r. ⌜ r ≡ delivery true (take 520 (now (block .entry))) ⌝ }
+    ensures { λ r. ⌜ r ≡ delivery true (take 2100 (now (block .entry))) ⌝ }
 {
-    let n = lesser(block.len(), 520);
+    let n = lesser(block.len(), 2100);
     let mut bytes = zeros();
     let mut i: usize = 0;
     while i < n {
@@ -128,7 +129,7 @@ fn flipped(byte: u8, t: u32) -> u8
 
 // The block with one bit changed, counted from the lowest of the first byte.
 fn copied_but(block: &[u8], bit: u32) -> Delivery
-    ensures { λ r. ⌜ r ≡ delivery true (flipBit (take 520 (now (block .entry))) (bit / 8) (bit % 8)) ⌝ }
+    ensures { λ r. ⌜ r ≡ delivery true (flipBit (take 2100 (now (block .entry))) (bit / 8) (bit % 8)) ⌝ }
 {
     let whole = copied(block);
     let at = (bit / 8) as usize;
@@ -142,6 +143,21 @@ fn copied_but(block: &[u8], bit: u32) -> Delivery
         count: n,
         bytes: bytes,
     }
+}
+
+// The most bytes that a line with the letter writes out.
+fn most_bytes(letter: u8) -> usize
+    ensures { λ r. ⌜ (r ≡ mostBytes letter) × (r ≤ 2100) ⌝ }
+{
+    if letter == b'H' { 520 } else { 2100 }
+}
+
+// The bytes of the digits that end the line.
+fn written_out(call: Call, line: &[u8]) -> Delivery
+    ensures { λ r. ⌜ r ≡ delivery (isHexText (mostBytes (call .letter)) (digitsOf call (now (line .entry)))) (unhex (digitsOf call (now (line .entry)))) ⌝ }
+{
+    let from = line.len() - lesser(call.digits, line.len());
+    decode(&line[from..], most_bytes(call.letter))
 }
 
 // `block` is the one kept where the block that the call names stands.
@@ -162,16 +178,6 @@ pub fn delivered(call: Call, line: &[u8], sent: u64, block: &[u8]) -> Delivery
             }
             copied_but(block, call.second)
         }
-        b'H' => {
-            if line.len() < 4 {
-                return nothing();
-            }
-            decode(&line[4..])
-        }
-        _ => Delivery {
-            known: true,
-            count: 0,
-            bytes: zeros(),
-        },
+        _ => written_out(call, line),
     }
 }

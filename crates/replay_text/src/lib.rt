@@ -1,14 +1,15 @@
-// The text of a list of calls: a line as a call, the bytes that it delivers, and the line of an answer.
+// The text of a list of calls: a line as a call, the bytes that it names, and the line of an answer.
 pub mod kept;
 pub mod parse;
 pub mod print;
 
-// A call: its letter and its numbers, 0 where it has none. Letter 0 is no call.
+// A call: its letter and its numbers, 0 where it has none, and how many digits of bytes end its line. Letter 0 is no call.
 pub struct Call {
     pub letter: u8,
     pub first: u32,
     pub second: u32,
     pub value: i32,
+    pub digits: usize,
 }
 
 // A number read from a line, and the place behind it; so for a value.
@@ -22,9 +23,9 @@ pub enum Value {
     Missing,
 }
 
-// The bytes that a line delivers, zeros behind; none where it names a block that is not kept, or no bytes.
+// The bytes that a line names, zeros behind; none where it names a block that is not kept, or no bytes.
 pub struct Delivery {
     pub known: bool,
     pub count: usize,
-    pub bytes: [u8; 520],
+    pub bytes: [u8; 2100],
 }

@@ -3,7 +3,7 @@ ghost use Prim.Native.Nat.{ℕ, _≤_};
 ghost use mathlib.Core.Path.{_≡_};
 ghost use mathlib.Core.List.{List};
 ghost use lib.ListN.{drop};
-ghost use Rattle.replay_text.specs.Lines.{digitNumber, upTo, readDigits, readNumber, negative, readSigned, readValue, callWith, noCall, atEnd, oneNumber, twoNumbers, numbersAndValue, bytesBehind, callOf, replicaNamed};
+ghost use Rattle.replay_text.specs.Lines.{digitNumber, upTo, readDigits, readNumber, negative, readSigned, readValue, callWith, noCall, withDigits, bytesBehind, atEnd, oneNumber, twoNumbers, numberAndValue, numbersAndValue, callOf, replicaNamed};
 ghost use Rattle.replay_text.specs.Lines.{numberField, valueField};
 use super::Call;
 use super::Number;
@@ -17,6 +17,7 @@ fn made(letter: u8, first: u32, second: u32, value: i32) -> Call
         first: first,
         second: second,
         value: value,
+        digits: 0,
     }
 }
 
@@ -135,14 +136,35 @@ fn take_value(line: &[u8], at: usize) -> Value
     take_signed(line, at + 1)
 }
 
-// The call, where nothing stands behind it.
+// The call, with the digits of bytes behind a space.
+fn with_bytes(line: &[u8], at: usize, call: Call) -> Call
+    ensures { λ r. ⌜ r ≡ bytesBehind call (drop at (now (line .entry))) ⌝ }
+{
+    if line.len() <= at {
+        return no_call();
+    }
+    if line[at] != b' ' {
+        return no_call();
+    }
+    let mut with = call;
+    with.digits = line.len() - (at + 1);
+    with
+}
+
+// The call, where nothing stands behind it but the bytes of those that have bytes.
 fn at_end(line: &[u8], end: usize, call: Call) -> Call
     ensures { λ r. ⌜ r ≡ atEnd call (drop end (now (line .entry))) ⌝ }
 {
-    if end < line.len() {
-        return no_call();
+    let letter = call.letter;
+    match letter {
+        b'H' | b'Y' => with_bytes(line, end, call),
+        _ => {
+            if end < line.len() {
+                return no_call();
+            }
+            call
+        }
     }
-    call
 }
 
 fn with_one(line: &[u8], letter: u8) -> Call
@@ -166,7 +188,19 @@ fn with_two(line: &[u8], letter: u8) -> Call
     at_end(line, end, made(letter, first, second, 0))
 }
 
-fn with_value(line: &[u8], letter: u8) -> Call
+fn with_one_value(line: &[u8], letter: u8) -> Call
+    ensures { λ r. ⌜ r ≡ numberAndValue letter (drop 3 (now (line .entry))) ⌝ }
+{
+    let Number::Is(first, at) = take_number(line, 3) else {
+        return no_call();
+    };
+    let Value::Is(v, end) = take_value(line, at) else {
+        return no_call();
+    };
+    at_end(line, end, made(letter, first, 0, v))
+}
+
+fn with_two_value(line: &[u8], letter: u8) -> Call
     ensures { λ r. ⌜ r ≡ numbersAndValue letter (drop 3 (now (line .entry))) ⌝ }
 {
     let Number::Is(first, at) = take_number(line, 3) else {
@@ -179,19 +213,6 @@ fn with_value(line: &[u8], letter: u8) -> Call
         return no_call();
     };
     at_end(line, end, made(letter, first, second, v))
-}
-
-// A call with bytes behind a space, which are read where they are delivered.
-fn with_bytes(line: &[u8], letter: u8) -> Call
-    ensures { λ r. ⌜ r ≡ bytesBehind letter (drop 3 (now (line .entry))) ⌝ }
-{
-    if line.len() < 4 {
-        return no_call();
-    }
-    if line[3] != b' ' {
-        return no_call();
-    }
-    made(letter, 0, 0, 0)
 }
 
 // The place of the replica that the line names, 6 where it names none.
@@ -223,12 +244,12 @@ pub fn call_of(line: &[u8]) -> Call
     }
     let letter = line[0];
     match letter {
-        b'M' | b'W' => with_value(line, letter),
+        b'M' | b'W' | b'Y' => with_two_value(line, letter),
         b'R' | b'F' => with_two(line, letter),
-        b'C' | b'X' => with_one(line, letter),
+        b'C' | b'J' | b'X' => with_one(line, letter),
         b'D' => with_one(line, letter),
-        b'H' => with_bytes(line, letter),
-        b'B' | b'Q' | b'S' | b'K' | b'V' => at_end(line, 3, made(letter, 0, 0, 0)),
+        b'Z' => with_one_value(line, letter),
+        b'B' | b'H' | b'K' | b'Q' | b'S' | b'V' => at_end(line, 3, made(letter, 0, 0, 0)),
         _ => no_call(),
     }
 }

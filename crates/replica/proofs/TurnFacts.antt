@@ -1,4 +1,4 @@
--- What a make, a send, a deliver or a work says by value (`On`), what it says of the lent parts (`Did`), and the way from the one to the other. Written by `scripts/walks`. Assumes nothing.
+-- What a make, a restart, a send, a deliver or a work says by value (`On`), what it says of the lent parts (`Did`), and the way from the one to the other. Written by `scripts/walks`. Assumes nothing.
 use Prim.Native.Nat.{ℕ}
 use mathlib.Core.Path.{_≡_, refl}
 use mathlib.Core.Bool.{false}
@@ -11,14 +11,17 @@ use Rattle.memory.specs.declared.Txn.{Txn}
 use Rattle.memory.specs.Memory.{Memory}
 use Rattle.memory.specs.Rows.{closed, endRows}
 use Rattle.engine.specs.Make.{turnZero, countsFor, makeStep}
+use Rattle.engine.specs.Restart.{restartStep}
 use Rattle.engine.specs.Moves.{sendStep, deliverStep, workStep}
 use Rattle.call_reply.specs.Parts.{allParts, sendParts, deliverParts, workParts}
-use Rattle.call_reply.specs.Replies.{number, workReply, Gives, GivesBlock}
+use Rattle.call_reply.specs.Replies.{number, workReply, restartReply, Gives, GivesWith}
 use Rattle.call_reply.specs.declared.WorkReply.{WorkReply}
+use Rattle.call_reply.specs.declared.RestartReply.{RestartReply}
 use Rattle.call_reply.specs.declared.Made.{Made}
+use Rattle.call_reply.specs.declared.Restarted.{Restarted}
 use Rattle.call_reply.specs.declared.Sent.{Sent}
 use Rattle.call_reply.specs.declared.Worked.{Worked}
-use Rattle.call_reply.specs.Called.{called}
+use Rattle.call_reply.specs.Called.{called, withBlock}
 use Rattle.call_make.specs.Made.{ifMade}
 use Rattle.call_work.specs.Writesets.{endedMarks}
 use Rattle.call_reply.proofs.CalledLaws.{called-other}
@@ -32,23 +35,32 @@ MakeDid table turn counts size me start queue items writes snapshots values stam
 pub make-not : (table : List Txn) (turn : Turn) (counts : Counts) (size : ℕ) (me : ℕ) (start : List ℤ) (queue : List ℕ) (items : List ℕ) (writes : List ℤ) (snapshots : List ℤ) (values : List ℤ) (stamps : List ℕ) (places : List ℕ) (outbox : List ℕ) → (length table ≡ 6 → ⊥) → MakeDid table turn counts size me start queue items writes snapshots values stamps places outbox (1) table turn counts queue items writes snapshots values stamps places outbox
 make-not table turn counts size me start queue items writes snapshots values stamps places outbox other = rw (called-other (λ (x : Memory). makeStep x size me start) (allParts turn counts table queue items writes snapshots values stamps places outbox) other) (refl, refl)
 
+abbrev pub RestartOn : ℕ → ℕ → List ℤ → List ℕ → List ℕ → List ℤ → List ℤ → List ℤ → List ℕ → List ℕ → List ℕ → List ℕ → List ℕ → Restarted → List ℕ → List ℕ → List ℤ → List ℤ → List ℤ → List ℕ → List ℕ → List ℕ → List ℕ → Type 0
+RestartOn size me start queue items writes snapshots values stamps places outbox journal block r queue′ items′ writes′ snapshots′ values′ stamps′ places′ outbox′ block′ = (turn : Turn) (counts : Counts) (table : List Txn) → GivesWith restartReply (restartStep (allParts turn counts table queue items writes snapshots values stamps places outbox) size me start journal block) block (r .reply) (allParts (ifMade (r .reply .number) (r .turn) turn) (ifMade (r .reply .number) (r .counts) counts) (ifMade (r .reply .number) (replicate 6 closed) table) queue′ items′ writes′ snapshots′ values′ stamps′ places′ outbox′) block′
+
+abbrev pub RestartDid : List Txn → Turn → Counts → ℕ → ℕ → List ℤ → List ℕ → List ℕ → List ℤ → List ℤ → List ℤ → List ℕ → List ℕ → List ℕ → List ℕ → List ℕ → RestartReply → List Txn → Turn → Counts → List ℕ → List ℕ → List ℤ → List ℤ → List ℤ → List ℕ → List ℕ → List ℕ → List ℕ → Type 0
+RestartDid table turn counts size me start queue items writes snapshots values stamps places outbox journal block r table′ turn′ counts′ queue′ items′ writes′ snapshots′ values′ stamps′ places′ outbox′ block′ = GivesWith restartReply (called (λ (x : Memory). restartStep x size me start journal block) (allParts turn counts table queue items writes snapshots values stamps places outbox)) block (r) (allParts turn′ counts′ table′ queue′ items′ writes′ snapshots′ values′ stamps′ places′ outbox′) block′
+
+pub restart-not : (table : List Txn) (turn : Turn) (counts : Counts) (size : ℕ) (me : ℕ) (start : List ℤ) (queue : List ℕ) (items : List ℕ) (writes : List ℤ) (snapshots : List ℤ) (values : List ℤ) (stamps : List ℕ) (places : List ℕ) (outbox : List ℕ) (journal : List ℕ) (block : List ℕ) → (length table ≡ 6 → ⊥) → RestartDid table turn counts size me start queue items writes snapshots values stamps places outbox journal block (record { number = 1; count = 0 }) table turn counts queue items writes snapshots values stamps places outbox block
+restart-not table turn counts size me start queue items writes snapshots values stamps places outbox journal block other = rw (called-other (λ (x : Memory). restartStep x size me start journal block) (allParts turn counts table queue items writes snapshots values stamps places outbox) other) ((refl, refl), refl)
+
 abbrev pub SendOn : List Txn → Turn → Counts → List ℕ → List ℕ → List ℤ → List ℕ → List ℕ → Sent → List ℕ → List ℕ → List ℕ → Type 0
-SendOn rows turn counts queue items writes outbox block r queue′ outbox′ block′ = (m : Memory) → GivesBlock (sendStep (sendParts m turn counts rows queue items writes outbox) block) block (r .number) (sendParts m (r .turn) counts (r .rows) queue′ items writes outbox′) block′
+SendOn rows turn counts queue items writes outbox block r queue′ outbox′ block′ = (m : Memory) → GivesWith number (sendStep (sendParts m turn counts rows queue items writes outbox) block) block (r .number) (sendParts m (r .turn) counts (r .rows) queue′ items writes outbox′) block′
 
 abbrev pub SendDid : List Txn → Turn → Counts → List ℕ → List ℕ → List ℤ → List ℕ → List ℕ → ℕ → List Txn → Turn → List ℕ → List ℕ → List ℕ → Type 0
-SendDid table turn counts queue items writes outbox block r table′ turn′ queue′ outbox′ block′ = (m : Memory) → GivesBlock (called (λ (x : Memory). sendStep x block) (sendParts m turn counts table queue items writes outbox)) block (r) (sendParts m turn′ counts table′ queue′ items writes outbox′) block′
+SendDid table turn counts queue items writes outbox block r table′ turn′ queue′ outbox′ block′ = (m : Memory) → GivesWith number (called (λ (x : Memory). sendStep x block) (sendParts m turn counts table queue items writes outbox)) block (r) (sendParts m turn′ counts table′ queue′ items writes outbox′) block′
 
 pub send-not : (table : List Txn) (turn : Turn) (counts : Counts) (queue : List ℕ) (items : List ℕ) (writes : List ℤ) (outbox : List ℕ) (block : List ℕ) → (length table ≡ 6 → ⊥) → SendDid table turn counts queue items writes outbox block (1) table turn queue outbox block
 send-not table turn counts queue items writes outbox block other = λ m. rw (called-other (λ (x : Memory). sendStep x block) (sendParts m turn counts table queue items writes outbox) other) ((refl, refl), refl)
 
-abbrev pub WorkOn : List Txn → Turn → Counts → List ℕ → List ℕ → List ℤ → List ℕ → List ℕ → Worked → List ℕ → List ℤ → List ℕ → List ℕ → Type 0
-WorkOn rows turn counts queue items values stamps places r queue′ values′ stamps′ places′ = (m : Memory) → Gives workReply (workStep (workParts m turn counts rows queue items values stamps places)) (r .reply) (workParts m (r .turn) (r .counts) (endRows (r .ended) rows) queue′ items values′ stamps′ places′) × (r .ended ≡ endedMarks (workParts m turn counts rows queue items values stamps places))
+abbrev pub WorkOn : List Txn → Turn → Counts → List ℕ → List ℕ → List ℤ → List ℕ → List ℕ → List ℕ → Worked → List ℕ → List ℤ → List ℕ → List ℕ → List ℕ → Type 0
+WorkOn rows turn counts queue items values stamps places block r queue′ values′ stamps′ places′ block′ = (m : Memory) → GivesWith workReply (withBlock block workStep (workParts m turn counts rows queue items values stamps places)) block (r .reply) (workParts m (r .turn) (r .counts) (endRows (r .ended) rows) queue′ items values′ stamps′ places′) block′ × (r .ended ≡ endedMarks block (workParts m turn counts rows queue items values stamps places))
 
-abbrev pub WorkDid : List Txn → Turn → Counts → List ℕ → List ℕ → List ℤ → List ℕ → List ℕ → WorkReply → List Txn → Turn → Counts → List ℕ → List ℤ → List ℕ → List ℕ → Type 0
-WorkDid table turn counts queue items values stamps places r table′ turn′ counts′ queue′ values′ stamps′ places′ = (m : Memory) → Gives workReply (called (λ (x : Memory). workStep x) (workParts m turn counts table queue items values stamps places)) (r) (workParts m turn′ counts′ table′ queue′ items values′ stamps′ places′)
+abbrev pub WorkDid : List Txn → Turn → Counts → List ℕ → List ℕ → List ℤ → List ℕ → List ℕ → List ℕ → WorkReply → List Txn → Turn → Counts → List ℕ → List ℤ → List ℕ → List ℕ → List ℕ → Type 0
+WorkDid table turn counts queue items values stamps places block r table′ turn′ counts′ queue′ values′ stamps′ places′ block′ = (m : Memory) → GivesWith workReply (called (λ (x : Memory). withBlock block workStep x) (workParts m turn counts table queue items values stamps places)) block (r) (workParts m turn′ counts′ table′ queue′ items values′ stamps′ places′) block′
 
-pub work-not : (table : List Txn) (turn : Turn) (counts : Counts) (queue : List ℕ) (items : List ℕ) (values : List ℤ) (stamps : List ℕ) (places : List ℕ) → (length table ≡ 6 → ⊥) → WorkDid table turn counts queue items values stamps places (record { number = 1; sender = 0; moved = false; count = 0; ticket = 0; aborted = replicate 6 0 }) table turn counts queue values stamps places
-work-not table turn counts queue items values stamps places other = λ m. rw (called-other (λ (x : Memory). workStep x) (workParts m turn counts table queue items values stamps places) other) (refl, refl)
+pub work-not : (table : List Txn) (turn : Turn) (counts : Counts) (queue : List ℕ) (items : List ℕ) (values : List ℤ) (stamps : List ℕ) (places : List ℕ) (block : List ℕ) → (length table ≡ 6 → ⊥) → WorkDid table turn counts queue items values stamps places block (record { number = 1; sender = 0; moved = false; count = 0; ticket = 0; aborted = replicate 6 0; append = false }) table turn counts queue values stamps places block
+work-not table turn counts queue items values stamps places block other = λ m. rw (called-other (λ (x : Memory). withBlock block workStep x) (workParts m turn counts table queue items values stamps places) other) ((refl, refl), refl)
 
 abbrev pub DeliverOn : Turn → Counts → List ℕ → List ℕ → List ℕ → ℕ → List ℕ → Type 0
 DeliverOn turn counts places outbox bytes r places′ = (m : Memory) → Gives number (deliverStep (deliverParts m turn counts places outbox) bytes) r (deliverParts m turn counts places′ outbox)

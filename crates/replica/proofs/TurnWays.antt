@@ -1,4 +1,4 @@
--- How each return of a make, a send or a work meets what the call says, from what the call by value says and the tests that led there. Assumes nothing.
+-- How each return of a make, a restart, a send or a work meets what the call says, from what the call by value says and the tests that led there. Assumes nothing.
 --     …-kept     refused: what is held stays
 --     …-did      accepted: what was written to table, turn and counts where they lie is what the step says
 use Prim.Native.Nat.{ℕ}
@@ -15,21 +15,24 @@ use Rattle.memory.specs.declared.Turn.{Turn}
 use Rattle.memory.specs.declared.Txn.{Txn}
 use Rattle.memory.specs.Memory.{Memory}
 use Rattle.memory.specs.Rows.{closed, endRows}
-use Rattle.engine.specs.Calls.{Outcome}
+use Rattle.engine.specs.Calls.{Outcome, outcome}
 use Rattle.engine.specs.Make.{makeStep}
+use Rattle.engine.specs.Calls.Answer.{refused}
+use Rattle.engine.specs.Restart.{restartStep}
 use Rattle.engine.specs.Moves.{sendRow, sendRefusal, sendNow, sendStep, blockAtTurn, workRefusal, passNext, commitWriteset, workStep}
 use Rattle.engine.proofs.Tests.{cond-by, unless-by}
 use Rattle.call_reply.specs.declared.Made.{Made}
+use Rattle.call_reply.specs.declared.Restarted.{Restarted}
 use Rattle.call_reply.specs.declared.Sent.{Sent}
 use Rattle.call_reply.specs.declared.WorkReply.{WorkReply}
 use Rattle.call_reply.specs.declared.Worked.{Worked}
 use Rattle.call_reply.specs.Parts.{allParts, sendParts, workParts}
-use Rattle.call_reply.specs.Replies.{number, workReply, Gives, GivesBlock}
-use Rattle.call_reply.specs.Called.{called}
+use Rattle.call_reply.specs.Replies.{number, workReply, Gives, GivesWith, GivesBlock}
+use Rattle.call_reply.specs.Called.{called, withBlock}
 use Rattle.call_reply.proofs.CalledLaws.{called-six}
 use Rattle.host_table.specs.Table.{loaded}
 use Rattle.replica.proofs.TableLaws.{loaded-six}
-use Rattle.replica.proofs.TurnFacts.{MakeOn, MakeDid, SendOn, SendDid, WorkOn, WorkDid}
+use Rattle.replica.proofs.TurnFacts.{MakeOn, MakeDid, RestartOn, RestartDid, SendOn, SendDid, WorkOn, WorkDid}
 
 -- ---- make
 -- six rows ended are six free rows
@@ -62,6 +65,25 @@ module _ (table : List Txn) (turn : Turn) (counts : Counts) (size me : ℕ) (sta
       let q = rw (eq-eqb (r .number) 0 z) at said .0 turn counts table in
       rw (called-six (λ (x : Memory). makeStep x size me start) make-before six, all-free table six) (sym z ∙ q .0, q .1)
 
+-- ---- restart
+module _ (table : List Txn) (turn : Turn) (counts : Counts) (size me : ℕ) (start : List ℤ) (queue items : List ℕ) (writes snapshots values : List ℤ) (stamps places outbox journal block : List ℕ) (r : Restarted)
+    (queue′ items′ : List ℕ) (writes′ snapshots′ values′ : List ℤ) (stamps′ places′ outbox′ block′ : List ℕ) (six : length table ≡ 6)
+    (said : RestartOn size me start queue items writes snapshots values stamps places outbox journal block r queue′ items′ writes′ snapshots′ values′ stamps′ places′ outbox′ block′) where
+  abbrev restart-before : Memory
+  restart-before = allParts turn counts table queue items writes snapshots values stamps places outbox
+
+  pub restart-kept : (r .reply .number ≡ 0 → ⊥)
+      → RestartDid table turn counts size me start queue items writes snapshots values stamps places outbox journal block (r .reply) table turn counts queue′ items′ writes′ snapshots′ values′ stamps′ places′ outbox′ block′
+  restart-kept z =
+      let q = rw (ne-eqb (r .reply .number) 0 z) at said turn counts table in
+      rw (called-six (λ (x : Memory). restartStep x size me start journal block) restart-before six) q
+
+  pub restart-did : r .reply .number ≡ 0
+      → RestartDid table turn counts size me start queue items writes snapshots values stamps places outbox journal block (r .reply) (endRows (replicate 6 true) table) (r .turn) (r .counts) queue′ items′ writes′ snapshots′ values′ stamps′ places′ outbox′ block′
+  restart-did z =
+      let q = rw (eq-eqb (r .reply .number) 0 z) at said turn counts table in
+      rw (called-six (λ (x : Memory). restartStep x size me start journal block) restart-before six, all-free table six) q
+
 -- ---- send
 module _ (table : List Txn) (turn : Turn) (counts : Counts) (queue items : List ℕ) (writes : List ℤ) (outbox block : List ℕ) (r : Sent) (queue′ outbox′ block′ : List ℕ) (six : length table ≡ 6)
     (said : SendOn (loaded table) turn counts queue items writes outbox block r queue′ outbox′ block′) where
@@ -86,23 +108,29 @@ module _ (table : List Txn) (turn : Turn) (counts : Counts) (queue items : List 
       (λ e g. ((refl, ap (λ (x : Memory). sendParts m (x .turn) counts (map sendRow table) (x .txns .queue) items writes (x .blocks .outbox)) (g .0 .1)), g .1)) (λ e g. absurd (e (sym (g .0 .0) ∙ z))))
 
 -- ---- work
-module _ (table : List Txn) (turn : Turn) (counts : Counts) (queue items : List ℕ) (values : List ℤ) (stamps places : List ℕ) (r : Worked) (queue′ : List ℕ) (values′ : List ℤ) (stamps′ places′ : List ℕ) (six : length table ≡ 6)
-    (said : WorkOn (loaded table) turn counts queue items values stamps places r queue′ values′ stamps′ places′) where
+module _ (table : List Txn) (turn : Turn) (counts : Counts) (queue items : List ℕ) (values : List ℤ) (stamps places block : List ℕ) (r : Worked) (queue′ : List ℕ) (values′ : List ℤ) (stamps′ places′ block′ : List ℕ) (six : length table ≡ 6)
+    (said : WorkOn (loaded table) turn counts queue items values stamps places block r queue′ values′ stamps′ places′ block′) where
   module _ (m : Memory) where
     abbrev work-before : Memory
     work-before = workParts m turn counts table queue items values stamps places
 
     abbrev WorkWay : List Txn → Turn → Counts → Outcome → Type 0
-    WorkWay t h c o = Gives workReply o (r .reply) (workParts m (r .turn) (r .counts) (endRows (r .ended) table) queue′ items values′ stamps′ places′) → Gives workReply o (r .reply) (workParts m h c t queue′ items values′ stamps′ places′)
+    WorkWay t h c o = GivesWith workReply o block (r .reply) (workParts m (r .turn) (r .counts) (endRows (r .ended) table) queue′ items values′ stamps′ places′) block′ → GivesWith workReply o block (r .reply) (workParts m h c t queue′ items values′ stamps′ places′) block′
 
-    work-way : (t : List Txn) (h : Turn) (c : Counts) → WorkWay t h c (workStep work-before) → Gives workReply (called (λ (x : Memory). workStep x) work-before) (r .reply) (workParts m h c t queue′ items values′ stamps′ places′)
-    work-way t h c way = rw (called-six (λ (x : Memory). workStep x) work-before six) (way ((rw (loaded-six table six) at said) m .0))
+    work-way : (t : List Txn) (h : Turn) (c : Counts) → WorkWay t h c (withBlock block workStep work-before)
+        → GivesWith workReply (called (λ (x : Memory). withBlock block workStep x) work-before) block (r .reply) (workParts m h c t queue′ items values′ stamps′ places′) block′
+    work-way t h c way = rw (called-six (λ (x : Memory). withBlock block workStep x) work-before six) (way ((rw (loaded-six table six) at said) m .0))
 
-  pub work-kept : (r .reply .number ≡ 0 → ⊥) → WorkDid table turn counts queue items values stamps places (r .reply) table turn counts queue′ values′ stamps′ places′
-  unfolding workStep passNext commitWriteset
-  work-kept z = λ m. work-way m table turn counts (unless-by (WorkWay m table turn counts) (workRefusal (work-before m)) (work-before m)
-      (λ e. cond-by (WorkWay m table turn counts) (eqb (getD (blockAtTurn (work-before m)) 0 0) 1) (λ k g. absurd (z (ap (λ (x : WorkReply). x .number) (g .0)))) (λ k g. absurd (z (ap (λ (x : WorkReply). x .number) (g .0)))))
-      (λ e g. (g .0, ap (λ (x : Memory). workParts m turn counts table (x .txns .queue) items (x .store .values) (x .store .stamps) (x .blocks .places)) (g .1))))
+    -- by the ends of a work
+    work-by : (P : Outcome → Type 0) → ((o : Outcome) → number o ≡ 0 → P o) → ((n : ℕ) → P (outcome (refused n) work-before)) → P (withBlock block workStep work-before)
+    unfolding withBlock workStep passNext commitWriteset
+    work-by P done kept = cond-by P (eqb (length block) 512)
+        (λ y. unless-by P (workRefusal work-before) work-before (λ e. cond-by P (eqb (getD (blockAtTurn work-before) 0 0) 1) (λ k. done _ refl) (λ k. done _ refl)) (λ e. kept _)) (λ y. kept 1)
 
-  pub work-did : r .reply .number ≡ 0 → WorkDid table turn counts queue items values stamps places (r .reply) (endRows (r .ended) table) (r .turn) (r .counts) queue′ values′ stamps′ places′
+  pub work-kept : (r .reply .number ≡ 0 → ⊥) → WorkDid table turn counts queue items values stamps places block (r .reply) table turn counts queue′ values′ stamps′ places′ block′
+  work-kept z = λ m. work-way m table turn counts (work-by m (WorkWay m table turn counts)
+      (λ o e g. absurd (z (ap (λ (x : WorkReply). x .number) (g .0 .0) ∙ e)))
+      (λ n g. ((g .0 .0, ap (λ (x : Memory). workParts m turn counts table (x .txns .queue) items (x .store .values) (x .store .stamps) (x .blocks .places)) (g .0 .1)), g .1)))
+
+  pub work-did : r .reply .number ≡ 0 → WorkDid table turn counts queue items values stamps places block (r .reply) (endRows (r .ended) table) (r .turn) (r .counts) queue′ values′ stamps′ places′ block′
   work-did z = λ m. work-way m (endRows (r .ended) table) (r .turn) (r .counts) (λ g. g)

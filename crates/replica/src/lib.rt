@@ -1,14 +1,15 @@
-// The interface that a host program uses: the ten calls of document 01, with the table lent as a slice of records, and turn and counts behind references. Each copies what it
+// The interface that a host program uses: the ten calls of document 01 and the restart of document 02, with the table lent as a slice of records, and turn and counts behind references. Each copies what it
 // needs of the lent parts, makes the call by value, and writes what changed where it lies. Its contract: what the call gives is what the engine's step gives, on every memory
 // with the lent parts.
 ghost use mathlib.Core.Path.{_≡_};
 ghost use Rattle.memory.specs.Memory.{Memory};
 ghost use Rattle.engine.specs.Make.{makeStep};
+ghost use Rattle.engine.specs.Restart.{restartStep};
 ghost use Rattle.engine.specs.Client.{beginStep, readStep, writeStep, askStep, withdrawStep, reportStep};
 ghost use Rattle.engine.specs.Moves.{sendStep, deliverStep, workStep};
 ghost use Rattle.call_reply.specs.Parts.{allParts, beginParts, readParts, writeParts, askParts, withdrawParts, reportParts, sendParts, deliverParts, workParts};
-ghost use Rattle.call_reply.specs.Replies.{number, beginReply, readReply, askReply, reportReply, workReply, Gives, GivesBlock};
-ghost use Rattle.call_reply.specs.Called.{called};
+ghost use Rattle.call_reply.specs.Replies.{number, beginReply, readReply, askReply, reportReply, workReply, restartReply, Gives, GivesWith, GivesBlock};
+ghost use Rattle.call_reply.specs.Called.{called, withBlock};
 use call_client::ask;
 use call_client::begin;
 use call_client::read;
@@ -20,12 +21,15 @@ use call_reply::AskReply;
 use call_reply::BeginReply;
 use call_reply::ReadReply;
 use call_reply::ReportReply;
+use call_reply::RestartReply;
 use call_reply::WorkReply;
 use call_reply::replies::no_ask;
 use call_reply::replies::no_begin;
 use call_reply::replies::no_read;
 use call_reply::replies::no_report;
+use call_reply::replies::no_restart;
 use call_reply::replies::no_work;
+use call_restart::restart;
 use call_send::send;
 use call_work::work;
 use call_write::write;
@@ -96,6 +100,61 @@ pub extern "C" fn stemline_make(
     set_turn(turn, done.turn);
     set_counts(counts, done.counts);
     0
+}
+
+#[no_mangle]
+pub extern "C" fn stemline_restart(
+    table: &mut [Txn],
+    turn: &mut Turn,
+    counts: &mut Counts,
+    n: u32,
+    own: u32,
+    start: &[i32],
+    queue: &mut [u32],
+    items: &mut [u8],
+    writes: &mut [i32],
+    snapshots: &mut [i32],
+    values: &mut [i32],
+    stamps: &mut [u32],
+    places: &mut [u8],
+    outbox: &mut [u8],
+    journal: &[u8],
+    block: &mut [u8],
+) -> RestartReply
+    ensures { λ r. ⌜ (GivesWith restartReply
+        (called (λ x. restartStep x n own (now (start .entry)) (now (journal .entry)) (now (block .entry)))
+        (allParts (now (turn .entry)) (now (counts .entry)) (now (table .entry)) (now (queue .entry)) (now (items .entry)) (now (writes .entry)) (now (snapshots .entry)) (now (values .entry)) (now (stamps .entry)) (now (places .entry)) (now (outbox .entry))))
+        (now (block .entry))
+        r
+        (allParts (now (turn .exit)) (now (counts .exit)) (now (table .exit)) (now (queue .exit)) (now (items .exit)) (now (writes .exit)) (now (snapshots .exit)) (now (values .exit)) (now (stamps .exit)) (now (places .exit)) (now (outbox .exit)))
+        (now (block .exit))) ⌝ }
+{
+    if table.len() != 6 {
+        return no_restart(1);
+    }
+    let done = restart(
+        n,
+        own,
+        start,
+        queue,
+        items,
+        writes,
+        snapshots,
+        values,
+        stamps,
+        places,
+        outbox,
+        journal,
+        block,
+    );
+    let reply = done.reply;
+    if reply.number != 0 {
+        return reply;
+    }
+    end_rows(table, [true; 6]);
+    set_turn(turn, done.turn);
+    set_counts(counts, done.counts);
+    reply
 }
 
 #[no_mangle]
@@ -325,12 +384,15 @@ pub extern "C" fn stemline_work(
     values: &mut [i32],
     stamps: &mut [u32],
     places: &mut [u8],
+    block: &mut [u8],
 ) -> WorkReply
-    ensures { λ r. ⌜ ((m : Memory) → Gives workReply
-        (called workStep
+    ensures { λ r. ⌜ ((m : Memory) → GivesWith workReply
+        (called (withBlock (now (block .entry)) workStep)
         (workParts m (now (turn .entry)) (now (counts .entry)) (now (table .entry)) (now (queue .entry)) (now (items .entry)) (now (values .entry)) (now (stamps .entry)) (now (places .entry))))
+        (now (block .entry))
         r
-        (workParts m (now (turn .exit)) (now (counts .exit)) (now (table .exit)) (now (queue .exit)) (now (items .entry)) (now (values .exit)) (now (stamps .exit)) (now (places .exit)))) ⌝ }
+        (workParts m (now (turn .exit)) (now (counts .exit)) (now (table .exit)) (now (queue .exit)) (now (items .entry)) (now (values .exit)) (now (stamps .exit)) (now (places .exit)))
+        (now (block .exit))) ⌝ }
 {
     if table.len() != 6 {
         return no_work(1);
@@ -338,7 +400,17 @@ pub extern "C" fn stemline_work(
     let rows = load(table);
     let cursor = copy_turn(turn);
     let before = copy_counts(counts);
-    let done = work(rows, cursor, before, queue, items, values, stamps, places);
+    let done = work(
+        rows,
+        cursor,
+        before,
+        queue,
+        items,
+        values,
+        stamps,
+        places,
+        block,
+    );
     let reply = done.reply;
     if reply.number != 0 {
         return reply;

@@ -3,11 +3,14 @@
 //! test holds it to the model.
 
 mod client;
+mod restart;
 mod turn;
 
 use model::block::{BLOCK, ENTRIES, RECORDS};
 use model::refusal::OUT_OF_RANGE;
 use model::replica::{Report, ITEMS};
+
+pub use self::restart::Restarted;
 
 /// The most open transactions.
 const OPEN: usize = RECORDS;
@@ -85,7 +88,7 @@ impl Row {
 }
 
 /// What one work did.
-#[derive(Clone, Copy)]
+#[derive(Clone)]
 pub struct Work {
     pub sender: u8,
     pub ticket: u32,
@@ -93,6 +96,8 @@ pub struct Work {
     /// The first `count`, rising.
     pub aborted: [u32; OPEN],
     pub count: usize,
+    /// Another's block, whose slot the turn left.
+    pub append: Option<Box<[u8; BLOCK]>>,
 }
 
 impl Replica {

@@ -3,7 +3,7 @@
 use std::hint::black_box;
 
 use bench::plain;
-use bench::timing::{self, Case, Side, ROUNDS};
+use bench::timing::{self, Case, Side};
 use model::block::{self, Message, BLOCK, ENTRY, HEADER, RECORD, RECORD_HEAD};
 use model::replica as second;
 use model::samples::{self, Random};
@@ -12,6 +12,7 @@ const ITEMS: usize = 128;
 /// Replicas that one timed run goes through, prepared anew before it.
 const COPIES: u32 = 8;
 const SEED: u64 = 2;
+const ROUNDS: usize = 301;
 /// What every write writes; no item starts with it.
 const VALUE: i32 = 1_000;
 
@@ -127,7 +128,7 @@ pub fn run() {
         case!("  send, six records", send()),
         case!("  work, another's writeset", work(&blocks)),
     ];
-    timing::run(&mut cases);
+    timing::run(&mut cases, ROUNDS);
 
     println!("Replicas. Nanoseconds: median of {ROUNDS} rounds, the three by turns. `plain` is a");
     println!("replica in plain Rust with fixed arrays, `model` the second model, which allocates.");

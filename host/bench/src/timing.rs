@@ -3,8 +3,6 @@
 use std::hint::black_box;
 use std::time::{Duration, Instant};
 
-pub const ROUNDS: usize = 301;
-
 /// One comparison: the same work done by each side, the library's first.
 pub struct Case<'a> {
     name: &'static str,
@@ -60,7 +58,7 @@ impl<'a> Side<'a> {
         Side {
             run: Box::new(run),
             count,
-            times: Vec::with_capacity(ROUNDS),
+            times: Vec::new(),
         }
     }
 
@@ -70,10 +68,10 @@ impl<'a> Side<'a> {
     }
 }
 
-/// Times all cases. In each round every side of every case runs once, and the side that begins
+/// Times all cases, so many rounds. In each every side of every case runs once, and the side that begins
 /// changes from round to round, so that a change of the machine's speed meets all alike.
-pub fn run(cases: &mut [Case]) {
-    for round in 0..ROUNDS {
+pub fn run(cases: &mut [Case], rounds: usize) {
+    for round in 0..rounds {
         for case in &mut *cases {
             let sides = case.sides.len();
             for at in 0..sides {

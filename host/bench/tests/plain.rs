@@ -1,15 +1,18 @@
 //! The plain replica of the benchmark and the second model give the same.
 
 use bench::plain;
-use model::block::MAX_TICKET;
-use model::drive::{start_values, Group, Peers, Seen, Style, Subject, STYLES};
-use model::replica::{Replica, Report, Work, ITEMS, SLOTS};
+use model::block::{BLOCK, MAX_TICKET};
+use model::drive::{start_values, Group, Peers, Powered, Seen, Style, Subject, STYLES};
+use model::replica::{Replica, Report, Restarted, Work, ITEMS, SLOTS};
 use model::samples::Random;
-use model::trace::{Answer, Call};
+use model::trace::{Answer, Call, Restart};
 
 struct Both {
     plain: plain::Replica,
     model: Replica,
+    /// The journal, and what of it a cut leaves at least.
+    disk: Vec<u8>,
+    floor: usize,
 }
 
 impl Both {
@@ -21,14 +24,23 @@ impl Both {
         Both {
             plain: plain.fast_forward(slots, tickets),
             model: model.fast_forward(slots, tickets),
+            disk: Vec::new(),
+            floor: 0,
         }
     }
 }
 
 impl Subject for Both {
     fn call(&mut self, call: &Call) -> Result<Answer, u8> {
-        let answer = play(&mut self.plain, call);
-        assert_eq!(answer, self.model.call(call), "{call:?}: plain, model");
+        let (mut appended, mut due) = (Vec::new(), Vec::new());
+        let answer = play(&mut self.plain, call, &mut appended);
+        let model = self.model.call_journaled(call, &mut due);
+        assert_eq!(answer, model, "{call:?}: plain, model");
+        assert!(appended == due, "{call:?}: what is appended");
+        self.disk.append(&mut due);
+        if let Ok(Answer::Block(_)) = answer {
+            self.floor = self.disk.len();
+        }
         assert_eq!(self.plain.report(), self.model.report(), "{call:?}");
         assert!(self.plain.values() == self.model.values(), "{call:?}");
         answer
@@ -41,7 +53,33 @@ impl Subject for Both {
     }
 }
 
-fn play(replica: &mut plain::Replica, call: &Call) -> Result<Answer, u8> {
+impl Powered for Both {
+    fn disk(&self) -> &[u8] {
+        &self.disk
+    }
+    fn floor(&self) -> usize {
+        self.floor
+    }
+    fn restart(&mut self, restart: &Restart) -> Result<Restarted, u8> {
+        let answer = restart.run(&mut self.model);
+        let values = restart.values[..].try_into().unwrap();
+        let plain = plain::Replica::restart(restart.n, restart.own, values, &restart.journal);
+        let (Ok(restarted), Ok((plain, given))) = (&answer, plain) else {
+            panic!("refused: {answer:?}");
+        };
+        assert_eq!(given.blocks, restarted.count);
+        assert!(given.last.unwrap_or([0; BLOCK]) == *restarted.block);
+        self.plain = plain;
+        self.disk = restart.journal[..BLOCK * given.blocks as usize].to_vec();
+        self.floor = given.last.map_or(0, |_| self.disk.len());
+        assert_eq!(self.plain.report(), self.model.report());
+        assert!(self.plain.values() == self.model.values());
+        answer
+    }
+}
+
+/// One call, its answer as the model's. Appends what the journal is to get.
+fn play(replica: &mut plain::Replica, call: &Call, journal: &mut Vec<u8>) -> Result<Answer, u8> {
     match *call {
         Call::Begin => replica.begin().map(Answer::Ticket),
         Call::Read { ticket, item } => replica.read(ticket, item).map(Answer::Value),
@@ -53,9 +91,13 @@ fn play(replica: &mut plain::Replica, call: &Call) -> Result<Answer, u8> {
         Call::Ask { ticket } => replica.ask(ticket).map(Answer::ReadOnly),
         Call::Withdraw { ticket } => replica.withdraw(ticket).map(|()| Answer::Done),
         Call::Report => Ok(Answer::Report(replica.report())),
-        Call::Send => replica.send().map(|block| Answer::Block(Box::new(block))),
+        Call::Send => replica.send().map(|block| {
+            journal.extend(block);
+            Answer::Block(Box::new(block))
+        }),
         Call::Deliver { ref bytes } => replica.deliver(bytes).map(|()| Answer::Done),
         Call::Work => replica.work().map(|work| {
+            journal.extend(work.append.iter().flat_map(|block| **block));
             Answer::Work(Work {
                 sender: work.sender,
                 ticket: work.ticket,
@@ -75,7 +117,10 @@ fn run(seed: u64, style: Style, slots: u32, tickets: u32, seen: &mut Seen) {
     let mut single = member(0);
     let mut peers = Peers::new(n, 0, single.report());
     for _ in 0..5_000 {
-        group.random_call(&mut random);
+        match random.below(100) {
+            0 if slots == 0 => group.random_cut(&mut random),
+            _ => group.random_call(&mut random),
+        }
         let call = peers.random_call(&mut random, style);
         let answer = single.call(&call);
         peers.feed(&call, &answer);
@@ -96,4 +141,5 @@ fn plain_and_model_give_the_same() {
     // No list of calls leads to 22.
     let due: Vec<usize> = (1..22).collect();
     assert_eq!(seen.numbers(20), due, "{seen:?}");
+    assert!(seen.restarts > 1_000, "{seen:?}");
 }

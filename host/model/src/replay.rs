@@ -21,8 +21,6 @@
 //! | `Y k n own v hex` | restart from these bytes as journal, all 128 values v | as `Z` |
 //! | `J k i` | block i, from 0, of the journal | `0` and the block |
 //!
-//! The program has the last three lines with the restart that is exported; till then it prints `?`.
-//!
 //! The journal of a place holds what was appended there: by `S` its block, by `K` that of another
 //! whose slot it left; after an accepted `M` it is empty, after an accepted `Z` or `Y` it is the c
 //! blocks. It has room for 128 blocks. One more is not kept, and the journal is *outgrown* then until

@@ -41,7 +41,7 @@ fn output(input: &[u8]) -> Vec<u8> {
 
 #[test]
 fn stored_input() {
-    check("stdin", &workload::calls_without_restarts());
+    check("stdin", &workload::calls());
 }
 
 #[test]

@@ -1,6 +1,6 @@
-//! The static library as Rust sees it: its structs, and its ten functions as safe ones over slices,
-//! parameter by parameter those of `crates/replica/src/lib.rt`. `host/include/stemline.h` says the same
-//! in C; tests compare the layouts, and the parameters of all three.
+//! The static library as Rust sees it: its structs, and its eleven functions as safe ones over slices,
+//! parameter by parameter those of `crates/replica/src/lib.rt`. `host/include/stemline_calls.h` says the
+//! same in C; tests compare the layouts, and the parameters of all three.
 //!
 //! Most hosts want [`crate::Replica`], which owns what the functions are lent.
 
@@ -108,6 +108,17 @@ pub struct WorkReply {
     pub ticket: u32,
     /// Rising, zeros behind the first `count`.
     pub aborted: [u32; TABLE],
+    /// Whether the turn left another's slot: the lent block is then the one that stood there, and is
+    /// to be appended to the journal.
+    pub append: bool,
+}
+
+#[repr(C)]
+#[derive(Clone, Copy, Debug, Default, PartialEq, Eq)]
+pub struct RestartReply {
+    pub number: u8,
+    /// How many blocks of the journal are committed. It goes on behind them; the rest is to be cut off.
+    pub count: u32,
 }
 
 // A wrong size would be memory that the library writes and Rust does not own.
@@ -120,7 +131,8 @@ const _: () = {
     assert!(size_of::<ReadReply>() == 8);
     assert!(size_of::<AskReply>() == 2);
     assert!(size_of::<ReportReply>() == 36);
-    assert!(size_of::<WorkReply>() == 32);
+    assert!(size_of::<WorkReply>() == 36);
+    assert!(size_of::<RestartReply>() == 8);
 };
 
 /// Declares the library's functions and makes each a safe one. A slice crosses as its pointer and its
@@ -158,6 +170,16 @@ calls! {
         queue: mut [u32], items: mut [u8], writes: mut [i32], snapshots: mut [i32],
         values: mut [i32], stamps: mut [u32], places: mut [u8], outbox: mut [u8]
     ) -> u8;
+
+    /// As a make; then the blocks of the journal are committed, up to the first that is torn, fails its
+    /// check or form, has another `n` or is not the next slot's. Fills the block with the last own one
+    /// of them, with zeros if there is none. Refused by 1, 2; a journal may have any length.
+    fn restart = stemline_restart(
+        table: mut [Txn], turn: &mut Turn, counts: &mut Counts, n: u32, own: u32, start: ref [i32],
+        queue: mut [u32], items: mut [u8], writes: mut [i32], snapshots: mut [i32],
+        values: mut [i32], stamps: mut [u32], places: mut [u8], outbox: mut [u8],
+        journal: ref [u8], block: mut [u8]
+    ) -> RestartReply;
 
     /// Opens a transaction. Refused by 1, 5, 6.
     fn begin = stemline_begin(
@@ -198,9 +220,10 @@ calls! {
         turn: &Turn, counts: &Counts, places: mut [u8], outbox: ref [u8], bytes: ref [u8]
     ) -> u8;
 
-    /// Takes one step at the block of the turn. Refused by 1, 21, 22.
+    /// Takes one step at the block of the turn. Where the turn leaves another's slot it fills the lent
+    /// block, which is otherwise not touched. Refused by 1, 21, 22.
     fn work = stemline_work(
         table: mut [Txn], turn: &mut Turn, counts: &mut Counts, queue: mut [u32], items: ref [u8],
-        values: mut [i32], stamps: mut [u32], places: mut [u8]
+        values: mut [i32], stamps: mut [u32], places: mut [u8], block: mut [u8]
     ) -> WorkReply;
 }

@@ -1,8 +1,8 @@
 //! A replica of the proved engine, for Rust.
 //!
-//! [`Replica`] has document 01's ten calls. A refused call gives a [`Refusal`] and changes nothing,
-//! but for [`Refusal::Stale`], which ends its transaction. A group has 2 to 6 replicas, numbered from 0;
-//! each holds 128 values, of the items 0 to 127.
+//! [`Replica`] has document 01's ten calls and document 02's restart. A refused call gives a [`Refusal`]
+//! and changes nothing, but for [`Refusal::Stale`], which ends its transaction. A group has 2 to 6
+//! replicas, numbered from 0; each holds 128 values, of the items 0 to 127.
 //!
 //! Who has several replicas moves the blocks. Slot s belongs to replica s mod n, and only its owner may
 //! send for it: when [`Replica::is_turn`] holds, what [`Replica::send`] gives goes to every replica of
@@ -30,12 +30,24 @@
 //!     Ok(())
 //! }
 //! ```
+//!
+//! A replica that is to outlive its machine's power keeps a journal: [`Durable`] does so, in a file. Who
+//! keeps one by other means appends the block of each [`Replica::send`] and makes it durable before he
+//! hands it out, and appends what [`Work::append`] gives, in order, before the next of these.
+//! [`Replica::restart`] makes a replica from a journal. What waited at it before is gone: every other
+//! replica hands it its last block once more. The header for C says what else such a host does, where the
+//! disk fails and where a journal is damaged.
 
+mod disk;
+mod durable;
 pub mod ffi;
+mod journal;
 mod memory;
 mod refusal;
 
+pub use durable::{Durable, Failure};
 pub use ffi::Report;
+pub use journal::{DiskError, Journal};
 pub use memory::Memory;
 pub use refusal::Refusal;
 
@@ -76,7 +88,7 @@ pub enum Asked {
 }
 
 /// What one [`Replica::work`] did.
-#[derive(Clone, Copy, Debug, PartialEq, Eq)]
+#[derive(Clone, Debug, PartialEq, Eq)]
 pub struct Work {
     pub sender: u8,
     /// The ticket of the writeset committed, 0 for a block without records.
@@ -85,6 +97,7 @@ pub struct Work {
     pub moved: bool,
     aborted: [u32; TABLE],
     count: u8,
+    append: Option<Box<[u8; BLOCK]>>,
 }
 
 impl Work {
@@ -92,6 +105,22 @@ impl Work {
     pub fn aborted(&self) -> &[u32] {
         &self.aborted[..TABLE.min(usize::from(self.count))]
     }
+
+    /// The block that the journal is to get now: another's, whose slot the turn left. An own block
+    /// stands there since its send.
+    pub fn append(&self) -> Option<&[u8; BLOCK]> {
+        self.append.as_deref()
+    }
+}
+
+/// What a [`Replica::restart`] took up.
+#[derive(Clone, Debug, PartialEq, Eq)]
+pub struct Restarted {
+    /// The blocks of the journal that are committed. It goes on behind them; the rest is to be cut off.
+    pub blocks: u32,
+    /// The last own block among them. It is to be handed out once more: the cut may have come before
+    /// it first was.
+    pub last: Option<[u8; BLOCK]>,
 }
 
 /// What one [`Replica::take`] did.
@@ -137,6 +166,48 @@ impl Replica {
             &mut m.outbox,
         );
         accepted(number, Replica { memory })
+    }
+
+    /// As [`Replica::new`], with the group's values to start with; then commits the blocks of a
+    /// journal, up to the first that is torn, fails its check or form, has another `n` or is not of the
+    /// next slot. Transactions that were open are gone; tickets go on above the highest in its own
+    /// blocks. Refused by 2; the journal may have any length.
+    ///
+    /// Before the block given back is handed out, the journal is cut behind the blocks committed and
+    /// made durable.
+    pub fn restart(
+        n: u32,
+        own: u32,
+        values: &[i32; ITEMS],
+        journal: &[u8],
+    ) -> Result<(Replica, Restarted), Refusal> {
+        let mut memory = Box::new(Memory::zero(REPLICAS.min(n as usize)));
+        let mut block = [0; BLOCK];
+        let m = &mut *memory;
+        let reply = ffi::restart(
+            &mut m.table,
+            &mut m.turn,
+            &mut m.counts,
+            n,
+            own,
+            values,
+            &mut m.queue,
+            &mut m.items,
+            &mut m.writes,
+            &mut m.snapshots,
+            &mut m.values,
+            &mut m.stamps,
+            &mut m.places,
+            &mut m.outbox,
+            journal,
+            &mut block,
+        );
+        let restarted = Restarted {
+            blocks: reply.count,
+            // No block begins with 0.
+            last: (block[0] != 0).then_some(block),
+        };
+        accepted(reply.number, (Replica { memory }, restarted))
     }
 
     /// A replica of a memory that was taken from one before. Where its places have another length
@@ -230,7 +301,8 @@ impl Replica {
     }
 
     /// The block for the own slot, with the writesets of all transactions asked so far, be it none. It
-    /// goes to every replica of the group, this one too. Refused by 13, 11, 12.
+    /// goes to every replica of the group, this one too; where there is a journal, once it stands there
+    /// and is durable. Refused by 13, 11, 12.
     #[inline]
     pub fn send(&mut self) -> Result<[u8; BLOCK], Refusal> {
         let mut block = [0; BLOCK];
@@ -260,6 +332,7 @@ impl Replica {
     /// without records. Refused by 1, 21, 22.
     #[inline]
     pub fn work(&mut self) -> Result<Work, Refusal> {
+        let mut block = [0; BLOCK];
         let m = &mut *self.memory;
         let reply = ffi::work(
             &mut m.table,
@@ -270,6 +343,7 @@ impl Replica {
             &mut m.values,
             &mut m.stamps,
             &mut m.places,
+            &mut block,
         );
         let work = Work {
             sender: reply.sender,
@@ -277,13 +351,15 @@ impl Replica {
             moved: reply.moved,
             aborted: reply.aborted,
             count: reply.count,
+            append: reply.append.then(|| Box::new(block)),
         };
         accepted(reply.number, work)
     }
 
     /// What a replica does with a block that arrives: delivers it, then works until nothing waits for the
     /// turn. Gives the steps in their order: none where the block is early and has to wait; those of
-    /// blocks that waited already too, where this is the one that they waited for.
+    /// blocks that waited already too, where this is the one that they waited for. What they give to
+    /// append goes to the journal.
     ///
     /// Refused by 1, 14, 15, 16, 17, 18, 19, 20, as the deliver is: nothing is worked, and what waits
     /// already goes on waiting. So it is with a block that comes a second time (17 or 20), which a

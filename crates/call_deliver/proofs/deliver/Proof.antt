@@ -1,14 +1,15 @@
 -- `deliver` meets its contract: each answer by its law.
-use Prim.Native.Nat.{_+_, _≤_, _<_}
+use Prim.Native.Nat.{_+_, _-_, _≤_, _<_}
 use mathlib.Core.Path.{_≡_, sym, _∙_}
 use mathlib.Core.Bool.{true}
 use native.Mathlib.Omega.{arith}
 use borrow.Author.Tests.{not-true, not-false}
 use borrow.Author.Needs.{needs}
-use lib.ListN.{length}
+use lib.ListN.{length, take, drop}
 use Rattle.block.specs.Answers.{blockRefusal, headerOf}
 use Rattle.call_reply.specs.Parts.{deliverParts}
 use Rattle.call_reply.specs.Replies.{number}
+use Rattle.call_reply.proofs.BlockLaws.{copied}
 use Rattle.call_reply.proofs.ReplyLaws.{gives}
 use Rattle.call_deliver.specs.Lengths.{lengthsFit}
 use Rattle.call_deliver.proofs.DeliverLaws.{reader-took, deliver-lengths, deliver-unread, deliver-refused, deliver-kept, lengths-long, place-in, part-long, group-some}
@@ -81,24 +82,20 @@ inside c =
     let a = e .before .before .before .before .before .args in
     place-in _ _ (a .places .now) (a .outbox .now) (a .bytes .now) (fit e) (some (c .before)) (c .place-start .result) (c .place-start .ensures)
 
-add-put-block : tie.Need-add-put-block
-add-put-block c = omega (arith, inside c)
+add-copy-bytes : tie.Need-add-copy-bytes
+add-copy-bytes c = omega (arith, inside c)
 
-sub-put-block : tie.Need-sub-put-block
-sub-put-block c = search needs
+sub-copy-bytes : tie.Need-sub-copy-bytes
+sub-copy-bytes c = search needs
 
-part-put-block-start : tie.Need-part-put-block-start
-part-put-block-start c = search needs
+part-copy-bytes-start : tie.Need-part-copy-bytes-start
+part-copy-bytes-start c = search needs
 
-part-put-block-end : tie.Need-part-put-block-end
-part-put-block-end c = inside c
+part-copy-bytes-end : tie.Need-part-copy-bytes-end
+part-copy-bytes-end c = inside c
 
-put-block-requires : tie.Need-put-block-requires
-put-block-requires c κs =
-    let p = c .before in
-    let e = p .before .before .before .before .before .before .before .before in
-    let a = e .before .before .before .before .before .args in
-    part-long (p .place-start .result) (a .places .now) (a .bytes .now) (inside p) (lengths-long _ (a .places .now) (a .outbox .now) (a .bytes .now) (fit e) .bytes)
+copy-bytes-requires : tie.Need-copy-bytes-requires
+copy-bytes-requires c κs = search needs
 
 same-length-2 : tie.Need-same-length-2
 same-length-2 c = search needs
@@ -110,10 +107,13 @@ returns-4 c = λ m.
     let f = p .before .before in
     let r = f .before .before .before in
     let a = r .before .before .before .before .before .before .before .before .args in
+    let at = p .place-start .result in
+    let long = lengths-long _ (a .places .now) (a .outbox .now) (a .bytes .now) (fit (r .before .before .before)) .bytes in
     gives number
     (deliver-kept (deliverParts m (a .turn) (a .counts) (a .places .now) (a .outbox .now)) (a .bytes .now)
     (f .refusal .result) (f .refusal .ensures m) (p .before .if2 .left) (r .read .given .0 .0) (took r .1)
-    (p .place-start .result) (p .place-start .ensures) (w .put-block .last .0) (w .put-block .ensures))
+    at (p .place-start .ensures) (w .copy-bytes .last .1 .0)
+    (w .copy-bytes .ensures ∙ copied (take (at + 512 - at) (drop at (a .places .now))) (a .bytes .now) (part-long at (a .places .now) (a .bytes .now) (inside p) long)))
 
 pub deliver-spec : {M : Type 1} → statement M
 deliver-spec =
@@ -130,10 +130,10 @@ deliver-spec =
     same-length
     returns-3
     place-start-requires
-    add-put-block
-    sub-put-block
-    part-put-block-start
-    part-put-block-end
-    put-block-requires
+    add-copy-bytes
+    sub-copy-bytes
+    part-copy-bytes-start
+    part-copy-bytes-end
+    copy-bytes-requires
     same-length-2
     returns-4)

@@ -2,8 +2,10 @@
 use Prim.Native.Nat.{_≤_}
 use mathlib.Core.Path.{refl, _∙_}
 use native.Mathlib.Omega.{arith}
+use lib.ListN.{replicate}
 use Rattle.memory.proofs.RowLaws.{index-within}
 use Rattle.call_reply.specs.Parts.{sendParts}
+use Rattle.call_reply.proofs.BlockLaws.{copied}
 use Rattle.call_send.proofs.BlockLaws.{message-put}
 use borrow.Author.Needs.{needs}
 use Rattle.call_send.proofs.put_block.Statement.{statement}
@@ -17,11 +19,11 @@ few c =
     let s = c .before .before .before .before in
     omega (arith, c .queue-end .ensures, s .pre .1, index-within 0 (s .args .queue .now) 0)
 
-slice-aggregate-copy-block : tie.Need-slice-aggregate-copy-block
-slice-aggregate-copy-block c = search needs
+slice-aggregate-copy-bytes : tie.Need-slice-aggregate-copy-bytes
+slice-aggregate-copy-bytes c = search needs
 
-copy-block-requires : tie.Need-copy-block-requires
-copy-block-requires c κs = search needs
+copy-bytes-requires : tie.Need-copy-bytes-requires
+copy-bytes-requires c κs = search needs
 
 sub-write-header : tie.Need-sub-write-header
 sub-write-header c = search needs
@@ -47,7 +49,7 @@ put-writesets-requires c κs =
     let z = b .before .before .before .before .before .before in
     let e = z .before .before .before in
     let s = e .before .before .before .before in
-    (b .block2 .given .1 ∙ z .copy-block .kept .1 .0 ∙ s .pre .0, omega (arith, few e), s .pre .1, s .pre .2, s .pre .3)
+    (b .block2 .given .1 ∙ z .copy-bytes .kept .1 .0 ∙ s .pre .0, omega (arith, few e), s .pre .1, s .pre .2, s .pre .3)
 
 write-check-requires : tie.Need-write-check-requires
 write-check-requires c κs = search needs
@@ -69,17 +71,17 @@ returns c = λ m.
     let a = s .args in
     message-put (sendParts m (a .turn) (a .counts) (a .rows) (a .queue .now) (a .items .now) (a .writes .now) (m .blocks .outbox))
     (e .queue-end .result) (e .queue-end .ensures) (few e) 512 (h .write-header .result) (w .write-check .result)
-    (z .copy-block .last .1 .0) _ (h .write-header .last .0) (p .put-writesets .last .0) (w .write-check .last .0)
-    refl (z .copy-block .ensures) (g .write-header-arg .given .2) (b .block2 .given .0) (rw (f .header-for .ensures) at (h .write-header .ensures))
-    (p .put-writesets .ensures) (p .put-writesets .kept .0 ∙ b .block2 .given .1 ∙ z .copy-block .kept .1 .0 ∙ s .pre .0) (w .write-check .ensures)
+    (z .copy-bytes .last .1 .0) _ (h .write-header .last .0) (p .put-writesets .last .0) (w .write-check .last .0)
+    refl (z .copy-bytes .ensures ∙ copied (a .block .now) (replicate 512 0) (s .pre .0)) (g .write-header-arg .given .2) (b .block2 .given .0) (rw (f .header-for .ensures) at (h .write-header .ensures))
+    (p .put-writesets .ensures) (p .put-writesets .kept .0 ∙ b .block2 .given .1 ∙ z .copy-bytes .kept .1 .0 ∙ s .pre .0) (w .write-check .ensures)
 
 pub put-block-spec : {M : Type 1} → statement M
 put-block-spec =
     tie.close
     (tie.spec
     queue-end-requires
-    slice-aggregate-copy-block
-    copy-block-requires
+    slice-aggregate-copy-bytes
+    copy-bytes-requires
     sub-write-header
     part-write-header-start
     part-write-header-end

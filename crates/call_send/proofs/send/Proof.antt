@@ -5,6 +5,7 @@ use Rattle.memory.specs.Memory.{Memory}
 use Rattle.engine.specs.Make.{madeMemory}
 use Rattle.engine.specs.Moves.{sendRefusal}
 use Rattle.call_reply.specs.Parts.{sendParts}
+use Rattle.call_reply.proofs.BlockLaws.{copied}
 use Rattle.call_reply.proofs.ReplyLaws.{gives-block}
 use Rattle.call_send.proofs.SendLaws.{Long, send-long, send-refused, send-taken}
 use borrow.Author.Needs.{needs}
@@ -44,11 +45,8 @@ put-block-requires c κs =
     let l = long (c .before .before) in
     (l .lent, l .queue, l .items, l .writes)
 
-copy-block-requires : tie.Need-copy-block-requires
-copy-block-requires c κs =
-    let p = c .before .before .before .before in
-    let l = long (p .before .before .before) in
-    (p .put-block .kept .0 ∙ l .lent, l .outbox)
+copy-bytes-requires : tie.Need-copy-bytes-requires
+copy-bytes-requires c κs = search needs
 
 clear-numbers-requires : tie.Need-clear-numbers-requires
 clear-numbers-requires c κs = search needs
@@ -77,10 +75,11 @@ returns-2 c = λ m.
     let e = p .before .before .before in
     let r = e .before in
     let s = r .before .before .before .before .before .before in
+    let l = long e in
     gives-block (s .args .block .now)
     (send-taken (before s m) (s .args .block .now) (r .refusal .result) (said r m) (e .if1 .left)
-    (k .mark-sent .result) (c .send-rows .result) (n .clear-numbers .last .0) (y .copy-block .last .1 .0) (p .put-block .last .0)
-    (k .mark-sent .ensures) (c .send-rows .ensures) (n .clear-numbers .ensures) (y .copy-block .ensures) (p .put-block .ensures (before s m)))
+    (k .mark-sent .result) (c .send-rows .result) (n .clear-numbers .last .0) (y .copy-bytes .last .1 .0) (p .put-block .last .0)
+    (k .mark-sent .ensures) (c .send-rows .ensures) (n .clear-numbers .ensures) (y .copy-bytes .ensures ∙ copied (s .args .outbox .now) (p .put-block .last .0) (l .outbox ∙ sym (p .put-block .kept .0 ∙ l .lent))) (p .put-block .ensures (before s m)))
 
 pub send-spec : {M : Type 1} → statement M
 send-spec =
@@ -90,7 +89,7 @@ send-spec =
     refusal-requires
     returns
     put-block-requires
-    copy-block-requires
+    copy-bytes-requires
     clear-numbers-requires
     mark-sent-requires
     send-rows-requires

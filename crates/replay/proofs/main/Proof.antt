@@ -1,32 +1,21 @@
 -- `main` is safe: what is to be read lies within the buffer, and what is held within the other. The measure is the number of turns that are left.
-use Prim.Native.Nat.{_+_, _-_, _≤_}
+use Prim.Native.Nat.{ℕ, _≤_}
 use mathlib.Core.Path.{_≡_, sym, _∙_}
 use native.Mathlib.Omega.{arith}
 use borrow.Author.Needs.{needs}
-use borrow.Rule.Slice.PartMut.{same-len-mid}
-use lib.ListN.{length, drop, length-take}
-use lib.Seq.{length-take-le}
+use lib.ListN.{length, length-replicate}
 use Rattle.replay.proofs.main.Statement.{statement}
 use Rattle.replay.proofs.main.Tie as tie
 
 abbrev Inv-loop : tie.InvT-loop
-Inv-loop replicas₀ kept₀ buffer₀ line₀ out₀ source₀ output₀ turns₀ replicas kept buffer line out source output turns =
-    (length kept ≡ 32768) × (length buffer ≡ 65536) × (length line ≡ 1045) × (length out ≡ 65536) × (source .end ≤ 65536) × (output .held ≤ 65536)
+Inv-loop places₀ pages₀ kept₀ buffer₀ out₀ source₀ output₀ turns₀ places pages kept buffer out source output turns =
+    (length pages ≡ 393216) × (length kept ≡ 32768) × (length buffer ≡ 65536) × (length out ≡ 65536) × (source .end ≤ 65536) × (output .held ≤ 65536)
 
 abbrev μ-loop : tie.MeasureT-loop
-μ-loop replicas₀ kept₀ buffer₀ line₀ out₀ source₀ output₀ turns₀ replicas kept buffer line out source output turns = turns
+μ-loop places₀ pages₀ kept₀ buffer₀ out₀ source₀ output₀ turns₀ places pages kept buffer out source output turns = turns
 
-held-in : (c : tie.After-with-room Inv-loop μ-loop) → c .with-room .result .held ≤ 65536
-held-in c = omega (arith, c .with-room .ensures, c .before .before .before .loop .inv .3)
-
--- the line is put within the rest of the buffer
-room : (c : tie.After-answer Inv-loop μ-loop) → c .before .before .before .before .before .before .before .before .before .before .before .before .before .before .before .before .with-room .result .held + c .answer .result .length ≤ 65536
-room c =
-    let held = c .before .before .before .before .before .before .before .before .before .before .before .before .before .before .before .before .with-room .result .held in
-    omega (arith, held-in (c .before .before .before .before .before .before .before .before .before .before .before .before .before .before .before .before), c .answer .ensures, c .answer .kept .1 .1 .1 .0, length-take (65536 - held) (drop held (c .before .before .before .before .before .before .before .before .before .before .before .before .before .before .before .before .before .before .before .loop .out)))
-
-nobody-requires : tie.Need-nobody-requires Inv-loop μ-loop
-nobody-requires c κs = search needs
+nowhere-requires : tie.Need-nowhere-requires Inv-loop μ-loop
+nowhere-requires c κs = search needs
 
 large-buffer-requires : tie.Need-large-buffer-requires Inv-loop μ-loop
 large-buffer-requires c κs = search needs
@@ -35,108 +24,83 @@ large-buffer-requires-2 : tie.Need-large-buffer-requires-2 Inv-loop μ-loop
 large-buffer-requires-2 c κs = search needs
 
 loop-holds : tie.Need-loop-holds Inv-loop μ-loop
-loop-holds c = search needs
+loop-holds c = (length-replicate {A = ℕ} 393216 0, length-replicate {A = ℕ} 32768 0, search needs, search needs, search needs, search needs)
 
 slice-aggregate-with-room : tie.Need-slice-aggregate-with-room Inv-loop μ-loop
-slice-aggregate-with-room c = search needs
+slice-aggregate-with-room c = sym (c .before .before .loop .inv .3)
 
 with-room-requires : tie.Need-with-room-requires Inv-loop μ-loop
-with-room-requires c κs = search needs
+with-room-requires c κs =
+    let i = c .before .before .loop .inv in
+    rw (i .3) (i .5)
 
 returns : tie.Need-returns Inv-loop μ-loop
 returns c = search needs
 
-slice-aggregate-next-line : tie.Need-slice-aggregate-next-line Inv-loop μ-loop
-slice-aggregate-next-line c = search needs
+slice-aggregate-next-request : tie.Need-slice-aggregate-next-request Inv-loop μ-loop
+slice-aggregate-next-request c = sym (c .before .before .before .before .before .loop .inv .2)
 
-slice-aggregate-next-line-2 : tie.Need-slice-aggregate-next-line-2 Inv-loop μ-loop
-slice-aggregate-next-line-2 c = search needs
+slice-aggregate-next-request-2 : tie.Need-slice-aggregate-next-request-2 Inv-loop μ-loop
+slice-aggregate-next-request-2 c = sym (c .before .before .before .before .before .before .loop .inv .1)
 
-next-line-requires : tie.Need-next-line-requires Inv-loop μ-loop
-next-line-requires c κs = search needs
+next-request-requires : tie.Need-next-request-requires Inv-loop μ-loop
+next-request-requires c κs =
+    let i = c .before .before .before .before .before .before .loop .inv in
+    (rw (i .2) (i .4), i .1)
 
 slice-aggregate-finish : tie.Need-slice-aggregate-finish Inv-loop μ-loop
-slice-aggregate-finish c = search needs
+slice-aggregate-finish c = sym (c .before .before .before .before .before .before .before .before .before .before .before .loop .inv .3)
 
 finish-requires : tie.Need-finish-requires Inv-loop μ-loop
-finish-requires c κs = search needs
+finish-requires c κs = c .before .before .before .before .before .before .before .before .with-room .ensures
 
 returns-2 : tie.Need-returns-2 Inv-loop μ-loop
 returns-2 c = search needs
 
-array-share-prefix-line : tie.Need-array-share-prefix-line Inv-loop μ-loop
-array-share-prefix-line c = search needs
+mul-place : tie.Need-mul-place Inv-loop μ-loop
+mul-place c = search needs
 
-slice-aggregate-request-of : tie.Need-slice-aggregate-request-of Inv-loop μ-loop
-slice-aggregate-request-of c = sym (length-take-le (c .before .before .before .before .before .next-line .result .length) (c .before .before .before .before .before .next-line .last .1 .1 .0) (c .before .before .before .before .before .next-line .ensures .1))
+array-copy-out-place : tie.Need-array-copy-out-place Inv-loop μ-loop
+array-copy-out-place c = c .before .before .before .before .next-request .ensures .1
 
-slice-aggregate-request-of-2 : tie.Need-slice-aggregate-request-of-2 Inv-loop μ-loop
-slice-aggregate-request-of-2 c = search needs
+slice-aggregate-reply : tie.Need-slice-aggregate-reply Inv-loop μ-loop
+slice-aggregate-reply c = sym (c .before .before .before .before .before .before .before .before .before .before .before .before .before .loop .inv .0)
 
-request-of-requires : tie.Need-request-of-requires Inv-loop μ-loop
-request-of-requires c κs = search needs
+slice-aggregate-reply-2 : tie.Need-slice-aggregate-reply-2 Inv-loop μ-loop
+slice-aggregate-reply-2 c = sym (c .before .before .before .before .before .before .before .before .before .before .before .before .before .before .loop .inv .1)
 
-mul-replica : tie.Need-mul-replica Inv-loop μ-loop
-mul-replica c = search needs
+slice-aggregate-reply-3 : tie.Need-slice-aggregate-reply-3 Inv-loop μ-loop
+slice-aggregate-reply-3 c = sym (c .before .before .before .before .before .before .before .before .before .before .before .before .before .before .before .loop .inv .3)
 
-array-copy-out-replica : tie.Need-array-copy-out-replica Inv-loop μ-loop
-array-copy-out-replica c = search needs
+reply-requires : tie.Need-reply-requires Inv-loop μ-loop
+reply-requires c κs =
+    let i = c .before .before .before .before .before .before .before .before .before .before .before .before .before .before .before .loop .inv in
+    let n = c .before .before .before .before .before .before .before .before .next-request in
+    (n .ensures .1, n .ensures .2, omega (arith, c .before .before .before .before .before .before .before .before .before .before .before .before .with-room .ensures, i .3), i .0, i .1, i .3)
 
-start-of-requires : tie.Need-start-of-requires Inv-loop μ-loop
-start-of-requires c κs = search needs
+mul-places : tie.Need-mul-places Inv-loop μ-loop
+mul-places c = search needs
 
-add-answer : tie.Need-add-answer Inv-loop μ-loop
-add-answer c = search needs
-
-sub-answer : tie.Need-sub-answer Inv-loop μ-loop
-sub-answer c = search needs
-
-part-kept-start : tie.Need-part-kept-start Inv-loop μ-loop
-part-kept-start c = search needs
-
-part-kept-end : tie.Need-part-kept-end Inv-loop μ-loop
-part-kept-end c = search needs
-
-sub-answer-2 : tie.Need-sub-answer-2 Inv-loop μ-loop
-sub-answer-2 c = held-in (c .before .before .before .before .before .before .before .before .before .before .before .before .before .before)
-
-part-out-start : tie.Need-part-out-start Inv-loop μ-loop
-part-out-start c = held-in (c .before .before .before .before .before .before .before .before .before .before .before .before .before .before)
-
-part-out-end : tie.Need-part-out-end Inv-loop μ-loop
-part-out-end c = omega (arith, c .before .before .before .before .before .before .before .before .before .before .before .before .before .before .before .before .before .loop .inv .3)
-
-answer-requires : tie.Need-answer-requires Inv-loop μ-loop
-answer-requires c κs = search needs
-
-mul-replicas : tie.Need-mul-replicas Inv-loop μ-loop
-mul-replicas c = search needs
-
-array-set-from-replicas : tie.Need-array-set-from-replicas Inv-loop μ-loop
-array-set-from-replicas c = search needs
-
-with-line-requires : tie.Need-with-line-requires Inv-loop μ-loop
-with-line-requires c κs = room (c .before .before .before)
+array-set-from-places : tie.Need-array-set-from-places Inv-loop μ-loop
+array-set-from-places c = c .before .before .before .before .before .before .before .before .before .before .before .before .before .next-request .ensures .1
 
 sub-turns : tie.Need-sub-turns Inv-loop μ-loop
-sub-turns c = omega (arith, c .before .before .before .before .before .before .before .before .before .before .before .before .before .before .before .before .before .before .before .before .before .before .loop-test .taken)
+sub-turns c = omega (arith, c .before .before .before .before .before .before .before .before .before .before .before .before .before .before .before .before .before .before .before .before .loop-test .taken)
 
 loop-less : tie.Need-loop-less Inv-loop μ-loop
-loop-less c = omega (arith, c .before .before .before .before .before .before .before .before .before .before .before .before .before .before .before .before .before .before .before .before .before .before .loop-test .taken)
+loop-less c = omega (arith, c .before .before .before .before .before .before .before .before .before .before .before .before .before .before .before .before .before .before .before .before .loop-test .taken)
 
 loop-again : tie.Need-loop-again Inv-loop μ-loop
 loop-again c =
-    let i = c .before .before .before .before .before .before .before .before .before .before .before .before .before .before .before .before .before .before .before .before .before .before .before .loop .inv in
-    let a = c .before .before .before .before .answer in
-    let n = c .before .before .before .before .before .before .before .before .before .before .before .before .before .before .before .before .next-line in
-    let slot = c .before .before .before .before .before .before .before .start-of .result in
-    let held = c .before .before .before .before .before .before .before .before .before .before .before .before .before .before .before .before .before .before .before .before .with-room .result .held in (
-      same-len-mid slot (slot + 512 - slot) (c .before .before .before .before .before .before .before .before .before .before .before .before .before .before .before .before .before .before .before .before .before .before .before .loop .kept) (a .last .1 .1 .0) (a .kept .1 .1 .0) ∙ i .0,
-      n .kept .1 .0 ∙ i .1,
+    let i = c .before .before .before .before .before .before .before .before .before .before .before .before .before .before .before .before .before .before .before .before .before .loop .inv in
+    let r = c .before .before .before .before .before .reply in
+    let n = c .before .before .before .before .before .before .before .before .before .before .before .before .before .before .next-request in (
+      r .kept .1 .1 .1 .0 ∙ i .0,
+      r .kept .1 .1 .1 .1 .0 ∙ i .1,
       n .kept .1 .1 .0 ∙ i .2,
-      same-len-mid held (65536 - held) (c .before .before .before .before .before .before .before .before .before .before .before .before .before .before .before .before .before .before .before .before .before .before .before .loop .out) (a .last .1 .1 .1 .0) (a .kept .1 .1 .1 .0) ∙ i .3,
-      omega (arith, n .ensures .0, n .kept .1 .0, i .1),
-      rw (c .with-line .ensures) (room (c .before .before .before .before)),
+      r .kept .1 .1 .1 .1 .1 .0 ∙ i .3,
+      omega (arith, n .ensures .0, n .kept .1 .1 .0, i .2),
+      r .ensures,
     )
 
 returns-3 : tie.Need-returns-3 Inv-loop μ-loop
@@ -148,37 +112,27 @@ main-spec =
     (tie.spec
     Inv-loop
     μ-loop
-    nobody-requires
+    nowhere-requires
     large-buffer-requires
     large-buffer-requires-2
     loop-holds
     slice-aggregate-with-room
     with-room-requires
     returns
-    slice-aggregate-next-line
-    slice-aggregate-next-line-2
-    next-line-requires
+    slice-aggregate-next-request
+    slice-aggregate-next-request-2
+    next-request-requires
     slice-aggregate-finish
     finish-requires
     returns-2
-    array-share-prefix-line
-    slice-aggregate-request-of
-    slice-aggregate-request-of-2
-    request-of-requires
-    mul-replica
-    array-copy-out-replica
-    start-of-requires
-    add-answer
-    sub-answer
-    part-kept-start
-    part-kept-end
-    sub-answer-2
-    part-out-start
-    part-out-end
-    answer-requires
-    mul-replicas
-    array-set-from-replicas
-    with-line-requires
+    mul-place
+    array-copy-out-place
+    slice-aggregate-reply
+    slice-aggregate-reply-2
+    slice-aggregate-reply-3
+    reply-requires
+    mul-places
+    array-set-from-places
     sub-turns
     loop-less
     loop-again

@@ -1,5 +1,7 @@
--- `request_of` meets its contract: the place is one of six, and the bytes lie within their array.
+-- `request_of` meets its contract: the place is one of six, and the bytes are not too many.
 use Prim.Native.Nat.{_+_, _≤_}
+use mathlib.Core.Path.{_≡_}
+use native.Mathlib.Omega.{arith}
 use borrow.Author.Needs.{needs}
 use lib.ListN.{length}
 use Rattle.block.proofs.ListLaws.{lent}
@@ -8,12 +10,14 @@ use Rattle.replay_text.proofs.DeliveryLaws.{delivery-short}
 use Rattle.replay.proofs.request_of.Statement.{statement}
 use Rattle.replay.proofs.request_of.Tie as tie
 
-there : (c : tie.After-delivered) → c .delivered .result .count ≤ length (c .delivered .result .bytes)
-there c =
-    let s = c .before .before .before .before .before .before .before .args in
-    let call = c .before .before .before .call-of .result in
+few : (c : tie.After-delivered) → c .delivered .result .count ≤ 2100
+few c =
+    let s = c .before .before .before .before .before .before .before .before .args in
+    let call = c .before .before .before .before .call-of .result in
     let from = c .before .before .start-of .result in
-    delivery-short (c .delivered .result) (namesBytes call (s .line .now) (s .sent)) (bytesNamed call (s .line .now) (lent from (from + 512) (s .kept .now))) (c .delivered .ensures)
+    let there = delivery-short (c .delivered .result) (namesBytes call (s .line .now) (s .sent)) (bytesNamed call (s .line .now) (lent from (from + 512) (s .kept .now))) (c .delivered .ensures) in
+    let l : length (c .delivered .result .bytes) ≡ 2100 = search needs in
+    omega (arith, there, l)
 
 replica-named-requires : tie.Need-replica-named-requires
 replica-named-requires c κs = search needs
@@ -45,11 +49,11 @@ delivered-requires c κs = search needs
 at-most-five-requires : tie.Need-at-most-five-requires
 at-most-five-requires c κs = search needs
 
-returns : tie.Need-returns
-returns c = (c .before .at-most-five .ensures, there (c .before .before .before))
+is-known-requires : tie.Need-is-known-requires
+is-known-requires c κs = search needs
 
-returns-2 : tie.Need-returns-2
-returns-2 c = (c .before .at-most-five .ensures, there (c .before .before .before))
+returns : tie.Need-returns
+returns c = (c .before .at-most-five .ensures, few (c .before .before .before))
 
 pub request-of-spec : {M : Type 1} → statement M
 request-of-spec =
@@ -65,5 +69,5 @@ request-of-spec =
     part-delivered-end
     delivered-requires
     at-most-five-requires
-    returns
-    returns-2)
+    is-known-requires
+    returns)

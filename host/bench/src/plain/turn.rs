@@ -79,9 +79,10 @@ impl Replica {
             moved: true,
             aborted: [0; OPEN],
             count: 0,
+            append: None,
         };
         if header.kind == NEXT {
-            self.advance(at);
+            work.append = self.advance(at);
             return Ok(work);
         }
         let record = usize::from(self.done);
@@ -118,7 +119,7 @@ impl Replica {
         self.done += 1;
         work.moved = self.done == header.count;
         if work.moved {
-            self.advance(at);
+            work.append = self.advance(at);
         }
         Ok(work)
     }
@@ -140,12 +141,15 @@ impl Replica {
         (slot % u32::from(self.n)) as usize
     }
 
-    /// Ends the turn.
-    fn advance(&mut self, place: usize) {
-        self.places[place][0] = 0;
+    /// Ends the turn, and gives another's block that it leaves.
+    fn advance(&mut self, place: usize) -> Option<Box<[u8; BLOCK]>> {
+        let left = &mut self.places[place];
+        let append = (place != usize::from(self.own)).then(|| Box::new(*left));
+        left[0] = 0;
         self.turn += 1;
         self.done = 0;
         self.sent = false;
         self.applying = false;
+        append
     }
 }

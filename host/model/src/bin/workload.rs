@@ -3,5 +3,5 @@
 use std::io::{self, Write};
 
 fn main() -> io::Result<()> {
-    io::stdout().write_all(&model::workload::calls_without_restarts())
+    io::stdout().write_all(&model::workload::calls())
 }

@@ -3,10 +3,11 @@
  * each call how often it gave each number. */
 #include "same.h"
 
-enum call { MAKE, BEGIN, READ, WRITE, ASK, WITHDRAW, REPORT, SEND, DELIVER, WORK, CALLS };
+enum call { MAKE, RESTART, BEGIN, READ, WRITE, ASK, WITHDRAW, REPORT, SEND, DELIVER, WORK, CALLS };
 
 static const char *const names[CALLS] = {
-    "make", "begin", "read", "write", "ask", "withdraw", "report", "send", "deliver", "work"};
+    "make", "restart", "begin", "read", "write", "ask", "withdraw", "report", "send", "deliver",
+    "work"};
 static unsigned given[CALLS][256];
 static uint8_t good[STEMLINE_BLOCK];
 static int32_t start[STEMLINE_ITEMS] = {7, -7};
@@ -61,6 +62,31 @@ static uint8_t make(stemline_replica *r) {
     return stemline_replica_make(r, number(), number(), start);
 }
 
+/* Two restarts from one journal, as the makes: one block that is good for a group of two, and any bytes. */
+static uint8_t restart(stemline_replica *r) {
+    static stemline_replica from_zeros, from_any;
+    uint8_t journal[3 * STEMLINE_BLOCK], block[STEMLINE_BLOCK], again[STEMLINE_BLOCK];
+    size_t length = any() % (sizeof journal + 1);
+    fill(journal, sizeof journal);
+    fill(block, sizeof block);
+    memcpy(journal, good, any() % 4 ? sizeof good : 0);
+    memset(&from_zeros, 0, sizeof from_zeros);
+    memcpy(&from_any, r, sizeof from_any);
+    stemline_restart_reply a = stemline_replica_restart(&from_zeros, 2, 0, start, journal, length, block);
+    stemline_restart_reply b = stemline_replica_restart(&from_any, 2, 0, start, journal, length, again);
+    hold(a.number == 0 && b.number == 0 && a.count == b.count, "restart: two answers");
+    hold(memcmp(block, again, sizeof block) == 0, "restart: two blocks");
+    hold((a.count > 0) == (block[0] != 0), "restart: no block of the own ones");
+    size_t used = STEMLINE_PLACES(2);
+    memcpy(from_any.places + used, from_zeros.places + used, sizeof r->places - used);
+    hold(same(&from_zeros, &from_any), "restart: what was there before is left");
+    stemline_restart_reply said =
+        stemline_replica_restart(r, number(), number(), start, journal, length, again);
+    hold(said.number == 0 || memcmp(block, again, sizeof block) == 0, "restart: the block is changed");
+    hold(said.number == 0 || said.count == 0, "restart: a count where it is refused");
+    return said.number;
+}
+
 static uint8_t send(stemline_replica *r) {
     uint8_t block[STEMLINE_BLOCK], before[STEMLINE_BLOCK];
     fill(block, sizeof block);
@@ -83,7 +109,9 @@ static uint8_t deliver(stemline_replica *r) {
 }
 
 static uint8_t work(stemline_replica *r) {
-    uint8_t said = stemline_replica_work(r).number;
+    uint8_t block[STEMLINE_BLOCK];
+    fill(block, sizeof block);
+    uint8_t said = hold_work(stemline_replica_work, r, block).number;
     hold(said == 1 || r->counts.replicas <= 6, "work: not 1");
     return said;
 }
@@ -93,6 +121,7 @@ static uint8_t play(stemline_replica *r, enum call call) {
     uint32_t item = any() % (STEMLINE_ITEMS + 2);
     switch (call) {
     case MAKE: return make(r);
+    case RESTART: return restart(r);
     case BEGIN: return stemline_replica_begin(r).number;
     case READ: return stemline_replica_read(r, ticket, item).number;
     case WRITE: return stemline_replica_write(r, ticket, item, 40);
@@ -117,7 +146,7 @@ int main(void) {
             uint8_t said = play(&r, name);
             given[name][said]++;
             hold(said == 0 || said == STEMLINE_STALE || same(&r, &before), names[name]);
-            if (name == MAKE) {
+            if (name == MAKE || name == RESTART) {
                 memcpy(&r, &before, sizeof r);
             }
         }

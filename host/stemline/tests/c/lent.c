@@ -19,6 +19,9 @@ typedef struct parts {
     stemline_txn table[STEMLINE_TABLE + 1];
     stemline_counts counts;
     stemline_turn turn;
+    /* of any length, and read only: it stays where it is */
+    const uint8_t *journal;
+    size_t journal_length;
     uint32_t n, own, ticket, item;
     int32_t value;
 } parts;
@@ -27,6 +30,7 @@ static parts p;
 static size_t length[PARTS];
 /* What the last call answered beside its number. */
 static struct {
+    stemline_restart_reply restart;
     stemline_begin_reply begin;
     stemline_read_reply read;
     stemline_ask_reply ask;
@@ -34,7 +38,7 @@ static struct {
     stemline_work_reply work;
 } said;
 
-/* ---- The ten calls over the parts, with the lengths as they are told */
+/* ---- The eleven calls over the parts, with the lengths as they are told */
 
 static uint8_t call_make(void) {
     return stemline_make(
@@ -42,6 +46,16 @@ static uint8_t call_make(void) {
         p.queue, length[QUEUE], p.items, length[ITEMS], p.writes, length[WRITES],
         p.snapshots, length[SNAPSHOTS], p.values, length[VALUES], p.stamps, length[STAMPS],
         p.places, length[PLACES], p.outbox, length[OUTBOX]);
+}
+
+static uint8_t call_restart(void) {
+    said.restart = stemline_restart(
+        p.table, length[TABLE], &p.turn, &p.counts, p.n, p.own, p.start, length[START],
+        p.queue, length[QUEUE], p.items, length[ITEMS], p.writes, length[WRITES],
+        p.snapshots, length[SNAPSHOTS], p.values, length[VALUES], p.stamps, length[STAMPS],
+        p.places, length[PLACES], p.outbox, length[OUTBOX], p.journal, p.journal_length,
+        p.block, length[BLOCK]);
+    return said.restart.number;
 }
 
 static uint8_t call_begin(void) {
@@ -91,7 +105,8 @@ static uint8_t call_deliver(void) {
 static uint8_t call_work(void) {
     said.work = stemline_work(
         p.table, length[TABLE], &p.turn, &p.counts, p.queue, length[QUEUE], p.items, length[ITEMS],
-        p.values, length[VALUES], p.stamps, length[STAMPS], p.places, length[PLACES]);
+        p.values, length[VALUES], p.stamps, length[STAMPS], p.places, length[PLACES],
+        p.block, length[BLOCK]);
     return said.work.number;
 }
 
@@ -109,9 +124,9 @@ static int said_zeros(void) {
     static const stemline_report_values no_report;
     stemline_work_reply no_work = {0};
     no_work.number = said.work.number;
-    return said.begin.ticket == 0 && said.read.value == 0 && !said.ask.read_only
-        && memcmp(&said.report.report, &no_report, sizeof no_report) == 0
-        && memcmp(&said.work, &no_work, sizeof no_work) == 0;
+    return said.restart.count == 0 && said.begin.ticket == 0 && said.read.value == 0
+        && !said.ask.read_only && memcmp(&said.report.report, &no_report, sizeof no_report) == 0
+        && same_work(&said.work, &no_work);
 }
 
 #define COPY(to, from, part) memcpy((to)->part, (from)->part, sizeof r->part)
@@ -158,17 +173,39 @@ static uint8_t called(const char *name, uint8_t (*call)(void), const enum part *
     called(#name, call_##name, (const enum part[]){__VA_ARGS__}, \
            sizeof (const enum part[]){__VA_ARGS__} / sizeof(enum part))
 
-static uint8_t lent_make(stemline_replica *r, uint32_t n, uint32_t own, const int32_t *start) {
+/* What a make is lent but for the places: with an n out of range these may have any length. */
+#define MADE TABLE, START, QUEUE, ITEMS, WRITES, SNAPSHOTS, VALUES, STAMPS, OUTBOX
+
+/* Lends what a make is lent. Gives whether n is in range. */
+static bool lend_made(const stemline_replica *r, uint32_t n, uint32_t own, const int32_t *start) {
     lend(r, n);
     memcpy(p.start, start, STEMLINE_ITEMS * sizeof *start);
     p.n = n;
     p.own = own;
-    /* with an n out of range the places may have any length */
-    uint8_t number = n < 2 || n > STEMLINE_REPLICAS
-        ? CALLED(make, TABLE, START, QUEUE, ITEMS, WRITES, SNAPSHOTS, VALUES, STAMPS, OUTBOX)
-        : CALLED(make, TABLE, START, QUEUE, ITEMS, WRITES, SNAPSHOTS, VALUES, STAMPS, OUTBOX, PLACES);
+    return n >= 2 && n <= STEMLINE_REPLICAS;
+}
+
+static uint8_t lent_make(stemline_replica *r, uint32_t n, uint32_t own, const int32_t *start) {
+    bool in_range = lend_made(r, n, own, start);
+    uint8_t number = in_range ? CALLED(make, MADE, PLACES) : CALLED(make, MADE);
     give_back(r);
     return number;
+}
+
+static stemline_restart_reply lent_restart(
+    stemline_replica *r, uint32_t n, uint32_t own, const int32_t *start,
+    const uint8_t *journal, size_t journal_length, uint8_t *block) {
+    bool in_range = lend_made(r, n, own, start);
+    p.journal = journal_length > 0 ? journal : p.bytes;
+    p.journal_length = journal_length;
+    if (in_range) {
+        CALLED(restart, MADE, BLOCK, PLACES);
+    } else {
+        CALLED(restart, MADE, BLOCK);
+    }
+    give_back(r);
+    memcpy(block, p.block, STEMLINE_BLOCK);
+    return said.restart;
 }
 
 static stemline_begin_reply lent_begin(stemline_replica *r) {
@@ -237,14 +274,17 @@ static uint8_t lent_deliver(stemline_replica *r, const uint8_t *bytes, size_t co
     return number;
 }
 
-static stemline_work_reply lent_work(stemline_replica *r) {
+static stemline_work_reply lent_work(stemline_replica *r, uint8_t *block) {
     lend(r, r->counts.replicas);
-    CALLED(work, TABLE, QUEUE, ITEMS, VALUES, STAMPS, PLACES);
+    memcpy(p.block, block, STEMLINE_BLOCK);
+    CALLED(work, TABLE, QUEUE, ITEMS, VALUES, STAMPS, PLACES, BLOCK);
     give_back(r);
+    memcpy(block, p.block, STEMLINE_BLOCK);
     return said.work;
 }
 
 #define stemline_replica_make lent_make
+#define stemline_replica_restart lent_restart
 #define stemline_replica_begin lent_begin
 #define stemline_replica_read lent_read
 #define stemline_replica_write lent_write

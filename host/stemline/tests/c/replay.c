@@ -1,40 +1,116 @@
 /* Plays a list of calls at replicas in structs and prints the answers, both in the format of
- * model/src/replay.rs; each line is one that the format takes. There is one more:
+ * model/src/replay.rs; each line is one that the format takes. There are two more:
  *
  *     L k n own slots tickets
+ *     T k n own b
  *
- * makes a replica whose item i starts with 10 * i - 600, as it is after so many slots and tickets.
+ * L makes a replica whose item i starts with 10 * i - 600, as it is after so many slots and tickets;
+ * T restarts such a one from the first b bytes of the journal.
  *
- * It stops where a refused call has changed something, where is_turn is not what a send answers, and
- * where a take is not a deliver with its works. */
+ * It stops where a refused call has changed something, where is_turn is not what a send answers, where
+ * a take is not a deliver with its works, and where a work's block is not the one that it leaves. */
 #include <inttypes.h>
 
 #include "same.h"
 
 #define PLACES 6
 #define KEPT 64
+#define JOURNAL (4096 * STEMLINE_BLOCK)
+
+typedef struct journal {
+    uint8_t bytes[JOURNAL];
+    size_t length;
+} journal;
 
 static stemline_replica replicas[PLACES];
+static journal journals[PLACES];
 static uint8_t kept[KEPT][STEMLINE_BLOCK];
 static unsigned long sent;
 
+static void show(const uint8_t block[STEMLINE_BLOCK]) {
+    printf(" ");
+    for (int i = 0; i < STEMLINE_BLOCK; i++) {
+        printf("%02x", block[i]);
+    }
+}
+
+static void append(journal *j, const uint8_t block[STEMLINE_BLOCK]) {
+    hold(j->length < JOURNAL, "no room in a journal");
+    memcpy(j->bytes + j->length, block, STEMLINE_BLOCK);
+    j->length += STEMLINE_BLOCK;
+}
+
+/* Bytes of hexadecimal digits, at most so many; gives their number. */
+static size_t bytes_of(const char *digits, uint8_t *bytes, size_t most) {
+    size_t length = 0;
+    while (length < most && sscanf(digits + 2 * length, "%2" SCNx8, &bytes[length]) == 1) {
+        length++;
+    }
+    return length;
+}
+
+/* The values to start with: all the same, or as the tests' replicas have them. */
+static void fill(int32_t start[STEMLINE_ITEMS], bool tests, int32_t value) {
+    for (int item = 0; item < STEMLINE_ITEMS; item++) {
+        start[item] = tests ? 10 * item - 600 : value;
+    }
+}
+
 /* make: with one value, or as the tests' replicas are */
-static uint8_t make(stemline_replica *r, char letter, const char *rest) {
+static uint8_t make(stemline_replica *r, journal *j, char letter, const char *rest) {
     uint32_t n, own, slots = 0, tickets = 0;
     int32_t value = 0, start[STEMLINE_ITEMS];
     int fields = letter == 'M'
         ? sscanf(rest, "%" SCNu32 " %" SCNu32 " %" SCNd32, &n, &own, &value)
         : sscanf(rest, "%" SCNu32 " %" SCNu32 " %" SCNu32 " %" SCNu32, &n, &own, &slots, &tickets);
     hold(fields == (letter == 'M' ? 3 : 4), rest);
-    for (int item = 0; item < STEMLINE_ITEMS; item++) {
-        start[item] = letter == 'M' ? value : 10 * item - 600;
-    }
+    fill(start, letter == 'L', value);
     uint8_t number = stemline_replica_make(r, n, own, start);
     r->turn.slot += slots;
     r->counts.tickets += tickets;
     r->counts.withdrawn += tickets;
+    j->length = number == 0 ? 0 : j->length;
     printf("%d", number);
     return number;
+}
+
+/* restart: from the journal, with the same numbers or others, or from the line's bytes */
+static uint8_t restart(stemline_replica *r, journal *j, char letter, const char *rest) {
+    static uint8_t bytes[2100];
+    uint32_t n = r->counts.replicas, own = r->counts.own, cut = 0;
+    int32_t value = 0, start[STEMLINE_ITEMS];
+    uint8_t block[STEMLINE_BLOCK];
+    size_t length;
+    if (letter == 'Y') {
+        int at = 0;
+        sscanf(rest, "%" SCNu32 " %" SCNu32 " %" SCNd32 "%n", &n, &own, &value, &at);
+        hold(at > 0 && rest[at] == ' ', rest);
+        length = bytes_of(rest + at + 1, bytes, sizeof bytes);
+    } else {
+        int fields = letter == 'Z' ? sscanf(rest, "%" SCNu32 " %" SCNd32, &cut, &value)
+                                   : sscanf(rest, "%" SCNu32 " %" SCNu32 " %" SCNu32, &n, &own, &cut);
+        hold(fields == (letter == 'Z' ? 2 : 3) && cut <= j->length, rest);
+        length = cut;
+    }
+    fill(start, letter == 'T', value);
+    /* exactly so many bytes, so that a read behind them is seen */
+    uint8_t *lent = length > 0 ? (uint8_t *)malloc(length) : NULL;
+    hold(length == 0 || lent != NULL, "no memory");
+    if (length > 0) {
+        memcpy(lent, letter == 'Y' ? bytes : j->bytes, length);
+    }
+    stemline_restart_reply reply = stemline_replica_restart(r, n, own, start, lent, length, block);
+    printf(reply.number ? "%d" : "%d %" PRIu32, reply.number, reply.count);
+    if (reply.number == 0) {
+        show(block);
+        j->length = STEMLINE_BLOCK * (size_t)reply.count;
+        hold(j->length <= length, "restart: more blocks than there are");
+        if (letter == 'Y') {
+            memcpy(j->bytes, bytes, j->length);
+        }
+    }
+    free(lent);
+    return reply.number;
 }
 
 /* begin, read, write, ask, withdraw */
@@ -63,17 +139,16 @@ static uint8_t transaction(stemline_replica *r, char letter, const char *rest) {
     return number;
 }
 
-static uint8_t send(stemline_replica *r) {
+static uint8_t send(stemline_replica *r, journal *j) {
     uint8_t block[STEMLINE_BLOCK];
     bool is_turn = stemline_replica_is_turn(r);
     uint8_t number = stemline_replica_send(r, block);
     hold(is_turn == (number == 0), "is_turn: not what the send answers");
-    printf(number ? "%d" : "%d ", number);
-    for (int i = 0; number == 0 && i < STEMLINE_BLOCK; i++) {
-        printf("%02x", block[i]);
-    }
+    printf("%d", number);
     if (number == 0) {
+        show(block);
         memcpy(kept[sent++ % KEPT], block, sizeof block);
+        append(j, block);
     }
     return number;
 }
@@ -83,8 +158,7 @@ static uint8_t deliver(stemline_replica *r, char letter, const char *rest) {
     uint8_t bytes[600];
     size_t length = STEMLINE_BLOCK;
     if (letter == 'H') {
-        for (length = 0; sscanf(rest + 2 * length, "%2" SCNx8, &bytes[length]) == 1; length++) {
-        }
+        length = bytes_of(rest, bytes, sizeof bytes);
     } else {
         unsigned long i = 0;
         unsigned bit = 0;
@@ -98,8 +172,13 @@ static uint8_t deliver(stemline_replica *r, char letter, const char *rest) {
     return number;
 }
 
-static uint8_t work(stemline_replica *r) {
-    stemline_work_reply w = stemline_replica_work(r);
+static uint8_t work(stemline_replica *r, journal *j) {
+    uint8_t block[STEMLINE_BLOCK];
+    memset(block, 0xa5, sizeof block);
+    stemline_work_reply w = hold_work(stemline_replica_work, r, block);
+    if (w.append) {
+        append(j, block);
+    }
     printf("%d", w.number);
     if (w.number == 0) {
         printf(" %d %" PRIu32 " %d %d", w.sender, w.ticket, w.moved, w.count);
@@ -130,25 +209,36 @@ static uint8_t values(const stemline_replica *r) {
     return 0;
 }
 
-static uint8_t play(stemline_replica *r, char letter, const char *rest) {
+static uint8_t block_of(const journal *j, const char *rest) {
+    size_t i = 0;
+    hold(sscanf(rest, "%zu", &i) == 1 && STEMLINE_BLOCK * (i + 1) <= j->length, rest);
+    printf("0");
+    show(j->bytes + STEMLINE_BLOCK * i);
+    return 0;
+}
+
+static uint8_t play(stemline_replica *r, journal *j, char letter, const char *rest) {
     switch (letter) {
-    case 'M': case 'L': return make(r, letter, rest);
+    case 'M': case 'L': return make(r, j, letter, rest);
+    case 'Z': case 'Y': case 'T': return restart(r, j, letter, rest);
+    case 'J': return block_of(j, rest);
     case 'B': case 'R': case 'W': case 'C': case 'X': return transaction(r, letter, rest);
     case 'Q': return report(r);
-    case 'S': return send(r);
+    case 'S': return send(r, j);
     case 'D': case 'F': case 'H': return deliver(r, letter, rest);
-    case 'K': return work(r);
+    case 'K': return work(r, j);
     default: return values(r);
     }
 }
 
 int main(void) {
-    static char line[1400];
+    static char line[4400];
     static stemline_replica before;
     while (fgets(line, sizeof line, stdin) != NULL) {
-        stemline_replica *r = &replicas[(line[2] - '0') % PLACES];
+        int place = (line[2] - '0') % PLACES;
+        stemline_replica *r = &replicas[place];
         memcpy(&before, r, sizeof before);
-        uint8_t number = play(r, line[0], line + 4);
+        uint8_t number = play(r, &journals[place], line[0], line + 4);
         printf("\n");
         hold(number == 0 || number == STEMLINE_STALE || same(r, &before), line);
     }

@@ -55,28 +55,65 @@ static inline stemline_take_reply take_on_dirt(
     return taken;
 }
 
-/* A take gives what a deliver and at most 36 works give, zeros behind, and leaves the same. It is tried
- * on copies. */
+static inline int same_work(const stemline_work_reply *a, const stemline_work_reply *b) {
+    return SAME(number) && SAME(sender) && SAME(moved) && SAME(count) && SAME(ticket)
+        && SAME(aborted) && SAME(append);
+}
+
+typedef stemline_work_reply work_call(stemline_replica *r, uint8_t block[STEMLINE_BLOCK]);
+
+/* A work, by such a call. It leaves the lent block as it was, or the block of the turn in it, and says
+ * which. */
+static inline stemline_work_reply hold_work(
+    work_call *call, stemline_replica *r, uint8_t block[STEMLINE_BLOCK]) {
+    static uint8_t before[STEMLINE_BLOCK], left[STEMLINE_BLOCK];
+    size_t n = r->counts.replicas;
+    memcpy(before, block, sizeof before);
+    if (n >= 1 && n <= STEMLINE_REPLICAS) {
+        memcpy(left, r->places + STEMLINE_PLACES(r->turn.slot % n), sizeof left);
+    }
+    stemline_work_reply work = call(r, block);
+    hold(memcmp(block, work.append ? left : before, sizeof left) == 0, "work: another block");
+    hold(!work.append || (work.number == 0 && work.moved), "work: a block that is not left");
+    return work;
+}
+
+/* What a take is to give: what a deliver gives, and at most 36 works with the blocks to append. */
+static inline void deliver_and_work(
+    stemline_take_reply *due, stemline_replica *r, const uint8_t *bytes, size_t length) {
+    uint8_t block[STEMLINE_BLOCK] = {0};
+    memset(due, 0, sizeof *due);
+    due->number = stemline_replica_deliver(r, bytes, length);
+    while (due->number == 0 && due->refused == 0 && due->count < STEMLINE_STEPS) {
+        stemline_work_reply work = hold_work(stemline_replica_work, r, block);
+        due->refused = work.number;
+        if (work.number == 0) {
+            due->steps[due->count++] = work;
+        }
+        if (work.append) {
+            hold(due->append_count < STEMLINE_REPLICAS, "take: too many blocks to append");
+            memcpy(due->append[due->append_count++], block, sizeof block);
+        }
+    }
+    due->refused = due->refused == STEMLINE_NOTHING_WAITS ? 0 : due->refused;
+}
+
+/* A take gives what a deliver and its works give, zeros behind, and leaves the same. It is tried on
+ * copies. */
 static inline void hold_take(const stemline_replica *r, const uint8_t *bytes, size_t length) {
     static stemline_replica taking, calling;
-    stemline_work_reply steps[STEMLINE_STEPS];
-    memset(steps, 0, sizeof steps);
+    stemline_take_reply due;
     memcpy(&taking, r, sizeof taking);
     memcpy(&calling, r, sizeof calling);
     stemline_take_reply taken = take_on_dirt(&taking, bytes, length);
-    uint8_t number = stemline_replica_deliver(&calling, bytes, length), refused = 0;
-    int count = 0;
-    while (number == 0 && refused == 0 && count < STEMLINE_STEPS) {
-        stemline_work_reply work = stemline_replica_work(&calling);
-        refused = work.number;
-        if (refused == 0) {
-            steps[count++] = work;
-        }
+    deliver_and_work(&due, &calling, bytes, length);
+    hold(taken.number == due.number && taken.refused == due.refused, "take: another number");
+    hold(taken.count == due.count, "take: another count of steps");
+    hold(taken.append_count == due.append_count, "take: another count of blocks");
+    for (int i = 0; i < STEMLINE_STEPS; i++) {
+        hold(same_work(&taken.steps[i], &due.steps[i]), "take: another step, or none of zeros");
     }
-    refused = refused == STEMLINE_NOTHING_WAITS ? 0 : refused;
-    hold(taken.number == number && taken.refused == refused, "take: another number");
-    hold(taken.count == count, "take: another count of steps");
-    hold(memcmp(taken.steps, steps, sizeof steps) == 0, "take: another step, or none of zeros");
+    hold(memcmp(taken.append, due.append, sizeof due.append) == 0, "take: another block, or none of zeros");
     hold(same(&taking, &calling), "take: another memory");
 }
 

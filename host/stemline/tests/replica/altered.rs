@@ -1,7 +1,7 @@
 //! Memory altered by something else than a call: every call returns, the same call on the same
 //! memory gives the same, and a refused one changes nothing and answers no more than its number.
 
-use model::block::{self, BLOCK, MAX_TICKET};
+use model::block::{self, Message, BLOCK, MAX_TICKET};
 use model::drive::{start_values, Peers, Subject, STYLES};
 use model::samples::{self, Random};
 use stemline::ffi::Txn;
@@ -15,9 +15,9 @@ const RUNS: u64 = 2_000;
 /// Calls at one altered memory, each on what the last one left.
 const CALLS: usize = 60;
 /// The calls, write twice: it has the most to look at.
-const CALLED: [&str; 11] = [
-    "make", "begin", "read", "write", "write", "ask", "withdraw", "report", "send", "deliver",
-    "work",
+const CALLED: [&str; 12] = [
+    "make", "restart", "begin", "read", "write", "write", "ask", "withdraw", "report", "send",
+    "deliver", "work",
 ];
 
 /// A number with the limits of what a call compares it with.
@@ -145,6 +145,30 @@ fn give(random: &mut Random, memory: &mut Lent) {
         1 => samples::block_of(2, any % 1_000, &[]).to_vec(),
         _ => place(random, memory.counts.replicas).to_vec(),
     };
+    memory.journal = match random.below(3) {
+        0 => memory.places.clone(),
+        _ => journal(random, memory.n),
+    };
+}
+
+/// A journal of a few blocks, with bytes of any kind among and behind them.
+fn journal(random: &mut Random, n: u32) -> Vec<u8> {
+    let mut journal = Vec::new();
+    for slot in 0..random.below(6) as u32 {
+        let message = Message {
+            sender: (slot % n.max(2)) as u8,
+            replicas: n.max(2) as u8,
+            slot,
+            ..samples::message(random)
+        };
+        journal.extend(block::encode(&message));
+        if random.below(12) == 0 {
+            let at = random.below(journal.len());
+            journal[at] = byte(random);
+        }
+    }
+    journal.resize(journal.len() + random.pick(&[0, 0, 1, 700]), byte(random));
+    journal
 }
 
 #[test]
@@ -181,6 +205,7 @@ fn every_call_returns() {
                     assert_eq!(is_turn, answer.0 == 0, "{place}: is_turn");
                 }
                 "deliver" => same_take(&before),
+                "work" => same_append(&before, &memory, &answer.1),
                 _ => (),
             }
             numbers[usize::from(answer.0)] += 1;
@@ -189,6 +214,18 @@ fn every_call_returns() {
     // Every number of the table is met here too, unless fewer runs are asked for.
     let missing: Vec<usize> = (0..23).filter(|&number| numbers[number] == 0).collect();
     assert!(seeds.runs < RUNS || missing.is_empty(), "{numbers:?}");
+}
+
+/// A work that says so leaves the block of the turn in the lent one; any other leaves that as it was.
+fn same_append(before: &Lent, after: &Lent, answer: &str) {
+    let place = match before.counts.replicas {
+        0 => 0,
+        n => before.turn.slot as usize % usize::from(n),
+    };
+    match answer.contains("append: true") {
+        true => assert!(after.block == before.places[BLOCK * place..][..BLOCK]),
+        false => assert!(after.block == before.block),
+    }
 }
 
 /// A take is a deliver and its works, as many as a take has at most; all return.

@@ -1,11 +1,11 @@
 //! A replica of the library and one of the model that get the same calls. After each call the
-//! answers are compared, and all memory that the interface shows.
+//! answers are compared, what is appended to the journal, and all memory that the interface shows.
 
 use model::block::{self, BLOCK};
-use model::drive::Subject;
-use model::replica::{self as second, Stage, ITEMS};
-use model::trace::{Answer, Call};
-use stemline::{Asked, Memory, Refusal, Replica, Work};
+use model::drive::{Powered, Subject};
+use model::replica::{self as second, Restarted, Stage, ITEMS};
+use model::trace::{Answer, Call, Restart};
+use stemline::{Asked, Memory, Refusal, Replica, Report, Work};
 
 #[derive(Clone)]
 pub struct Both {
@@ -13,6 +13,9 @@ pub struct Both {
     pub model: second::Replica,
     /// The library's memory before the call.
     before: Memory,
+    /// The journal, and what of it a cut leaves at least.
+    disk: Vec<u8>,
+    floor: usize,
 }
 
 impl Both {
@@ -27,6 +30,8 @@ impl Both {
             before: library.memory().clone(),
             library,
             model,
+            disk: Vec::new(),
+            floor: 0,
         };
         same(&both.model, both.library.memory());
         both
@@ -47,9 +52,15 @@ impl Subject for Both {
     fn call(&mut self, call: &Call) -> Result<Answer, u8> {
         self.before.clone_from(self.library.memory());
         let is_turn = self.library.is_turn();
-        let answer = play(&mut self.library, call);
-        let due = self.model.call(call);
+        let (mut appended, mut due_appended) = (Vec::new(), Vec::new());
+        let answer = play(&mut self.library, call, &mut appended);
+        let due = self.model.call_journaled(call, &mut due_appended);
         assert_eq!(answer, due, "{call:?}: the library's answer, the model's");
+        assert!(appended == due_appended, "{call:?}: what is appended");
+        self.disk.append(&mut appended);
+        if let Ok(Answer::Block(_)) = answer {
+            self.floor = self.disk.len();
+        }
         same(&self.model, self.library.memory());
         assert!(*call != Call::Send || is_turn == answer.is_ok(), "is_turn");
         // The interface shows more than the model has: what is left in free rows, and the like.
@@ -61,7 +72,7 @@ impl Subject for Both {
     }
 
     fn report(&self) -> second::Report {
-        report(&self.library)
+        report(self.library.report())
     }
 
     fn values(&self) -> [i32; ITEMS] {
@@ -69,8 +80,46 @@ impl Subject for Both {
     }
 }
 
-fn report(replica: &Replica) -> second::Report {
-    let report = replica.report();
+impl Powered for Both {
+    fn disk(&self) -> &[u8] {
+        &self.disk
+    }
+
+    fn floor(&self) -> usize {
+        self.floor
+    }
+
+    fn restart(&mut self, restart: &Restart) -> Result<Restarted, u8> {
+        let answer = restarted(&mut self.library, restart);
+        let due = restart.run(&mut self.model);
+        assert_eq!(answer, due, "restart: the library's answer, the model's");
+        same(&self.model, self.library.memory());
+        if let Ok(restarted) = &answer {
+            self.disk = restart.journal[..BLOCK * restarted.count as usize].to_vec();
+            // Without an own block none was handed out.
+            self.floor = if restarted.gave_back() {
+                self.disk.len()
+            } else {
+                0
+            };
+        }
+        answer
+    }
+}
+
+/// A restart by the library, its answer as the model's. A refused one leaves the replica.
+pub fn restarted(replica: &mut Replica, restart: &Restart) -> Result<Restarted, u8> {
+    let values = restart.values[..].try_into().expect("128 values");
+    let given = Replica::restart(restart.n, restart.own, values, &restart.journal);
+    let (new, restarted) = given.map_err(Refusal::number)?;
+    *replica = new;
+    Ok(Restarted {
+        count: restarted.blocks,
+        block: Box::new(restarted.last.unwrap_or([0; BLOCK])),
+    })
+}
+
+pub fn report(report: Report) -> second::Report {
     second::Report {
         turn: report.turn,
         commits: report.commits,
@@ -83,8 +132,8 @@ fn report(replica: &Replica) -> second::Report {
     }
 }
 
-/// One call at the library's replica, its answer as the model's.
-pub fn play(replica: &mut Replica, call: &Call) -> Result<Answer, u8> {
+/// One call at the library's replica, its answer as the model's. Appends what the journal is to get.
+fn play(replica: &mut Replica, call: &Call, journal: &mut Vec<u8>) -> Result<Answer, u8> {
     let played: Result<Answer, Refusal> = match *call {
         Call::Begin => replica.begin().map(Answer::Ticket),
         Call::Read { ticket, item } => replica.read(ticket, item).map(Answer::Value),
@@ -98,10 +147,16 @@ pub fn play(replica: &mut Replica, call: &Call) -> Result<Answer, u8> {
             asked.map(|asked| Answer::ReadOnly(asked == Asked::ReadOnly))
         }
         Call::Withdraw { ticket } => replica.withdraw(ticket).map(|()| Answer::Done),
-        Call::Report => Ok(Answer::Report(report(replica))),
-        Call::Send => replica.send().map(|block| Answer::Block(Box::new(block))),
+        Call::Report => Ok(Answer::Report(report(replica.report()))),
+        Call::Send => replica.send().map(|block| {
+            journal.extend(block);
+            Answer::Block(Box::new(block))
+        }),
         Call::Deliver { ref bytes } => replica.deliver(bytes).map(|()| Answer::Done),
-        Call::Work => replica.work().map(|work| Answer::Work(worked(&work))),
+        Call::Work => replica.work().map(|work| {
+            journal.extend(work.append().into_iter().flatten());
+            Answer::Work(worked(&work))
+        }),
     };
     played.map_err(Refusal::number)
 }

@@ -22,7 +22,7 @@ fn room(name: &str) -> PathBuf {
 }
 
 /// Says something past the capture of a test that passes.
-fn say(text: &str) {
+pub fn say(text: &str) {
     let text = format!("\n{text}\n");
     std::io::stdout().lock().write_all(text.as_bytes()).unwrap();
 }

@@ -6,13 +6,14 @@ use std::path::{Path, PathBuf};
 use std::rc::Rc;
 
 use model::block::MAX_TICKET;
-use model::drive::{Group, Peers, Seen, Style, Subject, STYLES};
-use model::replay::{hex, run as answers, show};
-use model::replica::{Replica, Report, ITEMS, SLOTS};
+use model::drive::{Group, Machine, Peers, Powered, Seen, Style, Subject, STYLES};
+use model::replay::{hex, run as answers};
+use model::replica::{Replica, Report, Restarted, ITEMS, SLOTS};
 use model::samples::Random;
-use model::trace::{Answer, Call};
+use model::trace::{Answer, Call, Restart};
 
 use crate::c::{build, printed, run, run_c};
+use crate::lines::{line, shown};
 use crate::seeds::Seeds;
 
 const CALLS: usize = 2_000;
@@ -36,7 +37,7 @@ fn compare(program: &Path, list: &str, due: &str) {
 /// struct, and those over lent parts, each with every length off by one.
 #[test]
 fn the_stored_list() {
-    let list = model::workload::calls_without_restarts();
+    let list = model::workload::calls();
     let mut said = Vec::new();
     answers(&list[..], &mut said).unwrap();
     let said = String::from_utf8(said).unwrap();
@@ -69,8 +70,8 @@ impl List {
 
 /// A replica of the model at a place, whose calls are put down.
 struct Noted {
-    place: u32,
-    model: Replica,
+    place: usize,
+    model: Machine,
     list: Rc<RefCell<List>>,
 }
 
@@ -79,8 +80,8 @@ impl Noted {
     fn new(list: &Rc<RefCell<List>>, n: u32, own: u32, late: (u32, u32)) -> Noted {
         let model = Replica::make(n, own, &model::drive::start_values()).unwrap();
         let noted = Noted {
-            place: own,
-            model: model.fast_forward(late.0, late.1),
+            place: own as usize,
+            model: Machine::new(model.fast_forward(late.0, late.1)),
             list: list.clone(),
         };
         noted.note(&format!("L {own} {n} {own} {} {}", late.0, late.1), "0");
@@ -92,30 +93,10 @@ impl Noted {
     }
 }
 
-/// A call as a line.
-fn line(k: u32, call: &Call) -> String {
-    match call {
-        Call::Begin => format!("B {k}"),
-        Call::Read { ticket, item } => format!("R {k} {ticket} {item}"),
-        Call::Write {
-            ticket,
-            item,
-            value,
-        } => format!("W {k} {ticket} {item} {value}"),
-        Call::Ask { ticket } => format!("C {k} {ticket}"),
-        Call::Withdraw { ticket } => format!("X {k} {ticket}"),
-        Call::Report => format!("Q {k}"),
-        Call::Send => format!("S {k}"),
-        Call::Deliver { bytes } => format!("H {k} {}", hex(bytes)),
-        Call::Work => format!("K {k}"),
-    }
-}
-
 impl Subject for Noted {
     fn call(&mut self, call: &Call) -> Result<Answer, u8> {
         let answer = self.model.call(call);
-        let shown = answer.as_ref().map_or_else(u8::to_string, show);
-        self.note(&line(self.place, call), &shown);
+        self.note(&line(self.place, call), &shown(&answer));
         answer
     }
 
@@ -124,18 +105,44 @@ impl Subject for Noted {
     }
 
     fn values(&self) -> [i32; ITEMS] {
-        *self.model.values()
+        self.model.values()
     }
 }
 
-/// A group and a single replica among forged peers, as they are after so many slots and tickets.
+impl Powered for Noted {
+    fn disk(&self) -> &[u8] {
+        self.model.disk()
+    }
+
+    fn floor(&self) -> usize {
+        self.model.floor()
+    }
+
+    fn restart(&mut self, restart: &Restart) -> Result<Restarted, u8> {
+        let answer = self.model.restart(restart);
+        let (k, n, own) = (self.place, restart.n, restart.own);
+        let line = format!("T {k} {n} {own} {}", restart.journal.len());
+        let shown = match &answer {
+            Ok(restarted) => format!("0 {} {}", restarted.count, hex(&*restarted.block)),
+            Err(number) => number.to_string(),
+        };
+        self.note(&line, &shown);
+        answer
+    }
+}
+
+/// A group and a single replica among forged peers, as they are after so many slots and tickets. Where
+/// these are none, the group's replicas lose power.
 fn play(list: &Rc<RefCell<List>>, seed: u64, style: Style, late: (u32, u32), seen: &mut Seen) {
     let n = 2 + seed as u32 % 5;
     let mut random = Random::new(seed);
     let members = (0..n).map(|own| Noted::new(list, n, own, late)).collect();
     let mut group: Group<Noted> = Group::new(members, style);
     for _ in 0..CALLS {
-        group.random_call(&mut random);
+        match random.below(50) {
+            0 if late == (0, 0) => group.random_cut(&mut random),
+            _ => group.random_call(&mut random),
+        }
     }
     group.settle(2);
     for (k, member) in group.members.iter().enumerate() {
@@ -178,7 +185,8 @@ fn random_lists() {
         compare(&program, &list.lines, &list.due);
     });
     let all: Vec<usize> = (1..=21).collect();
-    assert!(seeds.runs < RUNS || seen.numbers(20) == all, "{seen:?}");
+    let enough = seen.numbers(20) == all && seen.restarts > 500;
+    assert!(seeds.runs < RUNS || enough, "{seen:?}");
 }
 
 /// Every call at a struct with any bytes in it. The program says where something does not hold; here it
@@ -189,6 +197,7 @@ fn any_bytes() {
     let lines: Vec<&str> = said.lines().collect();
     let least = [
         ("make", 2),
+        ("restart", 2),
         ("begin", 3),
         ("read", 4),
         ("write", 8),
@@ -208,7 +217,8 @@ fn any_bytes() {
     }
 }
 
-/// A refused make keeps the replica that is there, and one out of range touches nothing around it.
+/// A refused make or restart keeps the replica that is there, and one out of range touches nothing
+/// around it; nor does a restart touch the block that it is lent.
 #[test]
 fn refused_makes() {
     let source = r#"
@@ -221,6 +231,8 @@ fn refused_makes() {
         int main(void) {
             static int32_t start[STEMLINE_ITEMS] = {7};
             const uint32_t sizes[] = {0, 1, 2, 3, 6, 7, 8, 255, 256, 258, 65536, 0x80000000u, UINT32_MAX};
+            uint8_t block[STEMLINE_BLOCK];
+            memset(block, 7, sizeof block);
             memset(&s, 0xa5, sizeof s);
             printf("make: %d\n", stemline_replica_make(&s.r, 2, 1, start));
             printf("begin: %u\n", (unsigned)stemline_replica_begin(&s.r).ticket);
@@ -228,6 +240,10 @@ fn refused_makes() {
             for (size_t i = 0; i < sizeof sizes / sizeof sizes[0]; i++) {
                 int number = stemline_replica_make(&s.r, sizes[i], 6, start);
                 hold(number == STEMLINE_OUT_OF_RANGE && same(&s.r, &before.r), "make");
+                stemline_restart_reply reply =
+                    stemline_replica_restart(&s.r, sizes[i], 6, start, NULL, 0, block);
+                hold(reply.number == STEMLINE_OUT_OF_RANGE && same(&s.r, &before.r), "restart");
+                hold(reply.count == 0 && block[0] == 7 && block[511] == 7, "restart: the block");
             }
             hold(memcmp(s.below, before.below, sizeof s.below) == 0, "below the replica");
             hold(memcmp(s.above, before.above, sizeof s.above) == 0, "above the replica");

@@ -7,7 +7,7 @@ use stemline::ffi::Counts;
 use crate::lengths::{states, CALLS};
 use crate::lent::{refused, Lent};
 
-/// The counts by name, with the calls that look at each. A make that is accepted sets them all.
+/// The counts by name, with the calls that look at each. An accepted make or restart sets them all.
 const COUNTS: [(&str, &str); 9] = [
     ("replicas", "send deliver work"),
     ("own", "send deliver work"),
@@ -75,7 +75,7 @@ fn every_byte_of_the_counts() {
                     let answer = call(name, &mut memory);
                     if !looks {
                         let mut due_memory = plain.clone();
-                        if name != "make" || due.0 != 0 {
+                        if !["make", "restart"].contains(&name) || due.0 != 0 {
                             set(&mut due_memory.counts, count, at, byte);
                         }
                         assert_eq!(answer, due, "{name}: {count}, byte {at}: {byte}");
@@ -119,7 +119,7 @@ fn every_number_of_replicas() {
 /// The tickets at each side of their limit, and the counts at theirs: these stay.
 #[test]
 fn limits() {
-    let [(good, _), _] = states("begin");
+    let (good, _) = states("begin").remove(0);
     for tickets in [0, 1, MAX_TICKET - 1, MAX_TICKET, MAX_TICKET + 1, u32::MAX] {
         let mut memory = good.clone();
         memory.counts.tickets = tickets;
@@ -133,14 +133,14 @@ fn limits() {
         assert_eq!(memory.counts.tickets, due);
     }
     let last = u32::MAX;
-    let [(mut memory, _), _] = states("work");
+    let (mut memory, _) = states("work").remove(0);
     (memory.counts.commits, memory.counts.committed) = (last, last);
     assert_eq!(call("work", &mut memory).0, 0);
     assert_eq!(
         (memory.counts.commits, memory.counts.committed),
         (last, last)
     );
-    let [(mut memory, _), _] = states("ask");
+    let (mut memory, _) = states("ask").remove(0);
     memory.counts.read_only = last;
     memory.table[0].writes = 0;
     assert_eq!(call("ask", &mut memory).0, 0);

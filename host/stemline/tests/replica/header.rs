@@ -1,17 +1,21 @@
-//! The C header beside the Rust crate: layouts, lengths, limits, numbers and words; and the header in each
-//! language that it is for.
+//! The C headers beside the Rust crate: layouts, lengths, limits, numbers and words; and the headers in each
+//! language that they are for.
 
 use std::collections::BTreeMap;
 use std::mem::offset_of;
 
 use stemline::ffi::{
-    AskReply, BeginReply, Counts, ReadReply, Report, ReportReply, Turn, Txn, WorkReply,
+    AskReply, BeginReply, Counts, ReadReply, Report, ReportReply, RestartReply, Turn, Txn,
+    WorkReply,
 };
 use stemline::{Refusal, Replica, ITEMS, REPLICAS};
 
 use crate::c::{build, has_cpp, printed, run, run_c};
 
-const HEADER: &str = include_str!("../../../include/stemline.h");
+const HEADERS: &str = concat!(
+    include_str!("../../../include/stemline_calls.h"),
+    include_str!("../../../include/stemline.h")
+);
 const FIRST: &str = include_str!("../../../examples/first.c");
 
 /// A program of these lines.
@@ -51,7 +55,8 @@ fn structs_have_one_layout() {
     layout!(due, lines, "stemline_ask_reply", AskReply, number read_only);
     layout!(due, lines, "stemline_report_reply", ReportReply, number report);
     layout!(due, lines, "stemline_work_reply", WorkReply,
-        number sender moved count ticket aborted);
+        number sender moved count ticket aborted append);
+    layout!(due, lines, "stemline_restart_reply", RestartReply, number count);
     assert_eq!(run_c("layout", &program(&lines), b""), due);
 }
 
@@ -89,7 +94,7 @@ fn limits(text: &str, start: &str, between: &[char], end: char) -> BTreeMap<Stri
 /// STEMLINE_ITEMS in C is ITEMS in Rust, and so with every limit.
 #[test]
 fn limits_have_one_name() {
-    let c = limits(HEADER, "#define STEMLINE_", &[' '], '/');
+    let c = limits(HEADERS, "#define STEMLINE_", &[' '], '/');
     let rust = limits(include_str!("../../src/lib.rs"), "pub const ", &[':'], ';');
     assert_eq!(c, rust);
     assert!(rust.len() == 9 && rust["ITEMS"] == ITEMS as u64, "{rust:?}");
@@ -118,7 +123,7 @@ fn numbers_have_one_name() {
     }
     assert_eq!(run_c("numbers", &program(&lines), b""), due);
     // And C has no others.
-    let named = HEADER
+    let named = HEADERS
         .lines()
         .filter(|line| line.starts_with("    STEMLINE_"));
     assert_eq!(named.count(), 1 + cases.len());
@@ -138,28 +143,40 @@ fn numbers_have_the_same_words() {
     assert_eq!(c.lines().collect::<Vec<_>>(), due);
 }
 
-/// The header and the first program, without a warning, in each language that it is for.
+/// A program with the header of the calls over lent parts alone: a withdraw at a table of five rows, and at
+/// one of six in which nothing is open.
+const LENT: &str = r#"
+#include <stdio.h>
+#include "stemline_calls.h"
+int main(void) {
+    static stemline_txn table[STEMLINE_TABLE];
+    static stemline_counts counts;
+    int five = stemline_withdraw(table, 5, &counts, 1);
+    int six = stemline_withdraw(table, STEMLINE_TABLE, &counts, 1);
+    printf("%d %d\n", five, six);
+    return 0;
+}
+"#;
+
+/// The headers with the first program, and that of the calls alone, without a warning, in each language that
+/// they are for.
 #[test]
 fn every_language() {
-    let mut languages = vec![("cc", "-std=c99"), ("cc", "-std=c11")];
+    let mut languages = vec![("cc", "c", "c99"), ("cc", "c", "c11")];
     if has_cpp() {
-        languages.extend([("c++", "-std=c++98"), ("c++", "-std=c++17")]);
+        languages.extend([("c++", "cpp", "c++98"), ("c++", "cpp", "c++17")]);
     }
-    for (compiler, standard) in languages {
-        let file = if compiler == "cc" {
-            "first.c"
-        } else {
-            "first.cpp"
-        };
-        let program = build(
-            &format!("first{standard}"),
-            &[(file, compiler, standard, FIRST)],
-        );
-        let said = printed(&run(&program, b""));
-        assert_eq!(
-            said, "the write: accepted\nitem 5: 40 and 40\n",
-            "{standard}"
-        );
+    let programs = [
+        ("first", FIRST, "the write: accepted\nitem 5: 40 and 40\n"),
+        ("lent-alone", LENT, "1 3\n"),
+    ];
+    for (compiler, extension, standard) in languages {
+        for (name, text, due) in programs {
+            let (file, flag) = (format!("{name}.{extension}"), format!("-std={standard}"));
+            let files = [(&file[..], compiler, &flag[..], text)];
+            let program = build(&format!("{name}-{standard}"), &files);
+            assert_eq!(printed(&run(&program, b"")), due, "{name} {standard}");
+        }
     }
 }
 

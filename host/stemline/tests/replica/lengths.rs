@@ -59,11 +59,15 @@ fn resize(lent: &mut Lent, part: &str, length: usize) {
     }
 }
 
-/// The ten calls and the parts that each is lent.
-pub const CALLS: [(&str, &str); 10] = [
+/// The calls and the parts that each is lent. A journal has no wrong length.
+pub const CALLS: [(&str, &str); 11] = [
     (
         "make",
         "table queue items writes snapshots values stamps places outbox start",
+    ),
+    (
+        "restart",
+        "table queue items writes snapshots values stamps places outbox start block",
     ),
     ("begin", "table values snapshots"),
     ("read", "table items writes snapshots"),
@@ -73,17 +77,21 @@ pub const CALLS: [(&str, &str); 10] = [
     ("report", "table"),
     ("send", "table queue items writes outbox block"),
     ("deliver", "places outbox bytes"),
-    ("work", "table queue items values stamps places"),
+    ("work", "table queue items values stamps places block"),
 ];
 
-/// A replica 0 of 2 at which the call is accepted; and one at which it is refused, by the number.
-pub fn states(name: &str) -> [(Lent, u8); 2] {
+/// A replica 0 of 2 at which the call is accepted; and one at which it is refused, by the number. For
+/// a work also one at which it leaves the slot of another.
+pub fn states(name: &str) -> Vec<(Lent, u8)> {
     let mut replica = Replica::new(2, 0, &start_values()).unwrap();
     let ticket = replica.begin().unwrap();
     replica.write(ticket, 5, 40).unwrap();
     let bytes = block_of(2, 1, &[(3, &[(9, 1)])]);
+    let own = block_of(2, 0, &[(4, &[(9, 2), (11, 3)])]);
+    let journal = [&own[..], &bytes, &own].concat();
     let lent = |replica: &Replica| Lent {
         bytes: bytes.to_vec(),
+        journal: journal.clone(),
         ticket,
         item: 5,
         value: -7,
@@ -99,7 +107,7 @@ pub fn states(name: &str) -> [(Lent, u8); 2] {
     bad.ticket = 77;
     bad.bytes[100] ^= 4;
     let number = match name {
-        "make" => {
+        "make" | "restart" => {
             bad.n = 7;
             2
         }
@@ -121,7 +129,13 @@ pub fn states(name: &str) -> [(Lent, u8); 2] {
         // A report is refused by 1 alone.
         _ => 0,
     };
-    [(good, 0), (bad, number)]
+    let mut states = vec![(good, 0), (bad, number)];
+    if name == "work" {
+        back.work().unwrap();
+        back.deliver(&bytes).unwrap();
+        states.push((lent(&back), 0));
+    }
+    states
 }
 
 /// Calls with these parts at wrong lengths; none of the parts may be lent to it, or it is 1.
@@ -134,7 +148,8 @@ fn check(name: &str, lent: &str, good: &Lent, number: u8, wrong: &[(&str, usize)
     let answer = state.call(name);
     // An n out of range gives the places no length.
     let seen = |part: &str| {
-        let any = name == "make" && part == "places" && good.n == 7;
+        let fills = name == "make" || name == "restart";
+        let any = fills && part == "places" && good.n == 7;
         lent.split(' ').any(|of_call| of_call == part) && !any
     };
     if wrong.iter().any(|&(part, _)| seen(part)) {
@@ -167,7 +182,8 @@ fn several_wrong_lengths() {
     let mut random = Random::new(7);
     for _ in 0..2_000 {
         for (name, lent) in CALLS {
-            let (good, number) = &states(name)[random.below(2)];
+            let states = states(name);
+            let (good, number) = &states[random.below(states.len())];
             let mut wrong = Vec::new();
             for part in PARTS {
                 if random.below(6) == 0 {

@@ -20,10 +20,12 @@ pub struct Lent {
     pub outbox: Vec<u8>,
     /// What a make starts with.
     pub start: Vec<i32>,
-    /// What a send fills.
+    /// What a send, a work or a restart fills.
     pub block: Vec<u8>,
     /// What a deliver gets.
     pub bytes: Vec<u8>,
+    /// What a restart gets.
+    pub journal: Vec<u8>,
     pub n: u32,
     pub own: u32,
     pub ticket: u32,
@@ -48,6 +50,7 @@ impl Lent {
             start: start_values().to_vec(),
             block: vec![0xa5; BLOCK],
             bytes: vec![0; BLOCK],
+            journal: Vec::new(),
             n: 2,
             own: 0,
             ticket: 0,
@@ -100,6 +103,26 @@ impl Lent {
                 &mut l.places,
                 &mut l.outbox,
             ),
+            "restart" => {
+                return said!(ffi::restart(
+                    &mut l.table,
+                    &mut l.turn,
+                    &mut l.counts,
+                    l.n,
+                    l.own,
+                    &l.start,
+                    &mut l.queue,
+                    &mut l.items,
+                    &mut l.writes,
+                    &mut l.snapshots,
+                    &mut l.values,
+                    &mut l.stamps,
+                    &mut l.places,
+                    &mut l.outbox,
+                    &l.journal,
+                    &mut l.block
+                ))
+            }
             "begin" => {
                 return said!(ffi::begin(
                     &mut l.table,
@@ -159,7 +182,8 @@ impl Lent {
                     &l.items,
                     &mut l.values,
                     &mut l.stamps,
-                    &mut l.places
+                    &mut l.places,
+                    &mut l.block
                 ))
             }
             _ => panic!("no call {name}"),
@@ -177,6 +201,7 @@ pub fn refused(name: &str, number: u8) -> (u8, String) {
         }};
     }
     let text = match name {
+        "restart" => zeros!(RestartReply),
         "begin" => zeros!(BeginReply),
         "read" => zeros!(ReadReply),
         "ask" => zeros!(AskReply),

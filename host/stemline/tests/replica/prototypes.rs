@@ -1,8 +1,8 @@
-//! The ten functions with their parameters, in order, as the engine exports them; the C header and the
+//! The eleven functions with their parameters, in order, as the engine exports them; the C header and the
 //! Rust crate declare the same. A compiler sees types alone, of which several parameters have the same.
 
 const ENGINE: &str = include_str!("../../../../crates/replica/src/lib.rt");
-const HEADER: &str = include_str!("../../../include/stemline.h");
+const HEADER: &str = include_str!("../../../include/stemline_calls.h");
 const RUST: &str = include_str!("../../src/ffi.rs");
 
 /// What a function is: its name, its parameters and what it gives.
@@ -45,6 +45,7 @@ fn in_c(name: &str) -> String {
         "Txn" => "stemline_txn",
         "Turn" => "stemline_turn",
         "Counts" => "stemline_counts",
+        "RestartReply" => "stemline_restart_reply",
         "BeginReply" => "stemline_begin_reply",
         "ReadReply" => "stemline_read_reply",
         "AskReply" => "stemline_ask_reply",
@@ -75,15 +76,15 @@ fn parameter_in_c(parameter: &str) -> Vec<String> {
 
 fn engine() -> Vec<Function> {
     let found = functions(ENGINE, "pub extern \"C\" fn ", &['\n', '{']);
-    assert_eq!(found.len(), 10);
+    assert_eq!(found.len(), 11);
     found
 }
 
-/// The prototypes of the header, which stand in the section of the calls over lent parts.
+/// The prototypes of the header, which stand in its last section.
 #[test]
 fn the_header_declares_them() {
     let (_, rest) = HEADER.split_once("---- The calls over lent parts").unwrap();
-    let (section, _) = rest.split_once("/* ----").unwrap();
+    let (section, _) = rest.split_once("#ifdef").unwrap();
     let (_, section) = section.split_once("*/").unwrap();
     let declared = section.split(';').filter(|one| !one.trim().is_empty());
     let declared = declared.map(|one| {

@@ -1,4 +1,4 @@
-//! The example programs, in Rust and in C, play the same story and print the same.
+//! The example programs: in Rust and in C they play the same story and print the same.
 
 // The example itself, so that what is compared is what a reader runs.
 #[allow(dead_code)]

@@ -1,10 +1,10 @@
 //! A take beside the calls that it stands for: a deliver, and works until nothing waits.
 
-use model::drive::{start_values, Group, Peers, Subject, STYLES};
+use model::drive::{start_values, Group, Peers, Powered, Subject, STYLES};
 use model::replica::{self as second, Report, ITEMS};
 use model::samples::{block_of, Random};
 use model::trace::{Answer, Call};
-use stemline::{Refusal, Replica, REPLICAS, STEPS};
+use stemline::{Refusal, Replica, Work, REPLICAS, STEPS};
 
 use crate::both::{worked, Both};
 use crate::seeds::Seeds;
@@ -61,6 +61,10 @@ impl Taking {
                 _ => self.met.several += 1,
             },
         }
+        let steps = taken.iter().flat_map(|taken| &taken.steps);
+        let appended = steps.filter_map(Work::append).flatten().copied();
+        let appended: Vec<u8> = appended.collect();
+        assert!(appended == calls.disk()[self.both.disk().len()..]);
         let given = taken.map(|taken| {
             assert_eq!(taken.refused, None);
             taken.steps.iter().map(worked).collect()

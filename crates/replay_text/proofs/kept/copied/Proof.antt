@@ -11,7 +11,7 @@ use Rattle.replay_text.proofs.kept.copied.Statement.{statement}
 use Rattle.replay_text.proofs.kept.copied.Tie as tie
 
 abbrev Inv-loop : tie.InvT-loop
-Inv-loop block n bytes₀ i₀ bytes i = (i ≤ n) × (n ≤ 520) × (n ≤ length block) × Filled (take i block) bytes i
+Inv-loop block n bytes₀ i₀ bytes i = (i ≤ n) × (n ≤ 2100) × (n ≤ length block) × Filled (take i block) bytes i
 
 abbrev μ-loop : tie.MeasureT-loop
 μ-loop block n bytes₀ i₀ bytes i = n - i
@@ -49,7 +49,7 @@ returns c =
     let b = c .before in
     let l = b .before .before .before .before .args .block .now in
     let e : b .loop .i ≡ b .before .before .lesser .result = omega arith in
-    rw (take-min l 520 (b .before .before .lesser .result) (b .before .before .lesser .ensures)) at (a-delivery refl (rw e at (b .loop .inv .3)))
+    rw (take-min l 2100 (b .before .before .lesser .result) (b .before .before .lesser .ensures)) at (a-delivery refl (rw e at (b .loop .inv .3)))
 
 pub copied-spec : {M : Type 1} → statement M
 copied-spec =

@@ -7,8 +7,8 @@ use Rattle.replay_text.proofs.DeliveryLaws.{flipped-in, flipped-out}
 use Rattle.replay_text.proofs.kept.copied_but.Statement.{statement}
 use Rattle.replay_text.proofs.kept.copied_but.Tie as tie
 
-short : (c : tie.After-copied) → c .copied .result .count ≤ 520
-short c = rw (c .copied .ensures) (omega (arith, length-take 520 (c .before .before .args .block .now)))
+short : (c : tie.After-copied) → c .copied .result .count ≤ 2100
+short c = rw (c .copied .ensures) (omega (arith, length-take 2100 (c .before .before .args .block .now)))
 
 copied-requires : tie.Need-copied-requires
 copied-requires c κs = search needs
@@ -26,10 +26,10 @@ array-write-bytes : tie.Need-array-write-bytes
 array-write-bytes c = omega (arith, short (c .before .before .before))
 
 returns : tie.Need-returns
-returns c = rw (c .flipped .ensures) (flipped-in (take 520 (c .before .before .before .before .before .args .block .now)) (c .before .before .before .copied .result) (c .before .before .before .before .before .args .bit / 8) (c .before .before .before .before .before .args .bit % 8) (c .before .before .before .copied .ensures) (c .before .if1 .taken))
+returns c = rw (c .flipped .ensures) (flipped-in (take 2100 (c .before .before .before .before .before .args .block .now)) (c .before .before .before .copied .result) (c .before .before .before .before .before .args .bit / 8) (c .before .before .before .before .before .args .bit % 8) (c .before .before .before .copied .ensures) (c .before .if1 .taken))
 
 returns-2 : tie.Need-returns-2
-returns-2 c = flipped-out (take 520 (c .before .before .before .before .args .block .now)) (c .before .before .copied .result) (c .before .before .before .before .args .bit / 8) (c .before .before .before .before .args .bit % 8) (c .before .before .copied .ensures) (c .if1 .left)
+returns-2 c = flipped-out (take 2100 (c .before .before .before .before .args .block .now)) (c .before .before .copied .result) (c .before .before .before .before .args .bit / 8) (c .before .before .before .before .args .bit % 8) (c .before .before .copied .ensures) (c .if1 .left)
 
 pub copied-but-spec : {M : Type 1} → statement M
 copied-but-spec =

@@ -1,5 +1,5 @@
 -- `kept::decode` meets its contract. The loop's invariant: the first 2·i digits are read.
-use Prim.Native.Nat.{_-_, _/_, _≤_}
+use Prim.Native.Nat.{_-_, _*_, _/_, _≤_}
 use mathlib.Core.Bool.{false}
 use mathlib.Core.Path.{_≡_, _∙_}
 use native.Mathlib.Omega.{arith}
@@ -13,10 +13,10 @@ use Rattle.replay_text.proofs.kept.decode.Statement.{statement}
 use Rattle.replay_text.proofs.kept.decode.Tie as tie
 
 abbrev Inv-loop : tie.InvT-loop
-Inv-loop digits n bytes₀ i₀ bytes i = (i ≤ n) × Decoded digits bytes i
+Inv-loop digits most n bytes₀ i₀ bytes i = (i ≤ n) × Decoded digits bytes i
 
 abbrev μ-loop : tie.MeasureT-loop
-μ-loop digits n bytes₀ i₀ bytes i = n - i
+μ-loop digits most n bytes₀ i₀ bytes i = n - i
 
 nothing-requires : tie.Need-nothing-requires Inv-loop μ-loop
 nothing-requires c κs = search needs
@@ -24,8 +24,12 @@ nothing-requires c κs = search needs
 returns : tie.Need-returns Inv-loop μ-loop
 returns c =
     let d = c .before .before .before .args .digits .now in
-    let unknown : isHexText d ≡ false = rw (hex-odd d (c .before .if1 .taken)) (and-false (leb (length d) 1040)) in
+    let most = c .before .before .before .args .most in
+    let unknown : isHexText most d ≡ false = rw (hex-odd d (c .before .if1 .taken)) (and-false (leb (length d) (2 * most))) in
     c .nothing .ensures ∙ no-delivery (unhex d) unknown
+
+mul-if2 : tie.Need-mul-if2 Inv-loop μ-loop
+mul-if2 c = search needs
 
 nothing-requires-2 : tie.Need-nothing-requires-2 Inv-loop μ-loop
 nothing-requires-2 c κs = search needs
@@ -33,7 +37,8 @@ nothing-requires-2 c κs = search needs
 returns-2 : tie.Need-returns-2 Inv-loop μ-loop
 returns-2 c =
     let d = c .before .before .before .before .args .digits .now in
-    let unknown : isHexText d ≡ false = rw (lt-leb (length d) 1040 (c .before .if2 .taken)) in
+    let most = c .before .before .before .before .args .most in
+    let unknown : isHexText most d ≡ false = rw (lt-leb (length d) (2 * most) (c .before .if2 .taken)) in
     c .nothing2 .ensures ∙ no-delivery (unhex d) unknown
 
 zeros-requires : tie.Need-zeros-requires Inv-loop μ-loop
@@ -67,7 +72,7 @@ returns-3 : tie.Need-returns-3 Inv-loop μ-loop
 returns-3 c =
     let b = c .before .before .before .before .before .before in
     let d = c .before .before .before .before .before .before .before .before .before .before .before .args .digits .now in
-    c .nothing3 .ensures ∙ no-delivery (unhex d) (decoded-not d (b .loop .bytes) (b .loop .i) (c .before .before .hex-pair .result) (c .before .before .hex-pair .ensures) (omega arith) (b .loop .inv .1) (omega arith))
+    c .nothing3 .ensures ∙ no-delivery (unhex d) (decoded-not d (b .loop .bytes) (b .loop .i) (c .before .before .hex-pair .result) (c .before .before .hex-pair .ensures) (omega arith) (b .loop .inv .1) (c .before .before .before .before .before .before .before .before .before .before .before .args .most) (omega arith))
 
 cast-bytes : tie.Need-cast-bytes Inv-loop μ-loop
 cast-bytes c = search needs
@@ -92,7 +97,7 @@ returns-4 c =
     let b = c .before in
     let d = c .before .before .before .before .before .before .args .digits .now in
     let e : b .loop .i ≡ length d / 2 = omega arith in
-    rw e at (decoded-all d (b .loop .bytes) (b .loop .i) (omega arith) (omega arith) (b .loop .inv .1))
+    rw e at (decoded-all d (b .loop .bytes) (b .loop .i) (c .before .before .before .before .before .before .args .most) (omega arith) (omega arith) (b .loop .inv .1))
 
 pub decode-spec : {M : Type 1} → statement M
 decode-spec =
@@ -102,6 +107,7 @@ decode-spec =
     μ-loop
     nothing-requires
     returns
+    mul-if2
     nothing-requires-2
     returns-2
     zeros-requires

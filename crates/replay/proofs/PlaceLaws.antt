@@ -1,0 +1,70 @@
+-- A call at a place, and the journal after it. Assumes nothing.
+use Prim.Native.Nat.{ℕ}
+use mathlib.Core.Path.{_≡_, ap, _∙_}
+use mathlib.Core.Bool.{Bool, true, false, not}
+use mathlib.Core.List.{List}
+use mathlib.Core.Logic.{_⊎_, inl, inr}
+use borrow.Author.Tests.{eq-eqb, ne-eqb}
+use lib.Dec.{eqb}
+use lib.ListN.{length}
+use Rattle.memory.specs.declared.Counts.{Counts}
+use Rattle.replay_text.specs.declared.Call.{Call}
+use Rattle.replay_journal.specs.declared.Change.{Change}
+use Rattle.replay_journal.specs.declared.Held.{Held}
+use Rattle.replay_journal.specs.Journals.{Journal, changed, journalOf, hasPart, bytesGiven}
+use Rattle.replay_calls.specs.declared.Played.{Played}
+use Rattle.replay_calls.specs.declared.Replica.{Replica}
+use Rattle.replay_calls.specs.Effects.{memoryOf, sizeLent, Effect, played, Plays}
+use Rattle.replay.specs.Places.{isThere, isAnswered, asMade, PlaysAt}
+
+-- ---- whether there is an answer
+
+module _ (c : Call) (replicas : ℕ) where
+  pub there-made : (c .letter ≡ 77) ⊎ (c .letter ≡ 89) → true ≡ isThere c replicas
+  there-made (inl e) = rw e
+  there-made (inr e) = rw e
+
+  pub there-other : ((c .letter ≡ 77) ⊎ (c .letter ≡ 89) → ⊥) → not (eqb replicas 0) ≡ isThere c replicas
+  there-other h = rw (ne-eqb (c .letter) 77 (λ e. h (inl e)), ne-eqb (c .letter) 89 (λ e. h (inr e)))
+
+  module _ (j : Journal) {known : Bool} where
+    pub answer-unknown : known ≡ false → false ≡ isAnswered known c replicas j
+    unfolding isAnswered
+    answer-unknown k = rw k
+
+    pub answer-none : known ≡ true → c .letter ≡ 0 → false ≡ isAnswered known c replicas j
+    unfolding isAnswered
+    answer-none k z = rw (k, z)
+
+    pub answer-missing : known ≡ true → (c .letter ≡ 0 → ⊥) → isThere c replicas ≡ false → false ≡ isAnswered known c replicas j
+    unfolding isAnswered
+    answer-missing k z t = rw (k, ne-eqb (c .letter) 0 z, t)
+
+    pub answer-part : known ≡ true → (c .letter ≡ 0 → ⊥) → isThere c replicas ≡ true → hasPart c j ≡ isAnswered known c replicas j
+    unfolding isAnswered
+    answer-part k z t = rw (k, ne-eqb (c .letter) 0 z, t)
+
+-- ---- Z as a Y
+
+module _ (c : Call) (counts : Counts) where
+  pub made-other : (c .letter ≡ 90 → ⊥) → c ≡ asMade c counts
+  unfolding asMade
+  made-other h = rw (ne-eqb (c .letter) 90 h)
+
+  pub made-again : c .letter ≡ 90
+      → _≡_ {A = Call} (record { letter = 89; first = counts .replicas; second = counts .own; value = c .value; digits = c .digits }) (asMade c counts)
+  unfolding asMade
+  made-again e = rw (eq-eqb (c .letter) 90 e)
+
+-- ---- the call
+
+module _ (c : Call) (replica : Replica) (held : Held) (named lent page : List ℕ) where
+  pub plays-at : {asked : Call} {given block left : List ℕ} {p : Played} {after : Held}
+      → asked ≡ asMade c (replica .counts)
+      → given ≡ bytesGiven c named (journalOf held page)
+      → Plays (sizeLent asked (replica .counts)) replica p block (played asked given lent (memoryOf (sizeLent asked (replica .counts)) replica))
+      → journalOf after left ≡ changed (length page) given block (p .change) (journalOf held page)
+      → PlaysAt c named lent (length page) (journalOf held page) replica (record { played = p; held = after }) left block
+  plays-at e g h k =
+      let q = rw (e, g) at h in
+      record { plays = q; journal = rw (g, ap (λ (e : Effect). e .change) (q .is)) at k }

@@ -1,0 +1,40 @@
+-- What a call at a place does: at the replica there, and with the journal that is kept of it.
+use Prim.Native.Nat.{ℕ}
+use mathlib.Core.Path.{_≡_}
+use mathlib.Core.Bool.{Bool, false, true, cond, not, _&&_, _||_}
+use mathlib.Core.List.{List}
+use lib.Dec.{eqb}
+use lib.ListN.{length}
+use Rattle.memory.specs.declared.Counts.{Counts}
+use Rattle.replay_text.specs.declared.Call.{Call}
+use Rattle.replay_journal.specs.declared.Held.{Held}
+use Rattle.replay_journal.specs.Journals.{Journal, changed, journalOf, hasPart, bytesGiven}
+use Rattle.replay.specs.declared.Placed.{Placed}
+use Rattle.replay_calls.specs.declared.Replica.{Replica}
+use Rattle.replay_calls.specs.Effects.{memoryOf, sizeLent, Effect, played, Plays}
+
+-- M and Y make the replica; any other call needs one that was made
+abbrev pub isThere : Call → ℕ → Bool
+isThere c replicas = cond (eqb (c .letter) 77 || eqb (c .letter) 89) true (not (eqb replicas 0))
+
+-- whether the line is answered: the bytes that it names are known, it is a call, its replica is there, and the journal has the part that it names
+unfoldable pub isAnswered : Bool → Call → ℕ → Journal → Bool
+isAnswered known c replicas j = known && (not (eqb (c .letter) 0) && (isThere c replicas && hasPart c j))
+
+-- Z is a Y with the N and the own number that the replica has
+unfoldable pub asMade : Call → Counts → Call
+asMade c counts =
+    cond (eqb (c .letter) 90) (record { letter = 89; first = counts .replicas; second = counts .own; value = c .value; digits = c .digits }) c
+
+-- how many bytes of places it is lent
+abbrev pub sizeAt : Call → Replica → ℕ
+sizeAt c replica = sizeLent (asMade c (replica .counts)) (replica .counts)
+
+-- what the call does at the replica, where its line names those bytes
+abbrev pub effectAt : Call → List ℕ → List ℕ → Journal → Replica → Effect
+effectAt c named lent j replica = played (asMade c (replica .counts)) (bytesGiven c named j) lent (memoryOf (sizeAt c replica) replica)
+
+-- that effect, and with the block that is left the journal by its rule; `room` is what the page has room for
+pub record PlaysAt (c : Call) (named lent : List ℕ) (room : ℕ) (j : Journal) (replica : Replica) (p : Placed) (page block : List ℕ) : Type 0 where
+  pub plays : Plays (sizeAt c replica) replica (p .played) block (effectAt c named lent j replica)
+  pub journal : journalOf (p .held) page ≡ changed room (bytesGiven c named j) block (effectAt c named lent j replica .change) j

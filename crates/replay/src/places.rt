@@ -1,0 +1,78 @@
+// A call at a place: at the replica there, with the journal that is kept of it.
+ghost use Prim.Native.Nat.{_≤_};
+ghost use mathlib.Core.Path.{_≡_};
+ghost use lib.ListN.{length};
+ghost use Rattle.replay_journal.specs.Journals.{journalOf};
+ghost use Rattle.replay.specs.Places.{isThere, isAnswered, asMade, PlaysAt};
+use super::Place;
+use super::Placed;
+use memory::Counts;
+use replay_calls::play;
+use replay_journal::give;
+use replay_journal::has_part;
+use replay_journal::keep;
+use replay_text::Call;
+
+// Whether the call's replica is there, or made by the call.
+fn is_there(call: Call, replicas: u8) -> bool
+    ensures { λ r. ⌜ r ≡ isThere call replicas ⌝ }
+{
+    let letter = call.letter;
+    match letter {
+        b'M' | b'Y' => true,
+        _ => replicas != 0,
+    }
+}
+
+// Whether there is an answer to the call. `known` where the bytes that its line names are.
+pub fn is_answered(known: bool, call: Call, place: Place, page: &[u8]) -> bool
+    ensures { λ r. ⌜ r ≡ isAnswered known call (place .replica .counts .replicas) (journalOf (place .held) (now (page .entry))) ⌝ }
+{
+    if !known {
+        return false;
+    }
+    if call.letter == 0 {
+        return false;
+    }
+    let replica = place.replica;
+    let counts = replica.counts;
+    if !is_there(call, counts.replicas) {
+        return false;
+    }
+    let held = place.held;
+    has_part(call, held, page)
+}
+
+// A restart from the journal that is kept, with the N and the own number that the replica has.
+fn as_made(call: Call, counts: Counts) -> Call
+    ensures { λ r. ⌜ r ≡ asMade call counts ⌝ }
+{
+    if call.letter != b'Z' {
+        return call;
+    }
+    let mut made = call;
+    made.letter = b'Y';
+    made.first = counts.replicas as u32;
+    made.second = counts.own as u32;
+    made
+}
+
+// The call, and the journal after it. `bytes` are those that the line names.
+pub fn run(call: Call, place: Place, bytes: &[u8], page: &mut [u8], block: &mut [u8]) -> Placed
+    requires { ⌜ (length (now bytes) ≤ 65536) × (length (now page) ≤ 65536) ⌝ }
+    ensures { λ r. ⌜ PlaysAt call (now (bytes .entry)) (now (block .entry)) (length (now (page .entry))) (journalOf (place .held) (now (page .entry))) (place .replica) r
+        (now (page .exit)) (now (block .exit)) ⌝ }
+{
+    let replica = place.replica;
+    let counts = replica.counts;
+    let held = place.held;
+    let mut given = io::large_buffer();
+    let n = give(call, held, &*page, bytes, &mut given);
+    let played = play::run(as_made(call, counts), replica, &given[..n], &mut *block);
+    let change = played.change;
+    let after = keep(change, held, &given[..n], &*block, &mut *page);
+    Placed {
+        played: played,
+        held: after,
+    }
+}

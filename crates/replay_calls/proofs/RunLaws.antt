@@ -1,0 +1,115 @@
+-- What a call leaves is what is defined for its letter. Assumes nothing.
+use Prim.Native.Nat.{ℕ}
+use mathlib.Core.Path.{_≡_}
+use mathlib.Core.List.{List}
+use mathlib.Core.Logic.{_⊎_, inl, inr}
+use borrow.Author.Tests.{ne-eqb}
+use lib.ListN.{replicate}
+use Rattle.memory.specs.Memory.{Memory}
+use Rattle.engine.specs.Calls.{Outcome}
+use Rattle.engine.specs.Make.{makeStep}
+use Rattle.engine.specs.Client.{beginStep, readStep, writeStep, askStep, withdrawStep, reportStep}
+use Rattle.engine.specs.Moves.{sendStep, deliverStep, workStep}
+use Rattle.engine.specs.Restart.{restartStep}
+use Rattle.call_reply.specs.Called.{withBlock}
+use Rattle.replay_text.specs.declared.Call.{Call}
+use Rattle.replay_calls.specs.declared.Played.{Played}
+use Rattle.replay_calls.specs.declared.Replica.{Replica}
+use Rattle.replay_calls.specs.Effects.{placesSize, memoryOf, sizeLent, effect, look, show, played, Plays}
+
+module _ (c : Call) (replica : Replica) (p : Played) (bytes lent : List ℕ) where
+  -- the contract of `play::run`
+  abbrev Runs : List ℕ → Type 0
+  Runs left = Plays (sizeLent c (replica .counts)) replica p left (played c bytes lent (memoryOf (sizeLent c (replica .counts)) replica))
+
+  -- a step that does not look at the places
+  abbrev Client : (Memory → Outcome) → Type 0
+  Client step = (size : ℕ) (block : List ℕ) → Plays size replica p block (effect block (step (memoryOf size replica)))
+
+  pub run-make : c .letter ≡ 77
+      → ((block : List ℕ) → Plays (placesSize (c .first)) replica p block (effect block (makeStep (memoryOf (placesSize (c .first)) replica) (c .first) (c .second) (replicate 128 (c .value)))))
+      → Runs lent
+  unfolding played
+  run-make e h = rw e (h lent)
+
+  pub run-begin : c .letter ≡ 66 → Client (λ (m : Memory). beginStep m) → Runs lent
+  unfolding played
+  run-begin e h = rw e (h (placesSize (replica .counts .replicas)) lent)
+
+  pub run-read : c .letter ≡ 82 → Client (λ (m : Memory). readStep m (c .first) (c .second)) → Runs lent
+  unfolding played
+  run-read e h = rw e (h (placesSize (replica .counts .replicas)) lent)
+
+  pub run-write : c .letter ≡ 87 → Client (λ (m : Memory). writeStep m (c .first) (c .second) (c .value)) → Runs lent
+  unfolding played
+  run-write e h = rw e (h (placesSize (replica .counts .replicas)) lent)
+
+  pub run-ask : c .letter ≡ 67 → Client (λ (m : Memory). askStep m (c .first)) → Runs lent
+  unfolding played
+  run-ask e h = rw e (h (placesSize (replica .counts .replicas)) lent)
+
+  pub run-withdraw : c .letter ≡ 88 → Client (λ (m : Memory). withdrawStep m (c .first)) → Runs lent
+  unfolding played
+  run-withdraw e h = rw e (h (placesSize (replica .counts .replicas)) lent)
+
+  pub run-report : c .letter ≡ 81 → Client (λ (m : Memory). reportStep m) → Runs lent
+  unfolding played
+  run-report e h = rw e (h (placesSize (replica .counts .replicas)) lent)
+
+  pub run-send : (left : List ℕ) → c .letter ≡ 83 → ((size : ℕ) → Plays size replica p left (effect lent (sendStep (memoryOf size replica) lent))) → Runs left
+  unfolding played
+  run-send left e h = rw e (h (placesSize (replica .counts .replicas)))
+
+  -- a step at the replica's own places
+  abbrev AtPlaces : (Memory → Outcome) → Type 0
+  AtPlaces step =
+      (block : List ℕ) → Plays (placesSize (replica .counts .replicas)) replica p block (effect block (step (memoryOf (placesSize (replica .counts .replicas)) replica)))
+
+  pub run-deliver : (c .letter ≡ 68) ⊎ ((c .letter ≡ 70) ⊎ (c .letter ≡ 72)) → AtPlaces (λ (m : Memory). deliverStep m bytes) → Runs lent
+  unfolding played
+  run-deliver (inl e) h = rw e (h lent)
+  run-deliver (inr (inl e)) h = rw e (h lent)
+  run-deliver (inr (inr e)) h = rw e (h lent)
+
+  pub run-work : (left : List ℕ) → c .letter ≡ 75
+      → Plays (placesSize (replica .counts .replicas)) replica p left (effect lent (withBlock lent workStep (memoryOf (placesSize (replica .counts .replicas)) replica)))
+      → Runs left
+  unfolding played
+  run-work left e h = rw e h
+
+  pub run-restart : (left : List ℕ) → c .letter ≡ 89
+      → Plays (placesSize (c .first)) replica p left
+      (effect lent (restartStep (memoryOf (placesSize (c .first)) replica) (c .first) (c .second) (replicate 128 (c .value)) bytes lent))
+      → Runs left
+  unfolding played
+  run-restart left e h = rw e h
+
+  pub run-show : (left : List ℕ) → c .letter ≡ 74 → ((size : ℕ) → Plays size replica p left (show bytes lent (memoryOf size replica))) → Runs left
+  unfolding played
+  run-show left e h = rw e (h (placesSize (replica .counts .replicas)))
+
+  -- any other letter
+  pub run-look : (c .letter ≡ 77 → ⊥) → (c .letter ≡ 66 → ⊥) → (c .letter ≡ 82 → ⊥) → (c .letter ≡ 87 → ⊥) → (c .letter ≡ 67 → ⊥) → (c .letter ≡ 88 → ⊥)
+      → (c .letter ≡ 81 → ⊥) → (c .letter ≡ 83 → ⊥) → ((c .letter ≡ 68) ⊎ ((c .letter ≡ 70) ⊎ (c .letter ≡ 72)) → ⊥) → (c .letter ≡ 75 → ⊥)
+      → (c .letter ≡ 89 → ⊥) → (c .letter ≡ 74 → ⊥)
+      → ((size : ℕ) (block : List ℕ) → Plays size replica p block (look block (memoryOf size replica)))
+      → Runs lent
+  unfolding played
+  run-look a b d e f g i j k l n o h =
+      rw (
+        ne-eqb (c .letter) 77 a,
+        ne-eqb (c .letter) 89 n,
+        ne-eqb (c .letter) 66 b,
+        ne-eqb (c .letter) 82 d,
+        ne-eqb (c .letter) 87 e,
+        ne-eqb (c .letter) 67 f,
+        ne-eqb (c .letter) 88 g,
+        ne-eqb (c .letter) 81 i,
+        ne-eqb (c .letter) 83 j,
+        ne-eqb (c .letter) 68 (λ x. k (inl x)),
+        ne-eqb (c .letter) 70 (λ x. k (inr (inl x))),
+        ne-eqb (c .letter) 72 (λ x. k (inr (inr x))),
+        ne-eqb (c .letter) 75 l,
+        ne-eqb (c .letter) 74 o,
+      )
+      (h (placesSize (replica .counts .replicas)) lent)

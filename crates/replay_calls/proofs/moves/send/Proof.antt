@@ -1,0 +1,53 @@
+-- `moves::send` meets its contract.
+use mathlib.Core.Path.{refl}
+use borrow.Author.Needs.{needs}
+use Rattle.replay_calls.specs.Effects.{memoryOf}
+use Rattle.replay_calls.proofs.EffectLaws.{plays-bare}
+use Rattle.replay_calls.proofs.MoveLaws.{send-effect}
+use Rattle.replay_calls.proofs.moves.send.Statement.{statement}
+use Rattle.replay_calls.proofs.moves.send.Tie as tie
+
+slice-aggregate-send : tie.Need-slice-aggregate-send
+slice-aggregate-send c = search needs
+
+slice-aggregate-send-2 : tie.Need-slice-aggregate-send-2
+slice-aggregate-send-2 c = search needs
+
+slice-aggregate-send-3 : tie.Need-slice-aggregate-send-3
+slice-aggregate-send-3 c = search needs
+
+slice-aggregate-send-4 : tie.Need-slice-aggregate-send-4
+slice-aggregate-send-4 c = search needs
+
+send-requires : tie.Need-send-requires
+send-requires c κs = search needs
+
+changing-requires : tie.Need-changing-requires
+changing-requires c κs = search needs
+
+bare-requires : tie.Need-bare-requires
+bare-requires c κs = search needs
+
+same-length : tie.Need-same-length
+same-length c = search needs
+
+returns : tie.Need-returns
+returns c =
+    λ size.
+    let s = c .before .before .before .before .before .before .before .before .before .before .before .before .before .before .before .before .before .before .before .before .before .before .args .replica in
+    let lent = c .before .before .before .before .before .before .before .before .before .before .before .before .before .before .before .before .before .before .before .before .before .before .args .block .now in
+    plays-bare (c .bare .ensures) (rw (c .before .changing .ensures) (send-effect (memoryOf size s) lent (c .before .before .before .before .before .before .before .before .send .ensures (memoryOf size s)))) refl
+
+pub send-spec : {M : Type 1} → statement M
+send-spec =
+    tie.close
+    (tie.spec
+    slice-aggregate-send
+    slice-aggregate-send-2
+    slice-aggregate-send-3
+    slice-aggregate-send-4
+    send-requires
+    changing-requires
+    bare-requires
+    same-length
+    returns)

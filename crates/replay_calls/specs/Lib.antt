@@ -1,0 +1,2 @@
+-- What a call at a replica gives and leaves.
+pub mod Effects

@@ -1,0 +1,73 @@
+// A call at a replica, by its letter. The replica goes in and out by value.
+use memory::Counts;
+use memory::Turn;
+use memory::Txn;
+use replay_journal::Change;
+
+mod client;
+mod moves;
+pub mod play;
+mod results;
+
+// A replica's memory. Of the bytes for places a group of n uses the first 512·n. The group of one that was not made has no replicas.
+pub struct Replica {
+    pub turn: Turn,
+    pub counts: Counts,
+    pub rows: [Txn; 6],
+    pub queue: [u32; 6],
+    pub items: [u8; 48],
+    pub writes: [i32; 48],
+    pub snapshots: [i32; 768],
+    pub values: [i32; 128],
+    pub stamps: [u32; 128],
+    pub places: [u8; 3072],
+    pub outbox: [u8; 512],
+}
+
+// What a call gives: its number, and behind it the first `count` numbers and the first `shown` values; the replica after it, and what becomes of its
+// journal.
+pub struct Played {
+    pub replica: Replica,
+    pub number: u8,
+    pub count: usize,
+    pub numbers: [u32; 10],
+    pub shown: usize,
+    pub values: [i32; 128],
+    pub change: Change,
+}
+
+// No replica.
+pub fn nobody() -> Replica {
+    Replica {
+        turn: Turn {
+            slot: 0,
+            sent: 0,
+            applying: 0,
+        },
+        counts: Counts {
+            replicas: 0,
+            own: 0,
+            commits: 0,
+            done: 0,
+            tickets: 0,
+            committed: 0,
+            read_only: 0,
+            aborted: 0,
+            withdrawn: 0,
+        },
+        rows: [Txn {
+            ticket: 0,
+            stage: 0,
+            snapshot: 0,
+            writes: 0,
+        }; 6],
+        queue: [0; 6],
+        items: [0; 48],
+        writes: [0; 48],
+        snapshots: [0; 768],
+        values: [0; 128],
+        stamps: [0; 128],
+        places: [0; 3072],
+        outbox: [0; 512],
+    }
+}

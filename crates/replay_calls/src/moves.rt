@@ -1,0 +1,250 @@
+// The calls that make a replica, restart it and move its turn. It goes in and out by value, as for a client's calls.
+ghost use Prim.Native.Nat.{ℕ, _+_, _≤_};
+ghost use mathlib.Core.Path.{_≡_};
+ghost use mathlib.Core.Bool.{cond};
+ghost use mathlib.Core.List.{List, _∷_};
+ghost use lib.Dec.{eqb};
+ghost use lib.ListN.{replicate};
+ghost use Rattle.memory.specs.Rows.{endRows};
+ghost use Rattle.engine.specs.Make.{makeStep};
+ghost use Rattle.engine.specs.Moves.{sendStep, deliverStep, workStep};
+ghost use Rattle.engine.specs.Restart.{restartStep};
+ghost use Rattle.call_reply.specs.Called.{withBlock};
+ghost use Rattle.replay_journal.specs.declared.Change.the-variants.{Stays, Grows};
+ghost use Rattle.replay_calls.specs.Effects.{placesSize, memoryOf, withMade, effect, Plays};
+use super::Played;
+use super::Replica;
+use super::results::accepted;
+use super::results::bare;
+use super::results::changing;
+use super::results::flag;
+use super::results::growing;
+use super::results::repeated;
+use super::results::with_number;
+use super::results::with_numbers;
+use call_client::rows::free;
+use call_reply::Restarted;
+use call_reply::WorkReply;
+use memory::Txn;
+use replay_journal::Change;
+
+// How many of the bytes for places a group of n uses.
+fn places_size(n: u32) -> usize
+    ensures { λ r. ⌜ (r ≡ placesSize n) × (r ≤ 3072) ⌝ }
+{
+    if n < 6 { 512 * (n as usize) } else { 3072 }
+}
+
+// The replica with turn, counts and rows of a restart, where it is accepted.
+fn if_made(replica: Replica, restarted: Restarted) -> Replica
+    ensures { λ r. ⌜ r ≡ withMade replica restarted ⌝ }
+{
+    let reply = restarted.reply;
+    if reply.number != 0 {
+        return replica;
+    }
+    let turn = restarted.turn;
+    let counts = restarted.counts;
+    let rows = [free(); 6];
+    let mut after = replica;
+    after.turn = turn;
+    after.counts = counts;
+    after.rows = rows;
+    after
+}
+
+// A replica restarted in the place of the other, which stays where the restart is refused. The block given back goes into the bytes lent.
+pub fn restart(
+    replica: Replica,
+    n: u32,
+    own: u32,
+    value: i32,
+    journal: &[u8],
+    block: &mut [u8],
+) -> Played
+    ensures { λ r. ⌜ Plays (placesSize n) replica r (now (block .exit))
+        (effect (now (block .entry)) (restartStep (memoryOf (placesSize n) replica) n own (replicate 128 value) (now (journal .entry)) (now (block .entry)))) ⌝ }
+{
+    let start = repeated(value);
+    let size = places_size(n);
+    let mut queue = replica.queue;
+    let mut items = replica.items;
+    let mut writes = replica.writes;
+    let mut snapshots = replica.snapshots;
+    let mut values = replica.values;
+    let mut stamps = replica.stamps;
+    let mut places = replica.places;
+    let mut outbox = replica.outbox;
+    let restarted = call_restart::restart(
+        n,
+        own,
+        &start,
+        &mut queue,
+        &mut items,
+        &mut writes,
+        &mut snapshots,
+        &mut values,
+        &mut stamps,
+        &mut places[..size],
+        &mut outbox,
+        journal,
+        &mut *block,
+    );
+    let mut after = if_made(replica, restarted);
+    after.queue = queue;
+    after.items = items;
+    after.writes = writes;
+    after.snapshots = snapshots;
+    after.values = values;
+    after.stamps = stamps;
+    after.places = places;
+    after.outbox = outbox;
+    let reply = restarted.reply;
+    let change = changing(reply.number, Change::Begins(reply.count));
+    with_number(after, reply.number, reply.count, change)
+}
+
+// A replica made in the place of the other, which stays where the make is refused: a restart from no journal, with no block given back.
+pub fn make(replica: Replica, n: u32, own: u32, value: i32) -> Played
+    ensures { λ r. ⌜ ((lent : List ℕ) → Plays (placesSize n) replica r lent (effect lent (makeStep (memoryOf (placesSize n) replica) n own (replicate 128 value)))) ⌝ }
+{
+    let mut block = [0u8; 512];
+    let made = restart(replica, n, own, value, b"", &mut block);
+    let after = made.replica;
+    bare(after, made.number, changing(made.number, Change::Begins(0)))
+}
+
+// The block goes into the bytes lent.
+pub fn send(replica: Replica, block: &mut [u8]) -> Played
+    ensures { λ r. ⌜ ((size : ℕ) → Plays size replica r (now (block .exit)) (effect (now (block .entry)) (sendStep (memoryOf size replica) (now (block .entry))))) ⌝ }
+{
+    let turn = replica.turn;
+    let counts = replica.counts;
+    let rows = replica.rows;
+    let mut queue = replica.queue;
+    let items = replica.items;
+    let writes = replica.writes;
+    let mut outbox = replica.outbox;
+    let sent = call_send::send(
+        rows,
+        turn,
+        counts,
+        &mut queue,
+        &items,
+        &writes,
+        &mut outbox,
+        &mut *block,
+    );
+    let next = sent.turn;
+    let table = sent.rows;
+    let mut after = replica;
+    after.turn = next;
+    after.rows = table;
+    after.queue = queue;
+    after.outbox = outbox;
+    bare(after, sent.number, changing(sent.number, Change::Grows))
+}
+
+pub fn deliver(replica: Replica, bytes: &[u8]) -> Played
+    ensures { λ r. ⌜ ((lent : List ℕ) → Plays (placesSize (replica .counts .replicas)) replica r lent (effect lent (deliverStep (memoryOf (placesSize (replica .counts .replicas)) replica) (now (bytes .entry))))) ⌝ }
+{
+    let turn = replica.turn;
+    let counts = replica.counts;
+    let outbox = replica.outbox;
+    let mut places = replica.places;
+    let size = places_size(counts.replicas as u32);
+    let number = call_deliver::deliver(turn, counts, &mut places[..size], &outbox, bytes);
+    let mut after = replica;
+    after.places = places;
+    bare(after, number, Change::Stays)
+}
+
+// The rows with those that are marked ended free.
+fn end_rows(rows: [Txn; 6], ended: [bool; 6]) -> [Txn; 6]
+    ensures { λ r. ⌜ r ≡ endRows ended rows ⌝ }
+{
+    let mut after = rows;
+    let mut i: usize = 0;
+    while i < 6 {
+        if ended[i] {
+            after[i] = free();
+        }
+        i += 1;
+    }
+    after
+}
+
+// What a work did.
+fn step_of(replica: Replica, reply: WorkReply) -> Played
+    ensures { λ r. ⌜ (r ≡ record {
+      replica = replica;
+      number = reply .number;
+      count = cond (eqb (reply .number) 0) (4 + reply .count) 0;
+      numbers = reply .sender ∷ (reply .ticket ∷ (cond (reply .moved) 1 0 ∷ (reply .count ∷ reply .aborted)));
+      shown = 0;
+      values = r .values;
+      change = cond (reply .append) Grows Stays;
+    })
+        × (r .count ≤ 4 + reply .count) ⌝ }
+{
+    let aborted = reply.aborted;
+    with_numbers(
+        replica,
+        reply.number,
+        accepted(reply.number, 4 + reply.count as usize),
+        [
+            reply.sender as u32,
+            reply.ticket,
+            flag(reply.moved),
+            reply.count as u32,
+            aborted[0],
+            aborted[1],
+            aborted[2],
+            aborted[3],
+            aborted[4],
+            aborted[5],
+        ],
+        growing(reply.append),
+    )
+}
+
+// A block that is to be appended to the journal goes into the bytes lent.
+pub fn work(replica: Replica, block: &mut [u8]) -> Played
+    ensures { λ r. ⌜ Plays (placesSize (replica .counts .replicas)) replica r (now (block .exit))
+        (effect (now (block .entry)) (withBlock (now (block .entry)) workStep (memoryOf (placesSize (replica .counts .replicas)) replica))) ⌝ }
+{
+    let turn = replica.turn;
+    let counts = replica.counts;
+    let rows = replica.rows;
+    let mut queue = replica.queue;
+    let items = replica.items;
+    let mut values = replica.values;
+    let mut stamps = replica.stamps;
+    let mut places = replica.places;
+    let size = places_size(counts.replicas as u32);
+    let worked = call_work::work(
+        rows,
+        turn,
+        counts,
+        &mut queue,
+        &items,
+        &mut values,
+        &mut stamps,
+        &mut places[..size],
+        &mut *block,
+    );
+    let reply = worked.reply;
+    let numbers = worked.counts;
+    let next = worked.turn;
+    let ended = worked.ended;
+    let table = end_rows(rows, ended);
+    let mut after = replica;
+    after.turn = next;
+    after.counts = numbers;
+    after.rows = table;
+    after.queue = queue;
+    after.values = values;
+    after.stamps = stamps;
+    after.places = places;
+    step_of(after, reply)
+}

@@ -1,0 +1,59 @@
+// A call at a replica, by its letter.
+ghost use Prim.Native.Nat.{ℕ};
+ghost use mathlib.Core.List.{List};
+ghost use Rattle.replay_calls.specs.Effects.{memoryOf, sizeLent, look, show, played, Plays};
+use super::Played;
+use super::Replica;
+use super::client;
+use super::moves;
+use super::results::bare;
+use super::results::with_values;
+use call_reply::blocks::copy_bytes;
+use replay_journal::Change;
+use replay_text::Call;
+
+// The replica's values.
+fn shown(replica: Replica) -> Played
+    ensures { λ r. ⌜ ((size : ℕ) (lent : List ℕ) → Plays size replica r lent (look lent (memoryOf size replica))) ⌝ }
+{
+    let values = replica.values;
+    with_values(replica, 0, 128, values)
+}
+
+// The bytes, put over those lent.
+fn show(replica: Replica, bytes: &[u8], block: &mut [u8]) -> Played
+    ensures { λ r. ⌜ ((size : ℕ) → Plays size replica r (now (block .exit)) (show (now (bytes .entry)) (now (block .entry)) (memoryOf size replica))) ⌝ }
+{
+    copy_bytes(bytes, &mut *block);
+    bare(replica, 0, Change::Stays)
+}
+
+// The call, by its letter: `bytes` are what it is given, `block` takes the block that it gives.
+pub fn run(call: Call, replica: Replica, bytes: &[u8], block: &mut [u8]) -> Played
+    ensures { λ r. ⌜ Plays (sizeLent call (replica .counts)) replica r (now (block .exit))
+        (played call (now (bytes .entry)) (now (block .entry)) (memoryOf (sizeLent call (replica .counts)) replica)) ⌝ }
+{
+    let letter = call.letter;
+    match letter {
+        b'M' => moves::make(replica, call.first, call.second, call.value),
+        b'B' => client::begin(replica),
+        b'R' => client::read(replica, call.first, call.second),
+        b'W' => client::write(replica, call.first, call.second, call.value),
+        b'C' => client::ask(replica, call.first),
+        b'X' => client::withdraw(replica, call.first),
+        b'Q' => client::report(replica),
+        b'S' => moves::send(replica, &mut *block),
+        b'D' | b'F' | b'H' => moves::deliver(replica, bytes),
+        b'K' => moves::work(replica, &mut *block),
+        b'Y' => moves::restart(
+            replica,
+            call.first,
+            call.second,
+            call.value,
+            bytes,
+            &mut *block,
+        ),
+        b'J' => show(replica, bytes, &mut *block),
+        _ => shown(replica),
+    }
+}

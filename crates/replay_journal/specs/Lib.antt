@@ -1,0 +1,2 @@
+-- The journal that the program keeps at a place.
+pub mod Journals

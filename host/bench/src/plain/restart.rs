@@ -1,0 +1,69 @@
+//! A restart from a journal.
+
+use model::block::{self, BLOCK, ENTRY, HEADER, RECORD, RECORD_HEAD};
+use model::replica::ITEMS;
+
+use super::Replica;
+
+/// What a restart took up.
+#[derive(Clone, Debug, PartialEq, Eq)]
+pub struct Restarted {
+    pub blocks: u32,
+    /// The last own block.
+    pub last: Option<[u8; BLOCK]>,
+}
+
+impl Replica {
+    pub fn restart(
+        n: u32,
+        own: u32,
+        values: &[i32; ITEMS],
+        journal: &[u8],
+    ) -> Result<(Replica, Restarted), u8> {
+        let mut replica = Replica::make(n, own, values)?;
+        let mut last = None;
+        let (blocks, _) = journal.as_chunks();
+        for block in blocks {
+            if !replica.commit_next(block) {
+                break;
+            }
+            if block::header(block).sender == replica.own {
+                last = Some(block);
+            }
+        }
+        replica.aborted = replica.tickets.saturating_sub(replica.committed);
+        let restarted = Restarted {
+            blocks: replica.turn,
+            last: last.copied(),
+        };
+        Ok((replica, restarted))
+    }
+
+    /// Commits a block if it is a good one of the turn, and says whether.
+    fn commit_next(&mut self, block: &[u8; BLOCK]) -> bool {
+        let Ok(header) = block::read(block) else {
+            return false;
+        };
+        if header.replicas != self.n || header.slot != self.turn {
+            return false;
+        }
+        let (records, _) = block[HEADER..].as_chunks::<RECORD>();
+        for record in &records[..usize::from(header.count)] {
+            let [a, b, c, d, writes, ..] = *record;
+            self.commits += 1;
+            let (entries, _) = record[RECORD_HEAD..].as_chunks::<ENTRY>();
+            for &[item, _, _, _, e, f, g, h] in &entries[..usize::from(writes)] {
+                let item = usize::from(item);
+                self.values[item] = i32::from_le_bytes([e, f, g, h]);
+                self.stamps[item] = self.commits;
+            }
+            if header.sender == self.own {
+                let ticket = u32::from_le_bytes([a, b, c, d]);
+                self.tickets = self.tickets.max(ticket);
+                self.committed += 1;
+            }
+        }
+        self.turn += 1;
+        true
+    }
+}

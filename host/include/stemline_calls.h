@@ -1,0 +1,209 @@
+/* The eleven calls of the replica engine over parts that the host lends, for C99
+ * and later, and for C++; their limits, numbers and structs.
+ *
+ * Most hosts include stemline.h, which includes this and has a struct of all parts
+ * of a replica with functions over it for the same calls. There stands how a group
+ * is run, and what a host with journals has to do. Who keeps the parts of a replica
+ * elsewhere needs this header alone. */
+#ifndef STEMLINE_CALLS_H
+#define STEMLINE_CALLS_H
+
+#include <stdbool.h>
+#include <stddef.h>
+#include <stdint.h>
+
+#ifdef __cplusplus
+extern "C" {
+#endif
+
+/* ---- The limits */
+
+#define STEMLINE_REPLICAS 6      /* the most replicas of a group; the fewest are 2 */
+#define STEMLINE_SLOTS 100000000 /* slots of a run; a replica at this turn has processed them all */
+#define STEMLINE_TABLE 6         /* rows of the table: the most open transactions */
+#define STEMLINE_QUEUE 6         /* tickets of the queue: those asked and not yet sent */
+#define STEMLINE_ITEMS 128       /* items of a replica; as many values, stamps and values to start with */
+#define STEMLINE_WRITTEN 48      /* written items of all rows, 8 for each; as many values beside them */
+#define STEMLINE_SNAPSHOTS 768   /* values of all snapshots, 128 for each row */
+#define STEMLINE_BLOCK 512       /* bytes of a block */
+/* bytes of the places of n replicas */
+#define STEMLINE_PLACES(n) (STEMLINE_BLOCK * (size_t)(n))
+
+/* ---- The numbers, with their words in stemline_words of stemline.h */
+
+enum stemline_number {
+    STEMLINE_ACCEPTED = 0,
+    STEMLINE_WRONG_LENGTH = 1,
+    STEMLINE_OUT_OF_RANGE = 2,
+    STEMLINE_NOT_OPEN = 3,
+    STEMLINE_NOT_ACTIVE = 4,
+    STEMLINE_ALL_OPEN = 5,
+    STEMLINE_TICKETS_SPENT = 6,
+    STEMLINE_APPLYING = 7,
+    STEMLINE_LOCKED = 8,
+    STEMLINE_STALE = 9,
+    STEMLINE_WRITESET_FULL = 10,
+    STEMLINE_NOT_OUR_TURN = 11,
+    STEMLINE_ALREADY_SENT = 12,
+    STEMLINE_SLOTS_SPENT = 13,
+    STEMLINE_WRONG_CHECK = 14,
+    STEMLINE_WRONG_FORM = 15,
+    STEMLINE_WRONG_GROUP = 16,
+    STEMLINE_PAST_SLOT = 17,
+    STEMLINE_FAR_SLOT = 18,
+    STEMLINE_NOT_SENT = 19,
+    STEMLINE_SLOT_TAKEN = 20,
+    STEMLINE_NOTHING_WAITS = 21,
+    STEMLINE_NOT_OPEN_AS_SENT = 22
+};
+
+/* ---- What a replica holds, beside arrays of numbers */
+
+/* An open transaction. Ticket 0 is a free row. Stage 0 is active, 1 asked, 2 sent. */
+typedef struct stemline_txn {
+    uint32_t ticket;
+    uint32_t stage;
+    uint32_t snapshot; /* the commit count at its begin */
+    uint32_t writes;   /* how many items it has written */
+} stemline_txn;
+
+/* A mark is off where it is 0, on where it is any other number. */
+typedef struct stemline_turn {
+    uint32_t slot;    /* the slot that is processed next */
+    uint8_t sent;     /* mark: the own block for it was sent */
+    uint8_t applying; /* mark: a block of another replica is committed in part */
+} stemline_turn;
+
+typedef struct stemline_counts {
+    uint8_t replicas; /* n */
+    uint8_t own;      /* the replica's own number */
+    uint32_t commits; /* writesets committed, own and others' */
+    uint8_t done;     /* writesets committed of the block at the turn */
+    uint32_t tickets; /* tickets given */
+    uint32_t committed, read_only, aborted, withdrawn; /* how own transactions ended */
+} stemline_counts;
+
+/* ---- What a call answers. All but the number is 0 where it is refused. */
+
+typedef struct stemline_begin_reply {
+    uint8_t number;
+    uint32_t ticket;
+} stemline_begin_reply;
+
+typedef struct stemline_read_reply {
+    uint8_t number;
+    int32_t value;
+} stemline_read_reply;
+
+typedef struct stemline_ask_reply {
+    uint8_t number;
+    bool read_only; /* it had no writes: it has committed and ended */
+} stemline_ask_reply;
+
+typedef struct stemline_report_values {
+    uint32_t turn, commits, tickets;
+    uint32_t open_count; /* open transactions */
+    uint32_t committed, read_only, aborted, withdrawn;
+} stemline_report_values;
+
+typedef struct stemline_report_reply {
+    uint8_t number;
+    stemline_report_values report;
+} stemline_report_reply;
+
+typedef struct stemline_work_reply {
+    uint8_t number;
+    uint8_t sender;
+    bool moved;      /* the turn went up */
+    uint8_t count;   /* how many of aborted count */
+    uint32_t ticket; /* of the writeset committed; 0 for a block without records */
+    uint32_t aborted[STEMLINE_TABLE]; /* own tickets aborted, rising, zeros behind */
+    bool append;     /* the turn left another's slot: the lent block is to be appended */
+} stemline_work_reply;
+
+typedef struct stemline_restart_reply {
+    uint8_t number;
+    uint32_t count; /* blocks committed: the journal is to be cut to so many */
+} stemline_restart_reply;
+
+/* ---- The calls over lent parts
+ *
+ * Each does what is said in stemline.h at the function over a stemline_replica of
+ * its name. A lent array is a pointer and its number of elements; the pointer is
+ * aligned and not null, and no two lent parts overlap. The lengths, in a group of n:
+ *
+ * table                       STEMLINE_TABLE
+ * queue                       STEMLINE_QUEUE
+ * items, writes               STEMLINE_WRITTEN
+ * snapshots                   STEMLINE_SNAPSHOTS
+ * start, values, stamps       STEMLINE_ITEMS
+ * places                      STEMLINE_PLACES(n)
+ * outbox, block, bytes        STEMLINE_BLOCK
+ * journal                     any
+ *
+ * Any other length is refused by 1, before anything else is tested; at a make or
+ * restart with an n out of range the places may have any. */
+
+uint8_t stemline_make(
+    stemline_txn *table, size_t table_length, stemline_turn *turn, stemline_counts *counts,
+    uint32_t n, uint32_t own, const int32_t *start, size_t start_length,
+    uint32_t *queue, size_t queue_length, uint8_t *items, size_t items_length,
+    int32_t *writes, size_t writes_length, int32_t *snapshots, size_t snapshots_length,
+    int32_t *values, size_t values_length, uint32_t *stamps, size_t stamps_length,
+    uint8_t *places, size_t places_length, uint8_t *outbox, size_t outbox_length);
+
+stemline_restart_reply stemline_restart(
+    stemline_txn *table, size_t table_length, stemline_turn *turn, stemline_counts *counts,
+    uint32_t n, uint32_t own, const int32_t *start, size_t start_length,
+    uint32_t *queue, size_t queue_length, uint8_t *items, size_t items_length,
+    int32_t *writes, size_t writes_length, int32_t *snapshots, size_t snapshots_length,
+    int32_t *values, size_t values_length, uint32_t *stamps, size_t stamps_length,
+    uint8_t *places, size_t places_length, uint8_t *outbox, size_t outbox_length,
+    const uint8_t *journal, size_t journal_length, uint8_t *block, size_t block_length);
+
+stemline_begin_reply stemline_begin(
+    stemline_txn *table, size_t table_length, stemline_counts *counts,
+    const int32_t *values, size_t values_length, int32_t *snapshots, size_t snapshots_length);
+
+stemline_read_reply stemline_read(
+    const stemline_txn *table, size_t table_length, uint32_t ticket,
+    const uint8_t *items, size_t items_length, const int32_t *writes, size_t writes_length,
+    const int32_t *snapshots, size_t snapshots_length, uint32_t item);
+
+uint8_t stemline_write(
+    stemline_txn *table, size_t table_length, const stemline_turn *turn, stemline_counts *counts,
+    uint32_t ticket, uint8_t *items, size_t items_length, int32_t *writes, size_t writes_length,
+    const uint32_t *stamps, size_t stamps_length, uint32_t item, int32_t value);
+
+stemline_ask_reply stemline_ask(
+    stemline_txn *table, size_t table_length, stemline_counts *counts, uint32_t ticket,
+    uint32_t *queue, size_t queue_length);
+
+uint8_t stemline_withdraw(
+    stemline_txn *table, size_t table_length, stemline_counts *counts, uint32_t ticket);
+
+stemline_report_reply stemline_report(
+    const stemline_txn *table, size_t table_length, const stemline_turn *turn,
+    const stemline_counts *counts);
+
+uint8_t stemline_send(
+    stemline_txn *table, size_t table_length, stemline_turn *turn, const stemline_counts *counts,
+    uint32_t *queue, size_t queue_length, const uint8_t *items, size_t items_length,
+    const int32_t *writes, size_t writes_length, uint8_t *outbox, size_t outbox_length,
+    uint8_t *block, size_t block_length);
+
+uint8_t stemline_deliver(
+    const stemline_turn *turn, const stemline_counts *counts, uint8_t *places, size_t places_length,
+    const uint8_t *outbox, size_t outbox_length, const uint8_t *bytes, size_t bytes_length);
+
+stemline_work_reply stemline_work(
+    stemline_txn *table, size_t table_length, stemline_turn *turn, stemline_counts *counts,
+    uint32_t *queue, size_t queue_length, const uint8_t *items, size_t items_length,
+    int32_t *values, size_t values_length, uint32_t *stamps, size_t stamps_length,
+    uint8_t *places, size_t places_length, uint8_t *block, size_t block_length);
+
+#ifdef __cplusplus
+}
+#endif
+
+#endif

@@ -1,0 +1,265 @@
+//! The steps at the disk and their order, errors of the disk, and files that are not taken up.
+
+use std::fs::{self, File};
+use std::path::PathBuf;
+
+use super::*;
+use crate::disk::told;
+
+mod steps;
+
+/// A path in a folder of its own, which goes with it.
+struct Room(PathBuf);
+
+impl Room {
+    fn new(name: &str) -> Room {
+        let name = format!("stemline-{}-{name}", std::process::id());
+        let room = std::env::temp_dir().join(name);
+        fs::create_dir_all(&room).unwrap();
+        Room(room)
+    }
+
+    fn journal(&self) -> PathBuf {
+        self.0.join("journal")
+    }
+}
+
+impl Drop for Room {
+    fn drop(&mut self) {
+        let _ = fs::remove_dir_all(&self.0);
+    }
+}
+
+fn open(room: &Room, n: u32, own: u32) -> Result<(Durable, Restarted), Failure> {
+    Durable::open(room.journal(), n, own, &[0; ITEMS])
+}
+
+/// What a call says that gives nothing.
+fn said<T>(given: Result<T, Failure>) -> String {
+    given.err().expect("an error").to_string()
+}
+
+/// The blocks of slots 0 to `slots` − 1 of a group of 2, by replica 0 and its peer.
+fn fill(replica: &mut Durable, slots: u32) -> Vec<[u8; BLOCK]> {
+    let (mut peer, _) = Replica::restart(2, 1, &[0; ITEMS], &[]).unwrap();
+    let mut blocks = Vec::new();
+    for slot in 0..slots {
+        let block = match slot % 2 {
+            0 => replica.send().unwrap(),
+            _ => peer.send().unwrap(),
+        };
+        replica.take(&block).unwrap();
+        peer.take(&block).unwrap();
+        blocks.push(block);
+    }
+    blocks
+}
+
+/// A take that the blocks of other slots waited for appends them, in order.
+#[test]
+fn a_take_of_several_blocks() {
+    let room = Room::new("several");
+    let (mut replica, _) = open(&room, 3, 0).unwrap();
+    let mut others = [1, 2].map(|own| Replica::new(3, own, &[0; ITEMS]).unwrap());
+    let mut blocks = vec![replica.send().unwrap()];
+    for k in 0..2 {
+        for other in &mut others {
+            other.take(&blocks[k]).unwrap();
+        }
+        blocks.push(others[k].send().unwrap());
+    }
+    assert!(replica.take(&blocks[2]).unwrap().steps.is_empty());
+    assert!(replica.take(&blocks[1]).unwrap().steps.is_empty());
+    let taken = replica.take(&blocks[0]).unwrap();
+    assert_eq!((taken.steps.len(), taken.refused), (3, None));
+    assert!(fs::read(room.journal()).unwrap() == blocks.concat());
+}
+
+/// That nothing but looking is possible any more, and what is said then.
+fn over(replica: &mut Durable, block: &[u8]) {
+    let before = replica.replica.clone();
+    let due = "it failed before; open it anew";
+    assert!(said(replica.begin()).ends_with(due));
+    assert!(said(replica.write(1, 5, 40)).ends_with(due));
+    assert!(said(replica.ask(1)).ends_with(due));
+    assert!(said(replica.withdraw(1)).ends_with(due));
+    assert!(said(replica.send()).ends_with(due));
+    assert!(said(replica.deliver(block)).ends_with(due));
+    assert!(said(replica.work()).ends_with(due));
+    assert!(said(replica.take(block)).ends_with(due));
+    assert!(said(replica.journal.append(&[0; BLOCK]).map_err(Failure::Disk)).ends_with(due));
+    assert!(said(replica.journal.sync().map_err(Failure::Disk)).ends_with(due));
+    assert!(said(replica.journal.cut(0).map_err(Failure::Disk)).ends_with(due));
+    assert!(replica.replica == before, "a call went on");
+}
+
+/// A file that may only be read: nothing can be appended.
+#[test]
+fn a_failed_append() {
+    let room = Room::new("append");
+    let (mut replica, _) = open(&room, 2, 0).unwrap();
+    let blocks = fill(&mut replica, 4);
+    let writable = fs::read(room.journal()).unwrap();
+    replica.journal.disk.file = File::open(room.journal()).unwrap();
+    replica.begin().unwrap();
+    let failed = said(replica.send());
+    let due = format!("cannot append to the journal {}", room.journal().display());
+    assert!(failed.starts_with(&due), "{failed}");
+    over(&mut replica, &blocks[0]);
+    drop(replica);
+    assert!(fs::read(room.journal()).unwrap() == writable);
+
+    // The send that failed was none: its slot is the turn.
+    let (mut replica, restarted) = open(&room, 2, 0).unwrap();
+    assert_eq!(restarted.blocks, 4);
+    assert_eq!(restarted.last, Some(blocks[2]));
+    assert!(replica.is_turn());
+    let block = replica.send().unwrap();
+    replica.take(&block).unwrap();
+    // A work that cannot append.
+    let (mut peer, _) = Replica::restart(2, 1, &[0; ITEMS], &writable).unwrap();
+    peer.take(&block).unwrap();
+    let next = peer.send().unwrap();
+    replica.journal.disk.file = File::open(room.journal()).unwrap();
+    assert!(said(replica.take(&next)).starts_with(&due));
+    over(&mut replica, &next);
+}
+
+/// A device that takes what is written and cannot make it durable.
+#[cfg(target_os = "linux")]
+#[test]
+fn a_failed_sync() {
+    let room = Room::new("sync");
+    let (mut replica, _) = open(&room, 2, 0).unwrap();
+    let null = fs::OpenOptions::new().append(true).open("/dev/null");
+    replica.journal.disk.file = null.unwrap();
+    let failed = said(replica.send());
+    let due = format!("cannot sync the journal {}", room.journal().display());
+    assert!(failed.starts_with(&due), "{failed}");
+    over(&mut replica, &[0; BLOCK]);
+}
+
+/// What was appended and not made durable is taken back: it may not be on the disk.
+#[test]
+fn back_to_what_is_durable() {
+    let room = Room::new("back");
+    let (mut journal, bytes) = Journal::open(room.journal()).unwrap();
+    assert!(bytes.is_empty());
+    journal.append(&[1; BLOCK]).unwrap();
+    journal.sync().unwrap();
+    journal.append(&[2; BLOCK]).unwrap();
+    assert_eq!(fs::read(room.journal()).unwrap().len(), 2 * BLOCK);
+    journal.fail();
+    assert!(fs::read(room.journal()).unwrap() == [1; BLOCK]);
+    drop(journal);
+    // Never less than was there when it was opened.
+    let (mut journal, bytes) = Journal::open(room.journal()).unwrap();
+    assert!(bytes == [1; BLOCK]);
+    journal.append(&[2; BLOCK]).unwrap();
+    journal.fail();
+    assert!(fs::read(room.journal()).unwrap() == [1; BLOCK]);
+}
+
+#[test]
+fn files_that_cannot_be_opened() {
+    let room = Room::new("open");
+    let missing = room.0.join("none/journal");
+    let failed = said(Durable::open(&missing, 2, 0, &[0; ITEMS]));
+    let due = format!("cannot open the journal {}: ", missing.display());
+    assert!(failed.starts_with(&due), "{failed}");
+    assert!(said(Durable::open(&room.0, 2, 0, &[0; ITEMS])).starts_with("cannot open"));
+    // Open twice.
+    let (replica, _) = open(&room, 2, 0).unwrap();
+    let failed = said(open(&room, 2, 0));
+    assert!(failed.ends_with(": it is open already"), "{failed}");
+    drop(replica);
+    assert!(open(&room, 2, 0).is_ok());
+}
+
+/// A refused open makes no file and changes none.
+#[test]
+fn a_refused_open() {
+    let room = Room::new("refused");
+    for (n, own) in [(0, 0), (1, 0), (7, 0), (2, 2), (6, 6), (u32::MAX, 0)] {
+        let refused = open(&room, n, own).err().unwrap();
+        assert_eq!(refused.refusal(), Some(Refusal::OutOfRange), "{n}, {own}");
+        assert!(!room.journal().exists());
+    }
+    fs::write(room.journal(), [7; 100]).unwrap();
+    assert!(open(&room, 7, 0).is_err());
+    assert!(fs::read(room.journal()).unwrap() == [7; 100]);
+}
+
+/// Damages files of six blocks, and opens them as replica `own` of 2 would be: with its blocks taken up, or
+/// an error and nothing changed.
+fn damaged(room: &Room, own: u32, blocks: &[u8], at: usize, extra: usize, taken: Option<u32>) {
+    let mut file = [blocks, &vec![7; extra]].concat();
+    file[at] ^= 1;
+    fs::write(room.journal(), &file).unwrap();
+    match (open(room, 2, own), taken) {
+        (Ok((_, restarted)), Some(taken)) => {
+            assert_eq!(restarted.blocks, taken, "{own}: byte {at}, {extra} more");
+            assert!(fs::read(room.journal()).unwrap() == file[..BLOCK * taken as usize]);
+        }
+        (Err(failure), None) => {
+            let failure = failure.to_string();
+            let due = "is none of the group's, and more than a cut can tear is behind it";
+            assert!(failure.ends_with(due), "{failure}");
+            assert!(failure.starts_with("cannot take up"), "{failure}");
+            assert!(fs::read(room.journal()).unwrap() == file);
+        }
+        (given, _) => {
+            let given = given.map(|(_, restarted)| restarted.blocks);
+            panic!("{own}: byte {at}, {extra} more: {given:?}")
+        }
+    }
+}
+
+/// Behind the last good block: what a cut can tear is cut off, more is an error and stays.
+#[test]
+fn torn_and_damaged() {
+    let room = Room::new("damaged");
+    let (mut replica, _) = open(&room, 2, 0).unwrap();
+    let blocks = fill(&mut replica, 6).concat();
+    drop(replica);
+    // Slot 6 is replica 0's, slot 7 replica 1's.
+    let end = blocks.len();
+    for extra in [1, 511, 512] {
+        damaged(&room, 0, &blocks, end, extra, Some(6));
+        damaged(&room, 1, &blocks, end, extra, Some(6));
+    }
+    for extra in [513, 1_024] {
+        damaged(&room, 0, &blocks, end, extra, None);
+        damaged(&room, 1, &blocks, end, extra, Some(6));
+    }
+    damaged(&room, 1, &blocks, end, 1_025, None);
+    // Slot 4 was durable before slot 5 followed; slot 5 of replica 1 may be torn, and slot 4 with it.
+    let bad = |slot| BLOCK * slot + 9;
+    damaged(&room, 0, &blocks, bad(5), 0, Some(5));
+    damaged(&room, 0, &blocks, bad(5), 512, Some(5));
+    damaged(&room, 0, &blocks, bad(5), 513, None);
+    damaged(&room, 0, &blocks, bad(4), 0, None);
+    damaged(&room, 1, &blocks, bad(5), 0, Some(5));
+    damaged(&room, 1, &blocks, bad(5), 1, None);
+    damaged(&room, 1, &blocks, bad(4), 0, Some(4));
+    damaged(&room, 1, &blocks, bad(4), 1, None);
+    for own in 0..2 {
+        damaged(&room, own, &blocks, bad(3), 0, None);
+        damaged(&room, own, &blocks, bad(0), 0, None);
+    }
+    // A group of another size.
+    fs::write(room.journal(), &blocks).unwrap();
+    assert!(said(open(&room, 3, 0)).contains("its block 0 is none of the group's"));
+    assert!(fs::read(room.journal()).unwrap() == blocks);
+}
+
+/// For every group and number of good blocks: up to the next own slot, with it.
+#[test]
+fn what_a_cut_tears() {
+    for n in 2..=6 {
+        for (own, blocks) in (0..n).flat_map(|own| (0..20).map(move |blocks| (own, blocks))) {
+            let next = (blocks..).find(|slot| slot % n == own).unwrap();
+            assert_eq!(torn(n, own, blocks), BLOCK * (next + 1 - blocks) as usize);
+        }
+    }
+}

@@ -1,0 +1,143 @@
+//! Replicas over journals in files, as the model's drives take them.
+
+use std::fs;
+use std::path::{Path, PathBuf};
+
+use model::block::BLOCK;
+use model::drive::{start_values, Powered, Subject};
+use model::replica::{self as second, Report, Restarted, ITEMS};
+use model::trace::{Answer, Call, Restart};
+use stemline::{Asked, Durable, Failure, Replica};
+
+use crate::both::{report, same, worked};
+
+/// Opens replica `own` of `n`, with the tests' values; the answer as the model's.
+pub fn open(path: &Path, n: u32, own: u32) -> (Durable, Restarted) {
+    let (durable, restarted) = Durable::open(path, n, own, &start_values()).unwrap();
+    let restarted = Restarted {
+        count: restarted.blocks,
+        block: Box::new(restarted.last.unwrap_or([0; BLOCK])),
+    };
+    (durable, restarted)
+}
+
+/// One call, its answer as the model's. Stops where the disk fails.
+pub fn play(durable: &mut Durable, call: &Call) -> Result<Answer, u8> {
+    let played: Result<Answer, Failure> = match *call {
+        Call::Begin => durable.begin().map(Answer::Ticket),
+        Call::Read { ticket, item } => {
+            let read = durable.read(ticket, item);
+            read.map(Answer::Value).map_err(Failure::Refused)
+        }
+        Call::Write {
+            ticket,
+            item,
+            value,
+        } => durable.write(ticket, item, value).map(|()| Answer::Done),
+        Call::Ask { ticket } => {
+            let asked = durable.ask(ticket);
+            asked.map(|asked| Answer::ReadOnly(asked == Asked::ReadOnly))
+        }
+        Call::Withdraw { ticket } => durable.withdraw(ticket).map(|()| Answer::Done),
+        Call::Report => Ok(Answer::Report(report(durable.report()))),
+        Call::Send => durable.send().map(|block| Answer::Block(Box::new(block))),
+        Call::Deliver { ref bytes } => durable.deliver(bytes).map(|()| Answer::Done),
+        Call::Work => durable.work().map(|work| Answer::Work(worked(&work))),
+    };
+    played.map_err(|failure| match failure.refusal() {
+        Some(refusal) => refusal.number(),
+        None => panic!("{failure}"),
+    })
+}
+
+/// A replica with its file, beside the model's.
+pub struct Studio {
+    /// `None` while it is opened anew: the file is open once.
+    durable: Option<Durable>,
+    model: second::Replica,
+    path: PathBuf,
+    /// What the model says is in the file, and what of it a cut leaves at least.
+    disk: Vec<u8>,
+    floor: usize,
+}
+
+impl Studio {
+    /// With a file that is not there yet.
+    pub fn new(path: PathBuf, n: u32, own: u32) -> Studio {
+        let (durable, restarted) = open(&path, n, own);
+        assert_eq!(restarted.count, 0, "{}", path.display());
+        Studio {
+            durable: Some(durable),
+            model: second::Replica::make(n, own, &start_values()).unwrap(),
+            path,
+            disk: Vec::new(),
+            floor: 0,
+        }
+    }
+
+    /// That the file has what the model says was appended.
+    pub fn check_file(&self) {
+        let file = fs::read(&self.path).unwrap();
+        assert!(file == self.disk, "{}", self.path.display());
+    }
+
+    /// That all the memory is the model's. It is not given out, but shown.
+    fn check_memory(&self, durable: &Durable, restart: &Restart) {
+        let (n, own) = (restart.n, restart.own);
+        let made = Replica::restart(n, own, &start_values(), &restart.journal);
+        let (library, _) = made.unwrap();
+        same(&self.model, library.memory());
+        assert!(format!("{durable:?}").contains(&format!("{library:?}")));
+    }
+
+    fn durable(&self) -> &Durable {
+        self.durable.as_ref().expect("it is open")
+    }
+}
+
+impl Subject for Studio {
+    fn call(&mut self, call: &Call) -> Result<Answer, u8> {
+        let answer = play(self.durable.as_mut().expect("it is open"), call);
+        let due = self.model.call_journaled(call, &mut self.disk);
+        assert_eq!(answer, due, "{call:?}: the library's answer, the model's");
+        if let Ok(Answer::Block(_)) = answer {
+            self.floor = self.disk.len();
+        }
+        answer
+    }
+
+    fn report(&self) -> Report {
+        report(self.durable().report())
+    }
+
+    fn values(&self) -> [i32; ITEMS] {
+        *self.durable().values()
+    }
+}
+
+impl Powered for Studio {
+    fn disk(&self) -> &[u8] {
+        &self.disk
+    }
+
+    fn floor(&self) -> usize {
+        self.floor
+    }
+
+    fn restart(&mut self, restart: &Restart) -> Result<Restarted, u8> {
+        self.check_file();
+        self.durable = None;
+        fs::write(&self.path, &restart.journal).unwrap();
+        let (durable, restarted) = open(&self.path, restart.n, restart.own);
+        assert_eq!(Ok(&restarted), restart.run(&mut self.model).as_ref());
+        self.check_memory(&durable, restart);
+        self.durable = Some(durable);
+        self.disk = restart.journal[..BLOCK * restarted.count as usize].to_vec();
+        self.check_file();
+        self.floor = match restarted.gave_back() {
+            true => self.disk.len(),
+            false => 0,
+        };
+        Ok(restarted)
+    }
+}
