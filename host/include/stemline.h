@@ -1,6 +1,6 @@
 /* The replica engine for C99 and later, and for C++.
  *
- * Link target/staticlib/libreplica.a, which `rt staticlib replica` writes. It
+ * Link target/staticlib/libreplica.a, which `scripts/library` writes. It
  * allocates nothing, keeps nothing and calls nothing but memset.
  *
  * A group has n replicas, 2 to 6, numbered 0 to n - 1. Each holds a value for
@@ -62,12 +62,13 @@ static inline const char *stemline_words(int number) {
     switch (number) {
     case STEMLINE_ACCEPTED: return "accepted";
     case STEMLINE_WRONG_LENGTH: return "a lent slice has not its exact length";
-    case STEMLINE_OUT_OF_RANGE: return "the number of replicas, the own number or the item is out of range";
+    case STEMLINE_OUT_OF_RANGE: return "the number of replicas, the own number, the item or a class is out of range";
     case STEMLINE_NOT_OPEN: return "no open transaction has this ticket";
     case STEMLINE_NOT_ACTIVE: return "the transaction is asked or sent already";
     case STEMLINE_ALL_OPEN: return "6 transactions are open";
     case STEMLINE_TICKETS_SPENT: return "all 100,000,000 tickets are given";
-    case STEMLINE_APPLYING: return "a block of another replica is being applied";
+    case STEMLINE_APPLYING:
+        return "a block of another replica is being applied, with items of this one's class still to come";
     case STEMLINE_LOCKED: return "another open transaction holds the item";
     case STEMLINE_STALE: return "the item has changed since the snapshot; the transaction is aborted";
     case STEMLINE_WRITESET_FULL: return "the transaction has written 8 items, and this is a ninth";
@@ -84,6 +85,7 @@ static inline const char *stemline_words(int number) {
     case STEMLINE_SLOT_TAKEN: return "a block for this slot waits already";
     case STEMLINE_NOTHING_WAITS: return "no block waits for the turn";
     case STEMLINE_NOT_OPEN_AS_SENT: return "an own writeset whose transaction is not open as sent";
+    case STEMLINE_LOAD_WHILE_APPLYING: return "classes are loaded while a block of another replica is being applied";
     default: return "refused by an unknown number";
     }
 }
@@ -102,6 +104,7 @@ typedef struct stemline_replica {
     int32_t snapshots[STEMLINE_SNAPSHOTS]; /* row r's copy of the values at its begin, from 128 * r on */
     int32_t values[STEMLINE_ITEMS];        /* the values committed */
     uint32_t stamps[STEMLINE_ITEMS];       /* the commit count just after an item's last write */
+    uint8_t classes[STEMLINE_ITEMS];       /* an item's class, 1 to 8; all 0 where none are loaded */
     /* the block that waits for slot s, at place s mod n; its first byte is 0 where none does */
     uint8_t places[STEMLINE_BLOCK * STEMLINE_REPLICAS];
     uint8_t outbox[STEMLINE_BLOCK]; /* the block sent last */
@@ -125,8 +128,8 @@ typedef struct stemline_take_reply {
  * r is not null; an array that is given beside it does not lie in it. */
 
 /* The bytes of the places that a call is lent for a group of n. For an n above 6
- * they are all that there are, and make and restart are refused by 2, deliver and
- * work by 1. */
+ * they are all that there are, and make and restart are refused by 2, write, deliver
+ * and work by 1. */
 static inline size_t stemline_lent_places(uint32_t n) {
     return STEMLINE_PLACES(n < STEMLINE_REPLICAS ? n : STEMLINE_REPLICAS);
 }
@@ -139,14 +142,15 @@ static inline uint8_t stemline_replica_make(
         r->table, STEMLINE_TABLE, &r->turn, &r->counts, n, own, start, STEMLINE_ITEMS,
         r->queue, STEMLINE_QUEUE, r->items, STEMLINE_WRITTEN, r->writes, STEMLINE_WRITTEN,
         r->snapshots, STEMLINE_SNAPSHOTS, r->values, STEMLINE_ITEMS, r->stamps, STEMLINE_ITEMS,
-        r->places, stemline_lent_places(n), r->outbox, STEMLINE_BLOCK);
+        r->classes, STEMLINE_ITEMS, r->places, stemline_lent_places(n), r->outbox, STEMLINE_BLOCK);
 }
 
 /* As a make, with the values that the group started with; then commits the blocks
  * of a journal, up to the first that is torn, fails its check or form, has another n
  * or is not of the next slot. Transactions that were open are gone; tickets go on
- * above the highest in its own blocks. The block given back is the last own one
- * of those committed, to be handed out once more, or 512 zeros if there is none.
+ * above the highest in its own blocks; classes are to be loaded anew. The block
+ * given back is the last own one of those committed, to be handed out once more, or
+ * 512 zeros if there is none.
  * The journal may have any length; with length 0 it may be null. Refused by 2. */
 static inline stemline_restart_reply stemline_replica_restart(
     stemline_replica *r, uint32_t n, uint32_t own, const int32_t start[STEMLINE_ITEMS],
@@ -155,7 +159,7 @@ static inline stemline_restart_reply stemline_replica_restart(
         r->table, STEMLINE_TABLE, &r->turn, &r->counts, n, own, start, STEMLINE_ITEMS,
         r->queue, STEMLINE_QUEUE, r->items, STEMLINE_WRITTEN, r->writes, STEMLINE_WRITTEN,
         r->snapshots, STEMLINE_SNAPSHOTS, r->values, STEMLINE_ITEMS, r->stamps, STEMLINE_ITEMS,
-        r->places, stemline_lent_places(n), r->outbox, STEMLINE_BLOCK,
+        r->classes, STEMLINE_ITEMS, r->places, stemline_lent_places(n), r->outbox, STEMLINE_BLOCK,
         length > 0 ? journal : (const uint8_t *)"", length, block, STEMLINE_BLOCK);
 }
 
@@ -176,13 +180,16 @@ static inline stemline_read_reply stemline_replica_read(
         r->snapshots, STEMLINE_SNAPSHOTS, item);
 }
 
-/* Puts the item with its value into the writeset and locks it.
- * Refused by 2, 3, 4, 7 and, unless the transaction holds the item, 8, 9, 10. */
+/* Puts the item with its value into the writeset and locks it. While a block of
+ * another is applied, 7 if an item of the same class is still to come in it: see
+ * stemline_replica_load.
+ * Refused by 1, 2, 3, 4, 7 and, unless the transaction holds the item, 8, 9, 10. */
 static inline uint8_t stemline_replica_write(
     stemline_replica *r, uint32_t ticket, uint32_t item, int32_t value) {
     return stemline_write(
         r->table, STEMLINE_TABLE, &r->turn, &r->counts, ticket, r->items, STEMLINE_WRITTEN,
-        r->writes, STEMLINE_WRITTEN, r->stamps, STEMLINE_ITEMS, item, value);
+        r->writes, STEMLINE_WRITTEN, r->stamps, STEMLINE_ITEMS, r->classes, STEMLINE_ITEMS,
+        r->places, stemline_lent_places(r->counts.replicas), item, value);
 }
 
 /* Requests commit: a transaction without writes ends on the spot, any other
@@ -239,6 +246,17 @@ static inline stemline_work_reply stemline_replica_work(
         r->table, STEMLINE_TABLE, &r->turn, &r->counts, r->queue, STEMLINE_QUEUE,
         r->items, STEMLINE_WRITTEN, r->values, STEMLINE_ITEMS, r->stamps, STEMLINE_ITEMS,
         r->places, stemline_lent_places(r->counts.replicas), block, STEMLINE_BLOCK);
+}
+
+/* Gives each of the 128 items a conflict class, 1 to 8, in the place of the ones
+ * that it had. While a block of another is applied, writeset by writeset, only items
+ * wait (7) whose class holds an item of a writeset still to be applied. After a make
+ * and after a restart all items are of one class. Classes are the host's own matter:
+ * they go into no block and no journal, and each replica of a group may have others.
+ * Refused by 1, 2, 23. */
+static inline uint8_t stemline_replica_load(
+    stemline_replica *r, const uint8_t *classes, size_t length) {
+    return stemline_load(&r->turn, r->classes, STEMLINE_ITEMS, classes, length);
 }
 
 /* What a replica does with a block that arrives: delivers it, then works until

@@ -1,4 +1,4 @@
-/* The eleven calls of the replica engine over parts that the host lends, for C99
+/* The twelve calls of the replica engine over parts that the host lends, for C99
  * and later, and for C++; their limits, numbers and structs.
  *
  * Most hosts include stemline.h, which includes this and has a struct of all parts
@@ -22,7 +22,8 @@ extern "C" {
 #define STEMLINE_SLOTS 100000000 /* slots of a run; a replica at this turn has processed them all */
 #define STEMLINE_TABLE 6         /* rows of the table: the most open transactions */
 #define STEMLINE_QUEUE 6         /* tickets of the queue: those asked and not yet sent */
-#define STEMLINE_ITEMS 128       /* items of a replica; as many values, stamps and values to start with */
+#define STEMLINE_ITEMS 128       /* items of a replica; as many values, stamps, classes and values to start with */
+#define STEMLINE_CLASSES 8       /* conflict classes of items, numbered from 1 */
 #define STEMLINE_WRITTEN 48      /* written items of all rows, 8 for each; as many values beside them */
 #define STEMLINE_SNAPSHOTS 768   /* values of all snapshots, 128 for each row */
 #define STEMLINE_BLOCK 512       /* bytes of a block */
@@ -54,7 +55,8 @@ enum stemline_number {
     STEMLINE_NOT_SENT = 19,
     STEMLINE_SLOT_TAKEN = 20,
     STEMLINE_NOTHING_WAITS = 21,
-    STEMLINE_NOT_OPEN_AS_SENT = 22
+    STEMLINE_NOT_OPEN_AS_SENT = 22,
+    STEMLINE_LOAD_WHILE_APPLYING = 23
 };
 
 /* ---- What a replica holds, beside arrays of numbers */
@@ -137,6 +139,7 @@ typedef struct stemline_restart_reply {
  * items, writes               STEMLINE_WRITTEN
  * snapshots                   STEMLINE_SNAPSHOTS
  * start, values, stamps       STEMLINE_ITEMS
+ * classes, given              STEMLINE_ITEMS
  * places                      STEMLINE_PLACES(n)
  * outbox, block, bytes        STEMLINE_BLOCK
  * journal                     any
@@ -150,6 +153,7 @@ uint8_t stemline_make(
     uint32_t *queue, size_t queue_length, uint8_t *items, size_t items_length,
     int32_t *writes, size_t writes_length, int32_t *snapshots, size_t snapshots_length,
     int32_t *values, size_t values_length, uint32_t *stamps, size_t stamps_length,
+    uint8_t *classes, size_t classes_length,
     uint8_t *places, size_t places_length, uint8_t *outbox, size_t outbox_length);
 
 stemline_restart_reply stemline_restart(
@@ -158,6 +162,7 @@ stemline_restart_reply stemline_restart(
     uint32_t *queue, size_t queue_length, uint8_t *items, size_t items_length,
     int32_t *writes, size_t writes_length, int32_t *snapshots, size_t snapshots_length,
     int32_t *values, size_t values_length, uint32_t *stamps, size_t stamps_length,
+    uint8_t *classes, size_t classes_length,
     uint8_t *places, size_t places_length, uint8_t *outbox, size_t outbox_length,
     const uint8_t *journal, size_t journal_length, uint8_t *block, size_t block_length);
 
@@ -173,7 +178,8 @@ stemline_read_reply stemline_read(
 uint8_t stemline_write(
     stemline_txn *table, size_t table_length, const stemline_turn *turn, stemline_counts *counts,
     uint32_t ticket, uint8_t *items, size_t items_length, int32_t *writes, size_t writes_length,
-    const uint32_t *stamps, size_t stamps_length, uint32_t item, int32_t value);
+    const uint32_t *stamps, size_t stamps_length, const uint8_t *classes, size_t classes_length,
+    const uint8_t *places, size_t places_length, uint32_t item, int32_t value);
 
 stemline_ask_reply stemline_ask(
     stemline_txn *table, size_t table_length, stemline_counts *counts, uint32_t ticket,
@@ -201,6 +207,10 @@ stemline_work_reply stemline_work(
     uint32_t *queue, size_t queue_length, const uint8_t *items, size_t items_length,
     int32_t *values, size_t values_length, uint32_t *stamps, size_t stamps_length,
     uint8_t *places, size_t places_length, uint8_t *block, size_t block_length);
+
+uint8_t stemline_load(
+    const stemline_turn *turn, uint8_t *classes, size_t classes_length,
+    const uint8_t *given, size_t given_length);
 
 #ifdef __cplusplus
 }

@@ -10,7 +10,7 @@ fn main() {
     if !file.is_file() {
         eprintln!(
             "error: target/staticlib/libreplica.a is missing; \
-             make it with `rt staticlib replica`, run in the repository's top folder"
+             make it with `scripts/library`, run in the repository's top folder"
         );
         exit(1);
     }

@@ -40,6 +40,11 @@ class Call:
     replied: str = ""  # what the reply is of an outcome
 
     @property
+    def exported_by(self):
+        """The crate that exports it."""
+        return "replica_make" if self.makes else "replica_turn" if self.name in ("send", "deliver", "work") else "replica_client"
+
+    @property
     def crate(self):
         return self.by_value.split(".")[0]
 
@@ -159,7 +164,7 @@ class Call:
         return [i for i in range(len(self.params)) if self.is_ref(i)]
 
 
-ALL = "queue items writes snapshots values stamps places outbox"
+ALL = "queue items writes snapshots values stamps classes places outbox"
 LATER = " ".join(part + "′" for part in ALL.split())
 
 CALLS = {
@@ -169,14 +174,14 @@ CALLS = {
             "make", "call_make.make", "Made", "u8",
             [("table", TABLE_MUT), ("turn", TURN_MUT), ("counts", COUNTS_MUT), ("size", U32), ("me", U32), ("start", shared("i32")), ("queue", mut("u32")),
              ("items", mut("u8")), ("writes", mut("i32")), ("snapshots", mut("i32")), ("values", mut("i32")), ("stamps", mut("u32")),
-             ("places", mut("u8")), ("outbox", mut("u8"))],
+             ("classes", mut("u8")), ("places", mut("u8")), ("outbox", mut("u8"))],
             "", "allParts {h} {c} {t} " + ALL, "makeStep {m} size me start", "", "allParts {h} {c} {t} " + LATER, "number",
         ),
         Call(
             "restart", "call_restart.restart", "Restarted", "RestartReply",
             [("table", TABLE_MUT), ("turn", TURN_MUT), ("counts", COUNTS_MUT), ("size", U32), ("me", U32), ("start", shared("i32")), ("queue", mut("u32")),
              ("items", mut("u8")), ("writes", mut("i32")), ("snapshots", mut("i32")), ("values", mut("i32")), ("stamps", mut("u32")),
-             ("places", mut("u8")), ("outbox", mut("u8")), ("journal", shared("u8")), ("block", mut("u8"))],
+             ("classes", mut("u8")), ("places", mut("u8")), ("outbox", mut("u8")), ("journal", shared("u8")), ("block", mut("u8"))],
             "no_restart", "allParts {h} {c} {t} " + ALL, "restartStep {m} size me start journal block", "", "allParts {h} {c} {t} " + LATER, "restartReply",
         ),
         Call(
@@ -192,9 +197,9 @@ CALLS = {
         Call(
             "write", "call_write.write", "Changed", "u8",
             [("table", TABLE_MUT), ("turn", TURN), ("counts", COUNTS_MUT), ("ticket", U32), ("items", mut("u8")), ("writes", mut("i32")), ("stamps", shared("u32")),
-             ("item", U32), ("value", I32)],
-            "", "writeParts m {h} {c} {t} items writes stamps", "writeStep {m} ticket item value", "writeRow {m} at item value",
-            "writeParts m {h} {c} {t} items′ writes′ stamps", "number",
+             ("classes", shared("u8")), ("places", shared("u8")), ("item", U32), ("value", I32)],
+            "", "writeParts m {h} {c} {t} items writes stamps classes places", "writeStep {m} ticket item value", "writeRow {m} at item value",
+            "writeParts m {h} {c} {t} items′ writes′ stamps classes places", "number",
         ),
         Call(
             "ask", "call_client.ask", "Asked", "AskReply",
@@ -219,6 +224,7 @@ CALLS = {
             "deliver", "call_deliver.deliver", "u8", "u8",
             [("turn", TURN), ("counts", COUNTS), ("places", mut("u8")), ("outbox", shared("u8")), ("bytes", shared("u8"))],
         ),
+        Call("load", "call_classes.load_classes", "u8", "u8", [("turn", TURN), ("classes", mut("u8")), ("given", shared("u8"))]),
         Call(
             "work", "call_work.work", "Worked", "WorkReply",
             [("table", TABLE_MUT), ("turn", TURN_MUT), ("counts", COUNTS_MUT), ("queue", mut("u32")), ("items", shared("u8")), ("values", mut("i32")),

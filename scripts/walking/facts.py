@@ -1,5 +1,7 @@
 """What each call by value says (`On`), what the exported call says (`Did`), and the way from the one to the other."""
 
+import re
+
 from .calls import CALLS, FIELDS, I32, U32
 
 LISTS = {"i32": "List ℤ", "u8": "List ℕ", "u32": "List ℕ"}
@@ -140,48 +142,52 @@ BESIDE = {
     "make": "(r .turn ≡ turnZero) × (r .counts ≡ ifMade (r .number) (countsFor size me) (countsFor 0 0))",
 }
 
-DELIVERED = """abbrev pub DeliverOn : Turn → Counts → List ℕ → List ℕ → List ℕ → ℕ → List ℕ → Type 0
+# what a call that is lent no table says
+TABLELESS = {
+    "deliver": """abbrev pub DeliverOn : Turn → Counts → List ℕ → List ℕ → List ℕ → ℕ → List ℕ → Type 0
 DeliverOn turn counts places outbox bytes r places′ = (m : Memory) → Gives number (deliverStep (deliverParts m turn counts places outbox) bytes) r (deliverParts m turn counts places′ outbox)
-"""
+""",
+    "load": """abbrev pub LoadOn : Turn → List ℕ → List ℕ → ℕ → List ℕ → Type 0
+LoadOn turn classes given r classes′ = (m : Memory) → Gives number (loadStep (loadParts m turn classes) given) r (loadParts m turn classes′)
+""",
+}
 
-USES = """use Prim.Native.Nat.{{ℕ{least}}}
-use mathlib.Core.Path.{{{path}}}
-use mathlib.Core.Bool.{{false}}
-use mathlib.Core.List.{{List}}
-use lib.IntN.{{ℤ{pos}}}
-use lib.ListN.{{length, {lists}}}
-use Rattle.memory.specs.declared.Counts.{{Counts}}
-use Rattle.memory.specs.declared.Turn.{{Turn}}
-use Rattle.memory.specs.declared.Txn.{{Txn}}
-use Rattle.memory.specs.Memory.{{Memory}}
-"""
-
-SAYS = "-- What {whose} by value (`On`), what it says of the lent parts (`Did`), and the way from the one to the other. Written by `scripts/walks`. Assumes nothing.\n"
+SAYS = "-- What each call says by value (`On`), what it says of the lent parts (`Did`), and the way from the one to the other. Written by `scripts/walks`. Assumes nothing.\n"
 
 
-def client():
-    names = ["begin", "read", "write", "ask", "withdraw", "report"]
-    types = ["BeginReply", "ReadReply", "AskReply", "ReportReply", "Changed", "Begun", "Asked"]
-    head = SAYS.format(whose="a client's call says") + USES.format(path="_≡_, refl", pos=", pos", lists="set", least=", _≤_")
-    head += "use Rattle.memory.specs.Rows.{closed, rowOf, rowAt}\n"
-    head += "use Rattle.engine.specs.Client.{beginRow, beginStep, readRow, readStep, writeRow, writeStep, askRow, askStep, withdrawRow, withdrawStep, reportStep}\n"
-    head += "use Rattle.call_reply.specs.Parts.{beginParts, readParts, writeParts, askParts, withdrawParts, reportParts}\n"
-    head += "use Rattle.host_table.specs.Table.{loaded}\n"
-    head += "use Rattle.call_reply.specs.Replies.{noReport, number, beginReply, readReply, askReply, reportReply, Gives}\n"
-    head += "".join(f"use Rattle.call_reply.specs.declared.{t}.{{{t}}}\n" for t in types)
-    head += "use Rattle.call_reply.specs.Called.{called}\n"
-    head += "use Rattle.call_reply.proofs.CalledLaws.{called-six, called-other}\nuse Rattle.replica.proofs.TableLaws.{loaded-six}\n\n"
-    return head + "\n".join(Facts(CALLS[n]).text() for n in names)
+# the modules that the facts may use, and what of each; a file uses what it names
+MODULES = [
+    ("Rattle.memory.specs.Rows", "closed, endRows, rowOf, rowAt"),
+    ("Rattle.engine.specs.Make", "turnZero, countsFor, makeStep"),
+    ("Rattle.engine.specs.Restart", "restartStep"),
+    ("Rattle.engine.specs.Client", "beginRow, beginStep, readRow, readStep, writeRow, writeStep, askRow, askStep, withdrawRow, withdrawStep, reportStep"),
+    ("Rattle.engine.specs.Moves", "sendStep, deliverStep, workStep"),
+    ("Rattle.engine.specs.Classes", "loadStep"),
+    ("Rattle.call_reply.specs.Parts", "allParts, beginParts, readParts, writeParts, askParts, withdrawParts, reportParts, sendParts, deliverParts, workParts, loadParts"),
+    ("Rattle.call_reply.specs.Replies", "noReport, number, beginReply, readReply, askReply, reportReply, workReply, restartReply, Gives, GivesWith"),
+    *((f"Rattle.call_reply.specs.declared.{t}", t) for t in
+      ["BeginReply", "ReadReply", "AskReply", "ReportReply", "WorkReply", "RestartReply", "Changed", "Begun", "Asked", "Made", "Restarted", "Sent", "Worked"]),
+    ("Rattle.call_reply.specs.Called", "called, withBlock"),
+    ("Rattle.call_make.specs.Made", "ifMade"),
+    ("Rattle.call_work.specs.Writesets", "endedMarks"),
+    ("Rattle.host_table.specs.Table", "loaded"),
+    ("Rattle.call_reply.proofs.CalledLaws", "called-six, called-other"),
+    ("Rattle.host_table.proofs.TableLaws", "loaded-six"),
+]
+PLAIN = [
+    ("Prim.Native.Nat", "ℕ, _≤_"), ("mathlib.Core.Path", "_≡_, refl"), ("mathlib.Core.Bool", "false"), ("mathlib.Core.List", "List"), ("lib.IntN", "ℤ, pos"),
+    ("lib.ListN", "length, set, replicate"), ("Rattle.memory.specs.declared.Counts", "Counts"), ("Rattle.memory.specs.declared.Turn", "Turn"),
+    ("Rattle.memory.specs.declared.Txn", "Txn"), ("Rattle.memory.specs.Memory", "Memory"),
+]
 
 
-def turn():
-    head = SAYS.format(whose="a make, a restart, a send, a deliver or a work says") + USES.format(path="_≡_, refl", pos="", lists="replicate", least="")
-    head += "use Rattle.memory.specs.Rows.{closed, endRows}\n"
-    head += "use Rattle.engine.specs.Make.{turnZero, countsFor, makeStep}\nuse Rattle.engine.specs.Restart.{restartStep}\nuse Rattle.engine.specs.Moves.{sendStep, deliverStep, workStep}\n"
-    head += "use Rattle.call_reply.specs.Parts.{allParts, sendParts, deliverParts, workParts}\n"
-    head += "use Rattle.call_reply.specs.Replies.{number, workReply, restartReply, Gives, GivesWith}\n"
-    head += "".join(f"use Rattle.call_reply.specs.declared.{t}.{{{t}}}\n" for t in ["WorkReply", "RestartReply", "Made", "Restarted", "Sent", "Worked"])
-    head += "use Rattle.call_reply.specs.Called.{called, withBlock}\n"
-    head += "use Rattle.call_make.specs.Made.{ifMade}\nuse Rattle.call_work.specs.Writesets.{endedMarks}\n"
-    head += "use Rattle.call_reply.proofs.CalledLaws.{called-other}\n\n"
-    return head + "\n".join(Facts(CALLS[n]).text() for n in ["make", "restart", "send", "work"]) + "\n" + DELIVERED
+def text(crate):
+    """The facts of a crate's calls."""
+    calls = [c for c in CALLS.values() if c.exported_by == crate]
+    body = "\n".join(TABLELESS[c.name] if c.table is None else Facts(c).text() for c in calls)
+    words = set(re.split(r"[\s()]+", body))
+    out = SAYS
+    for module, names in PLAIN + MODULES:
+        used = [n for n in names.split(", ") if n.strip("_") in words]
+        out += f"use {module}.{{{', '.join(used)}}}\n" * bool(used)
+    return out + "\n" + body

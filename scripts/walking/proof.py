@@ -51,13 +51,13 @@ class Proof(Walk):
     # ---- the file's parts
     def uses(self):
         call, out = self.call, [USES.rstrip()]
-        facts = "ClientFacts" if call.crate in ("call_client", "call_write") else "TurnFacts"
+        own = f"Rattle.{call.exported_by}.proofs"
         name = call.name
-        laws = [] if name == "deliver" else [f"{name.capitalize()}Did", f"{name}-not"] + [f"{name}-did"] * (name in ("read", "report"))
-        out.append("use Rattle.replica.proofs.Handed.{handed, goes-handed, all-ended, all-ended-val, all-ended-is, is-marks}")
-        out.append(f"use Rattle.replica.proofs.{facts}.{{{', '.join([name.capitalize() + 'On'] + laws)}}}")
+        laws = [] if call.table is None else [f"{name.capitalize()}Did", f"{name}-not"] + [f"{name}-did"] * (name in ("read", "report"))
+        out.append("use Rattle.host_table.proofs.Handed.{handed, goes-handed, all-ended, all-ended-val, all-ended-is, is-marks}")
+        out.append(f"use {own}.Facts.{{{', '.join([name.capitalize() + 'On'] + laws)}}}")
         if name in WAYS:
-            out.append(f"use Rattle.replica.proofs.{facts.replace('Facts', 'Ways')}.{{{', '.join(WAYS[name])}}}")
+            out.append(f"use {own}.Ways.{{{', '.join(WAYS[name])}}}")
         for alias, of in [("D", call.result)] + ([] if call.direct else [("Y", call.reply)]):
             if of != "u8":
                 out += [f"use Rattle.call_reply.specs.declared.{of}.{{{of}}}", f"use Rattle.call_reply.proofs.{of} as {alias}", f"use Rattle.call_reply.proofs.{of}.Laws as {alias}′"]
@@ -68,7 +68,7 @@ class Proof(Walk):
         laws = sorted({h.law for h in map(HELPERS.get, self.helpers)})
         contracts = sorted({HELPERS[n].contract for n in self.helpers})
         out.append(f"use Rattle.host_table.proofs.Callees.{{{', '.join(contracts + [f'{what}-{law}' for law in laws for what in ('to', 'asks', 'gives')])}}}")
-        own = f"Rattle.replica.proofs.stemline_{name}"
+        own = f"{own}.stemline_{name}"
         out += [f"use {own}.Key.{{name as #own}}", f"use {own} as own", f"use {own}.Statement as stated", f"use {own}.Code as code"]
         return "\n".join(out) + "\n\n"
 
@@ -160,7 +160,7 @@ class Proof(Walk):
         names = [("v", "Val"), ("r", den(call.reply))] + changed + later
         did = [f"Is {row} r (v ∷ [])"] + ["length ys′ ≡ length ys"] * table
         args = [self.var(i) for _, i in call.holds] + [self.var(i) for i in call.rest] + ["r"] + [n for n, _ in changed + later]
-        did.append(f"{call.name.capitalize()}{'On' if call.name == 'deliver' else 'Did'} {' '.join(args)}")
+        did.append(f"{call.name.capitalize()}{'On' if call.table is None else 'Did'} {' '.join(args)}")
         last, fit = [], []
         for i in range(self.count):
             kind = call.kind(i)

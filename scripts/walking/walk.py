@@ -340,7 +340,7 @@ class Walk(Names):
     def returned(self):
         """What is returned, that it is what the machine has, and the law that says why."""
         call, way = self.call, self.ways.pop(0)
-        if call.name == "deliver":
+        if call.table is None:
             return "r", "is", "said"
         reply, shown = (reply_of(call), "is" if call.direct else "(fields .0)") if call.reply == "u8" else (reply_of(call), "is" if call.direct else self.reply_is)
         if self.plain is not None:

@@ -9,7 +9,7 @@ use lib.Seq.{length-take-le}
 use borrow.Author.Tests.{ne-eqb}
 use Rattle.memory.specs.Memory.{Memory}
 use Rattle.engine.specs.Calls.{Answer, Step, Outcome}
-use Rattle.engine.specs.Calls.Answer.{refused, made, began, got, wrote, queued, readOnly, withdrew, reported, sent, kept, worked, restarted}
+use Rattle.engine.specs.Calls.Answer.{refused, made, began, got, wrote, queued, readOnly, withdrew, reported, sent, kept, worked, loaded, restarted}
 use Rattle.engine.specs.Client.{reportOf}
 use Rattle.engine.specs.Moves.{passNext, commitWriteset}
 use Rattle.engine.specs.Step.{Call, step}
@@ -60,6 +60,7 @@ namedBy (reported r) = []
 namedBy (sent b) = []
 namedBy kept = []
 namedBy (worked s) = s .aborted
+namedBy loaded = []
 namedBy (restarted c b) = []
 
 abbrev workedOn : Answer → ℕ
@@ -75,6 +76,7 @@ workedOn (reported r) = 0
 workedOn (sent b) = 0
 workedOn kept = 0
 workedOn (worked s) = s .ticket
+workedOn loaded = 0
 workedOn (restarted c b) = 0
 
 -- a work on a *next* aborts nobody

@@ -21,11 +21,11 @@ use Rattle.engine.specs.Make.{madeMemory}
 use Rattle.engine.specs.Client.{beginAt, readOnlyAt, queueAt, rewriteAt, insertWrite, staleAt, withdrawAt, reportStep}
 use Rattle.engine.specs.Moves.{messageFor, sentAlready, sendRefusal, sendNow, deliverNow, blockAtTurn, isLast, passNext, commitWriteset}
 use Rattle.engine.specs.Step.{Call, step}
-use Rattle.engine.specs.Step.Call.{begin, read, write, ask, withdraw, report, send, deliver, work}
+use Rattle.engine.specs.Step.Call.{begin, read, write, ask, withdraw, report, send, deliver, work, load}
 use Rattle.engine.specs.Restart.{blocksIn, restartedMemory, restartStep}
 use Rattle.engine.specs.Sent.{SentShape}
 use Rattle.engine.proofs.Tests.{same-by}
-use Rattle.engine.proofs.Steps.{begin-by, read-by, write-by, ask-by, withdraw-by, send-by, deliver-by, work-by, restart-by}
+use Rattle.engine.proofs.Steps.{begin-by, read-by, write-by, ask-by, withdraw-by, send-by, deliver-by, work-by, load-by, restart-by}
 use Rattle.engine.proofs.Shaping.{bumps}
 use Rattle.engine.proofs.ShapeTurn.{Working, working}
 use Rattle.engine.proofs.SentWork.{sender-owns, is-outbox}
@@ -96,6 +96,7 @@ module _ (n : ℕ) (m : Memory) (s : Sound n m) (Q : SentShape m) (l : List ℕ)
   call-filled (send x) = send-by (Filled (send x)) m x (λ e. let h = send-filled x e in omega arith) (λ e. H)
   call-filled (deliver x) = deliver-by (Filled (deliver x)) m x (λ e. H) (λ e. H)
   call-filled work = work-by (Filled work) m (λ e k. left (working m (s .shape) e) true) (λ e k. left (working m (s .shape) e) (isLast m)) (λ e. H)
+  call-filled (load l) = load-by (Filled (load l)) m l (λ e. H) (λ e. H)
 
 -- a restart's journal is the blocks read, and its turn their number
 restart-filled : (n k : ℕ) (start : List ℤ) (m : Memory) (l j x : List ℕ) → length l ≡ 512 * blocksAt (m .turn)

@@ -21,14 +21,14 @@ use Rattle.block.proofs.Theorems.{theorems}
 use Rattle.memory.specs.Memory.{Memory}
 use Rattle.memory.specs.Turns.{advance, markApplying}
 use Rattle.engine.specs.Calls.{Answer, Step, Outcome}
-use Rattle.engine.specs.Calls.Answer.{refused, made, began, got, wrote, queued, readOnly, withdrew, reported, sent, kept, worked, restarted}
+use Rattle.engine.specs.Calls.Answer.{refused, made, began, got, wrote, queued, readOnly, withdrew, reported, sent, kept, worked, loaded, restarted}
 use Rattle.engine.specs.Client.{beginAt, readOnlyAt, queueAt, rewriteAt, insertWrite, staleAt, withdrawAt, reportStep}
 use Rattle.engine.specs.Moves.{messageFor, sendRefusal, sendNow, deliverNow, blockAtTurn, writesetAt, isLast, passNext, commitWriteset}
 use Rattle.engine.specs.Step.{Call, step}
-use Rattle.engine.specs.Step.Call.{begin, read, write, ask, withdraw, report, send, deliver, work}
+use Rattle.engine.specs.Step.Call.{begin, read, write, ask, withdraw, report, send, deliver, work, load}
 use Rattle.engine.specs.Restart.{isGood, blocksIn, firstBlocks, restartStep}
 use Rattle.engine.proofs.Tests.{cond-by}
-use Rattle.engine.proofs.Steps.{begin-by, read-by, write-by, ask-by, withdraw-by, send-by, deliver-by, work-by, restart-by}
+use Rattle.engine.proofs.Steps.{begin-by, read-by, write-by, ask-by, withdraw-by, send-by, deliver-by, work-by, load-by, restart-by}
 use Rattle.engine.proofs.Shaping.{bumps}
 use Rattle.engine.proofs.ShapeTurn.{Working, working}
 use Rattle.engine.proofs.RestartLaws.{AllGood, good-none, good-cons, good-taken, reads-good, reads-first}
@@ -106,6 +106,7 @@ appendedIn (reported r) = []
 appendedIn (sent b) = b
 appendedIn kept = []
 appendedIn (worked s) = s .append
+appendedIn loaded = []
 appendedIn (restarted c b) = []
 
 abbrev AppendedBlocks : ℕ → List ℕ → Option (Message ℤ) → Type 0
@@ -172,6 +173,7 @@ module _ (n : ℕ) (start : List ℤ) (m : Memory) (s : Sound n m) where
       (λ e k. next-appends (working m (s .shape) e))
       (λ e k. let w = working m (s .shape) e in writeset-appends w (w .ticket k))
       (λ e. no-block n)
+  appends (load l) = load-by (Appends (load l)) m l (λ e. no-block n) (λ e. no-block n)
 
 -- ---- the disk after a call
 
@@ -212,6 +214,7 @@ module _ (n : ℕ) (l : List ℕ) (J : Journal ℤ) (H : OnDisk n l (J .kept)) w
   disk-by c (sent b) more A q = (grows b more A, grows b more A)
   disk-by c kept more A q = (stays more A, stays more A)
   disk-by c (worked w) more A q = (rw (worked-journal more c w) (grows (w .append) more A), grows (w .append) more A)
+  disk-by c loaded more A q = (stays more A, stays more A)
   disk-by c (restarted k b) more A q = absurd q
 
   -- what the model appends in a call

@@ -12,7 +12,7 @@ use Rattle.block.specs.Message.{signed32}
 use Rattle.block.proofs.AnswerLaws.{is-taken}
 use Rattle.memory.specs.Memory.{Memory}
 use Rattle.engine.specs.Calls.{Answer}
-use Rattle.engine.specs.Calls.Answer.{refused, made, began, got, wrote, queued, readOnly, withdrew, reported, sent, kept, worked, restarted}
+use Rattle.engine.specs.Calls.Answer.{refused, made, began, got, wrote, queued, readOnly, withdrew, reported, sent, kept, worked, loaded, restarted}
 use Rattle.engine.specs.Step.{Call, step}
 use Rattle.engine.proofs.Tests.{cond-by}
 use Rattle.engine.proofs.RestartLaws.{AllGood, good-taken}
@@ -64,6 +64,7 @@ floor-by n J floor l more c readOnly h u = h
 floor-by n J floor l more c withdrew h u = h
 floor-by n J floor l more c (reported r) h u = h
 floor-by n J floor l more c (sent b) h u = u
+floor-by n J floor l more c loaded h u = h
 floor-by n J floor l more c kept h u = h
 floor-by n J floor l more c (worked s) h u = cond-by (λ (e : Event ℤ). 512 * journalAfter J more e .safe ≤ floor) (eqb (s .ticket) 0) (λ q. h) (λ q. h)
 floor-by n J floor l more c (restarted k b) h u = go (eqb (getD b 0 0) 0) u

@@ -1,12 +1,12 @@
 -- No call but a restart answers as a restart does. Assumes nothing.
 use Rattle.memory.specs.Memory.{Memory}
 use Rattle.engine.specs.Calls.{Answer, Outcome}
-use Rattle.engine.specs.Calls.Answer.{refused, made, began, got, wrote, queued, readOnly, withdrew, reported, sent, kept, worked, restarted}
+use Rattle.engine.specs.Calls.Answer.{refused, made, began, got, wrote, queued, readOnly, withdrew, reported, sent, kept, worked, loaded, restarted}
 use Rattle.engine.specs.Client.{beginAt, readOnlyAt, queueAt, rewriteAt, insertWrite, staleAt, withdrawAt, reportStep}
 use Rattle.engine.specs.Moves.{sendNow, deliverNow, passNext, commitWriteset}
 use Rattle.engine.specs.Step.{Call, step}
-use Rattle.engine.specs.Step.Call.{begin, read, write, ask, withdraw, report, send, deliver, work}
-use Rattle.engine.proofs.Steps.{begin-by, read-by, write-by, ask-by, withdraw-by, send-by, deliver-by, work-by}
+use Rattle.engine.specs.Step.Call.{begin, read, write, ask, withdraw, report, send, deliver, work, load}
+use Rattle.engine.proofs.Steps.{begin-by, read-by, write-by, ask-by, withdraw-by, send-by, deliver-by, work-by, load-by}
 
 abbrev pub NoRestart : Answer → Type 0
 NoRestart (refused n) = Unit
@@ -21,6 +21,7 @@ NoRestart (reported r) = Unit
 NoRestart (sent b) = Unit
 NoRestart kept = Unit
 NoRestart (worked s) = Unit
+NoRestart loaded = Unit
 NoRestart (restarted k b) = ⊥
 
 abbrev P : Outcome → Type 0
@@ -37,3 +38,4 @@ no-restart m report = unfold step reportStep in tt
 no-restart m (send b) = send-by P m b (λ e. tt) (λ e. tt)
 no-restart m (deliver b) = deliver-by P m b (λ e. tt) (λ e. tt)
 no-restart m work = work-by P m (λ e k. tt) (λ e k. tt) (λ e. tt)
+no-restart m (load l) = load-by P m l (λ e. tt) (λ e. tt)

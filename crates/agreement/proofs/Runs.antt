@@ -12,14 +12,14 @@ use Rattle.block.specs.Message.{signed32}
 use Rattle.block.specs.Answers.{recordAt}
 use Rattle.memory.specs.Memory.{Memory}
 use Rattle.engine.specs.Calls.{Answer, Step, Outcome}
-use Rattle.engine.specs.Calls.Answer.{refused, made, began, got, wrote, queued, readOnly, withdrew, reported, sent, kept, worked, restarted}
+use Rattle.engine.specs.Calls.Answer.{refused, made, began, got, wrote, queued, readOnly, withdrew, reported, sent, kept, worked, loaded, restarted}
 use Rattle.engine.specs.Client.{beginAt, readOnlyAt, queueAt, rewriteAt, insertWrite, staleAt, withdrawAt, reportStep}
 use Rattle.engine.specs.Moves.{sendNow, deliverNow, blockAtTurn, passNext, commitWriteset}
 use Rattle.engine.specs.Step.{Call, step}
-use Rattle.engine.specs.Step.Call.{begin, read, write, ask, withdraw, report, send, deliver, work}
+use Rattle.engine.specs.Step.Call.{begin, read, write, ask, withdraw, report, send, deliver, work, load}
 use Rattle.engine.specs.Restart.{restartStep}
 use Rattle.engine.proofs.Tests.{cond-by}
-use Rattle.engine.proofs.Steps.{begin-by, read-by, write-by, ask-by, withdraw-by, send-by, deliver-by, work-by, restart-by}
+use Rattle.engine.proofs.Steps.{begin-by, read-by, write-by, ask-by, withdraw-by, send-by, deliver-by, work-by, load-by, restart-by}
 use Rattle.protocol.specs.Lists.{opt, update, Mem}
 use Rattle.protocol.specs.Writesets.{Message}
 use Rattle.protocol.specs.Replica.{Event}
@@ -63,6 +63,7 @@ messages-after n B c (reported r) = refl
 messages-after n B c (sent b) = sym (map-append messageIn B (b ∷ []))
 messages-after n B c kept = refl
 messages-after n B c (worked s) = work-message n (map messageIn B) c s
+messages-after n B c loaded = refl
 messages-after n B c (restarted k b) = given-message B b
 
 -- ---- the premise
@@ -87,6 +88,7 @@ module _ (n : ℕ) (B : List (Message ℤ)) where
   handed m (deliver b) f =
       deliver-by (λ (o : Outcome). (o .answer ≡ kept → Mem (messageIn b) B) → Handed (deliver b) o) m b (λ e g. g refl) (λ e g. tt) (f b refl)
   handed m work f = work-by (Handed work) m (λ e k. tt) (λ e k. work-handed (recordAt (blockAtTurn m) (m .counts .done) .ticket) _ _ tt tt) (λ e. tt)
+  handed m (load l) f = load-by (Handed (load l)) m l (λ e. tt) (λ e. tt)
 
   pub restart-handed : (k : ℕ) (start : List ℤ) (m : Memory) (j l : List ℕ) → HandedOut B (heard n (restart j l) (restartStep m n k start j l .answer))
   unfolding heard
@@ -191,6 +193,7 @@ module _ (n : ℕ) (start : List ℤ) (least : 2 ≤ n) (most : n ≤ 6) (long :
   not-meant (send b) l e = let z : _≡_ {A = ℕ} 0 1 = cc in omega arith
   not-meant (deliver b) l e = let z : _≡_ {A = ℕ} 0 1 = cc in omega arith
   not-meant work l e = let z : _≡_ {A = ℕ} 0 1 = cc in omega arith
+  not-meant (load c) l e = let z : _≡_ {A = ℕ} 0 1 = cc in omega arith
 
   -- what is heard of a restart says that it was accepted
   accepted : (k : ℕ) (m : Memory) (j l : List ℕ) (held : List (Message ℤ)) (given : Option (Message ℤ)) → heard n (restart j l) (restartStep m n k start j l .answer) ≡ Event.restarted held given

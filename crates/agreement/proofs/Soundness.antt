@@ -17,11 +17,11 @@ use Rattle.engine.specs.Make.{madeMemory}
 use Rattle.engine.specs.Client.{rowNo, rowIn, beginAt, rewriteAt, insertWrite, staleAt, readOnlyAt, queueAt, withdrawAt, reportStep}
 use Rattle.engine.specs.Moves.{sendRefusal, sendNow, deliverNow, passNext, isLast, commitWriteset}
 use Rattle.engine.specs.Step.{Call, step}
-use Rattle.engine.specs.Step.Call.{begin, read, write, ask, withdraw, report, send, deliver, work}
+use Rattle.engine.specs.Step.Call.{begin, read, write, ask, withdraw, report, send, deliver, work, load}
 use Rattle.engine.proofs.Tests.{clash, same-by, less-by, passes}
 use Rattle.engine.proofs.PartLaws.{insert-before, insert-here, insert-moved, insert-after, below-part}
 use Rattle.engine.proofs.Passed.{write-passed}
-use Rattle.engine.proofs.Steps.{begin-by, read-by, write-by, ask-by, withdraw-by, send-by, deliver-by, work-by}
+use Rattle.engine.proofs.Steps.{begin-by, read-by, write-by, ask-by, withdraw-by, send-by, deliver-by, work-by, load-by}
 use Rattle.engine.proofs.Shapes.{shapes}
 use Rattle.agreement.specs.Group.{call, argumentsOf}
 use Rattle.agreement.proofs.View.{Sound}
@@ -140,6 +140,7 @@ rest-each n m s report e = unfold step reportStep in s
 rest-each n m s (send b) e = send-by (Rests n m s) m b (λ p. send-rests n m s b p) (λ p. s)
 rest-each n m s (deliver b) e = deliver-by (Rests n m s) m b (λ p. deliver-rests n m s b) (λ p. s)
 rest-each n m s work e = work-by (Rests n m s) m (λ p k. next-rests n m s) (λ p k. writeset-rests n m s _ _) (λ p. s)
+rest-each n m s (load l) e = load-by (Rests n m s) m l (λ p. record { size = s .size; fits = s .fits; ours = s .ours }) (λ p. s)
 
 -- ---- the whole
 

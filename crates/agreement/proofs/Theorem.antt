@@ -7,7 +7,7 @@ use lib.IntN.{ℤ}
 use lib.ListN.{length}
 use Rattle.memory.specs.Memory.{Memory}
 use Rattle.engine.specs.Step.{Call, step}
-use Rattle.engine.specs.Step.Call.{begin, read, write, ask, withdraw, report, send, deliver, work}
+use Rattle.engine.specs.Step.Call.{begin, read, write, ask, withdraw, report, send, deliver, work, load}
 use Rattle.protocol.specs.Journal.{Journal, journal}
 use Rattle.protocol.specs.Machine.{MachineSystem}
 use Rattle.protocol.proofs.Refinement.{MachineInv, inv-commands, fresh-inv}
@@ -18,7 +18,7 @@ use Rattle.agreement.proofs.BeginStep.{begin-owes}
 use Rattle.agreement.proofs.ReadStep.{read-owes}
 use Rattle.agreement.proofs.WriteStep.{write-owes}
 use Rattle.agreement.proofs.AskStep.{ask-owes}
-use Rattle.agreement.proofs.WithdrawStep.{withdraw-owes, report-owes}
+use Rattle.agreement.proofs.WithdrawStep.{withdraw-owes, report-owes, load-owes}
 use Rattle.agreement.proofs.SendStep.{send-owes}
 use Rattle.agreement.proofs.DeliverStep.{deliver-owes}
 use Rattle.agreement.proofs.WorkStep.{work-owes}
@@ -37,6 +37,7 @@ owes n start m s report = report-owes n start m s
 owes n start m s (send b) = send-owes n start m s b
 owes n start m s (deliver b) = deliver-owes n start m s b
 owes n start m s work = work-owes n start m s
+owes n start m s (load l) = load-owes n start m s l
 
 pub agreement : AgreementTheorem
 agreement n start least most long cs f p =

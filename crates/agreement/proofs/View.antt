@@ -18,7 +18,7 @@ use Rattle.engine.specs.Calls.{Outcome}
 use Rattle.engine.specs.Moves.{waiting}
 use Rattle.engine.specs.Shape.{Shape}
 use Rattle.engine.specs.Step.{Call}
-use Rattle.engine.specs.Step.Call.{begin, read, write, ask, withdraw, report, send, deliver, work}
+use Rattle.engine.specs.Step.Call.{begin, read, write, ask, withdraw, report, send, deliver, work, load}
 use Rattle.protocol.specs.Writesets.{Write, Message}
 use Rattle.protocol.specs.Replica.{Setup, Transaction, transaction, Cursor, Store, transactions, Blocks, Replica, replica, refused}
 use Rattle.protocol.specs.System.{step}
@@ -62,7 +62,7 @@ unfoldable pub placeAt : List ℕ → ℕ → Option (Message ℤ)
 placeAt places p = cond (eqb (getD places (512 * p) 0) 0) none (some (messageIn (slice (512 * p) (512 * p + 512) places)))
 
 abbrev pub cursorOf : Memory → Cursor
-cursorOf m = record { turn = m .turn .slot; sent = isOn (m .turn .sent); applying = isOn (m .turn .applying); done = m .counts .done }
+cursorOf m = record { turn = m .turn .slot; sent = isOn (m .turn .sent); done = m .counts .done }
 
 abbrev pub storeOf : Memory → Store ℤ
 storeOf m = record { commits = m .counts .commits; values = m .store .values; stamps = λ i. getD (m .store .stamps) i 0 }
@@ -93,6 +93,7 @@ meant report = Rattle.protocol.specs.System.Call.report
 meant (send b) = Rattle.protocol.specs.System.Call.send
 meant (deliver b) = Rattle.protocol.specs.System.Call.deliver (messageIn b)
 meant work = Rattle.protocol.specs.System.Call.work
+meant (load l) = Rattle.protocol.specs.System.Call.load
 
 -- what the outcome o of call c on memory m owes: a refusal other than 9 that leaves the view alone, or the model's step
 pub data Owed (n : ℕ) (start : List ℤ) (m : Memory) (c : Call) (o : Outcome) : Type 0 where

@@ -1,4 +1,4 @@
--- A withdraw and a report do what the model does. Assumes nothing.
+-- A withdraw, a report and a load do what the model does. Assumes nothing.
 use Prim.Native.Nat.{ℕ}
 use mathlib.Core.Path.{_≡_, refl}
 use mathlib.Core.Option.{some}
@@ -8,11 +8,12 @@ use lib.ListN.{set}
 use borrow.Author.Tests.{eq-eqb}
 use Rattle.memory.specs.Memory.{Memory, bump, withWithdrawn, withTable}
 use Rattle.memory.specs.Rows.{closed}
+use Rattle.engine.specs.Classes.{loadRefusal}
 use Rattle.engine.specs.Client.{rowNo, withdrawRefusal, withdrawAt, reportOf, reportStep}
 use Rattle.engine.specs.Step.{step}
-use Rattle.engine.specs.Step.Call.{withdraw, report}
+use Rattle.engine.specs.Step.Call.{withdraw, report, load}
 use Rattle.engine.proofs.Tests.{not-first}
-use Rattle.engine.proofs.Steps.{withdraw-by}
+use Rattle.engine.proofs.Steps.{withdraw-by, load-by}
 use Rattle.engine.proofs.Passed.{RowPassed, withdraw-passed}
 use Rattle.engine.proofs.RowLaws.{row-found}
 use Rattle.protocol.specs.Replica.{Transaction, Transactions, withdrew}
@@ -58,3 +59,11 @@ module _ (n : ℕ) (start : List ℤ) (m : Memory) (s : Sound n m) where
   pub report-owes : Owed n start m report (step m report)
   unfolding step reportStep reportOf heard Rattle.protocol.specs.System.step
   report-owes = follows refl (alike-same (view m))
+
+  -- ---- load
+
+  pub load-owes : (l : List ℕ) → Owed n start m (load l) (step m (load l))
+  unfolding loadRefusal heard Rattle.protocol.specs.System.step
+  load-owes l =
+      load-by (Owed n start m (load l)) m l (λ e. follows refl (alike-same (view m)))
+      (λ e. refused-owes n start m (load l) (loadRefusal m l) (not-first 9 _ refl))

@@ -60,13 +60,13 @@ module _ (S : Setup ℤ) (r : Replica ℤ) (a : Message ℤ) (found : r .blocks 
     total = length (a .writesets)
 
     model-own : a .sender ≡ r .own → isSent (findTxn (w .ticket) (r .transactions .txns)) ≡ true
-        → workStep S r ≡ outcome (replica (r .own) (cursorAfter total false (r .cursor)) (storeAfter (w .writes) (r .store)) (afterEnd (w .ticket) (r .transactions))
+        → workStep S r ≡ outcome (replica (r .own) (cursorAfter total (r .cursor)) (storeAfter (w .writes) (r .store)) (afterEnd (w .ticket) (r .transactions))
         (blocksAfter S total (r .cursor) (r .blocks))) (Rattle.protocol.specs.Replica.Event.committed (a .sender) (w .ticket) [])
     unfolding workStep commitStep
     model-own e s = rw (found, ne-eqb total 0 some, is, eq-eqb (a .sender) (r .own) e, s)
 
     model-other : (a .sender ≡ r .own → ⊥)
-        → workStep S r ≡ outcome (replica (r .own) (cursorAfter total true (r .cursor)) (storeAfter (w .writes) (r .store)) (afterAborts (w .writes) (r .transactions))
+        → workStep S r ≡ outcome (replica (r .own) (cursorAfter total (r .cursor)) (storeAfter (w .writes) (r .store)) (afterAborts (w .writes) (r .transactions))
         (blocksAfter S total (r .cursor) (r .blocks))) (Rattle.protocol.specs.Replica.Event.committed (a .sender) (w .ticket) (abortedBy (w .writes) (r .transactions .txns)))
     unfolding workStep commitStep
     model-other d = rw (found, ne-eqb total 0 some, is, ne-eqb (a .sender) (r .own) d)
@@ -86,8 +86,8 @@ abbrev turnAfter : Turn → Bool → Bool → Turn
 turnAfter t mine last = cond last (Rattle.memory.specs.Turns.advance t) (cond mine t (markApplying t))
 
 cursor-same : (t : Turn) (done total : ℕ) (mine last : Bool) → bump (t .slot) ≡ suc (t .slot) → eqb (suc done) total ≡ last
-    → cursorAfter total (not mine) (record { turn = t .slot; sent = isOn (t .sent); applying = isOn (t .applying); done = done })
-    ≡ record { turn = turnAfter t mine last .slot; sent = isOn (turnAfter t mine last .sent); applying = isOn (turnAfter t mine last .applying); done = cond last 0 (done + 1) }
+    → cursorAfter total (record { turn = t .slot; sent = isOn (t .sent); done = done })
+    ≡ record { turn = turnAfter t mine last .slot; sent = isOn (turnAfter t mine last .sent); done = cond last 0 (done + 1) }
 unfolding cursorAfter
 cursor-same t done total true true u e = rw (e, u)
 cursor-same t done total false true u e = rw (e, u)
@@ -163,7 +163,7 @@ module _ (start : List ℤ) {over : ℕ} (m : Memory) (S : Shape over m) (k : Wo
     -- all but the transactions
     commit-alike : (mine : Bool) (txns : List (Transaction ℤ)) (queue : List ℕ) → SameMembers txns (openTxns (committed m mine (isLast m) w .txns))
         → waiting (committed m mine (isLast m) w .txns .queue) ≡ queue
-        → Alike (replica (m .counts .own) (cursorAfter count (not mine) (cursorOf m)) (storeAfter (map writeOf (w .entries)) (storeOf m))
+        → Alike (replica (m .counts .own) (cursorAfter count (cursorOf m)) (storeAfter (map writeOf (w .entries)) (storeOf m))
         (transactions (m .counts .tickets) txns queue) (blocksAfter (setup n start) count (cursorOf m) (blocksOf m))) (view (committed m mine (isLast m) w))
     commit-alike mine txns queue same left = record {
       own = refl;

@@ -19,7 +19,7 @@ use Rattle.memory.specs.Memory.{Transactions, Memory, withAborted, withTable, w
 use Rattle.memory.specs.Rows.{closed, rowAt, writeCount, itemsOf, indexOf, countBelow, insertAt}
 use Rattle.engine.specs.Calls.{Answer, outcome}
 use Rattle.engine.specs.Calls.Answer.{wrote, refused}
-use Rattle.engine.specs.Client.{rowNo, rowIn, ownIndex, isOwn, isApplying, heldByOther, isStale, isFull, writeRefusal, rewriteAt, insertWrite, staleAt}
+use Rattle.engine.specs.Client.{rowNo, rowIn, ownIndex, isOwn, heldByOther, isStale, isFull, writeRefusal, rewriteAt, insertWrite, staleAt}
 use Rattle.engine.specs.Moves.{waiting}
 use Rattle.engine.specs.Shape.{Shape}
 use Rattle.engine.specs.Step.{step}
@@ -48,17 +48,17 @@ module _ (S : Setup ℤ) (b : Store ℤ) (k : Rattle.protocol.specs.Replica.Tra
   abbrev written : ClientOutcome ℤ
   written = answered (transactions (k .tickets) (map (withWrite t i v) (k .txns)) (k .queue)) (Event.wrote t i v)
 
-  model-again : has i (u .writes) ≡ true → writeStep S false b k t i v ≡ written
+  model-again : has i (u .writes) ≡ true → writeStep S b k t i v ≡ written
   unfolding writeStep writeFound
   model-again h = rw (lt-leb (S .items) i low, found, eq-eqb (u .stage) 0 active, h)
 
   module _ (none : has i (u .writes) ≡ false) (free : any (λ o. not (eqb (o .ticket) t) && has i (o .writes)) (k .txns) ≡ false) where
     model-stale : ltb (u .snapshot) (b .stamps i) ≡ true
-        → writeStep S false b k t i v ≡ answered (transactions (k .tickets) (without t (k .txns)) (k .queue)) (Event.refused 9)
+        → writeStep S b k t i v ≡ answered (transactions (k .tickets) (without t (k .txns)) (k .queue)) (Event.refused 9)
     unfolding writeStep writeFound
     model-stale h = rw (lt-leb (S .items) i low, found, eq-eqb (u .stage) 0 active, none, free, h)
 
-    model-new : ltb (u .snapshot) (b .stamps i) ≡ false → length (u .writes) < 8 → writeStep S false b k t i v ≡ written
+    model-new : ltb (u .snapshot) (b .stamps i) ≡ false → length (u .writes) < 8 → writeStep S b k t i v ≡ written
     unfolding writeStep writeFound
     model-new h w = rw (lt-leb (S .items) i low, found, eq-eqb (u .stage) 0 active, none, free, h, lt-leb 8 (length (u .writes)) w)
 
@@ -88,7 +88,6 @@ record Reached (m : Memory) (t i n : ℕ) : Type 0 where
   item : i < 128
   row : rowNo m t < 6
   active : rowIn m (rowNo m t) .stage ≡ 0
-  applying : isApplying m ≡ false
   rest : lastThree (isOwn m (rowNo m t) i) (heldByOther m (rowNo m t) i) (isStale m (rowNo m t) i) (isFull m (rowNo m t)) ≡ n
 
 reached : (m : Memory) (t i n : ℕ) → ((j : ℕ) → j < 7 → j + 1 ≡ n → ⊥) → writeRefusal m (rowNo m t) i ≡ n → Reached m t i n
@@ -103,7 +102,6 @@ reached m t i n far e =
       item = leb-false 128 i (b .0);
       row = leb-false 6 (rowNo m t) (c .0);
       active = eqb-true (rowIn m (rowNo m t) .stage) 0 (not-false _ (d .0));
-      applying = f .0;
       rest = f .1;
     }
 
@@ -111,7 +109,7 @@ reached m t i n far e =
 
 -- the aborted count is all that changes beside the transactions
 owes-by : (n : ℕ) (start : List ℤ) (m : Memory) (t i : ℕ) (v : ℤ) (a : Answer) (y : Transactions) (ended : ℕ) (l : List (Transaction ℤ)) (e : Event ℤ)
-    → writeStep (setup n start) (isApplying m) (storeOf m) (view m .transactions) t i v ≡ answered (transactions (m .counts .tickets) l (waiting (m .txns .queue))) e
+    → writeStep (setup n start) (storeOf m) (view m .transactions) t i v ≡ answered (transactions (m .counts .tickets) l (waiting (m .txns .queue))) e
     → heard n (call (write t i v)) a ≡ e → y .queue ≡ m .txns .queue → SameMembers l (openTxns y)
     → Owed n start m (write t i v) (outcome a (withTxns m (withAborted (m .counts) ended) y))
 unfolding Rattle.protocol.specs.System.step
@@ -314,9 +312,8 @@ module _ (n : ℕ) (start : List ℤ) {over : ℕ} (m : Memory) (S : Shape over 
       let p = last-nine _ _ _ _ (q .rest) in
       let f = row-found t (m .txns .table) (S .lengths .table) (q .row) in
       owes-by n start m t i v (refused 9) (withTable (m .txns) (set (m .txns .table) own closed)) _ (without t (openTxns (m .txns))) (Event.refused 9)
-      (rw (q .applying)
       (model-stale (setup n start) (storeOf m) (view m .transactions) t i v (txnOf (m .txns) own (row m own)) (q .item) (find-row m S t (q .row)) (q .active)
-      (has-found m S own (q .row) i ∙ p .0) (unheld m S t i (q .row) (p .1)) (p .2)))
+      (has-found m S own (q .row) i ∙ p .0) (unheld m S t i (q .row) (p .1)) (p .2))
       refl refl (row-closed m S own (q .row) (f .live) t (f .is))
 
   again-owes : writeRefusal m (rowNo m t) i ≡ 0 → isOwn m (rowNo m t) i ≡ true → Owed n start m (write t i v) (rewriteAt m (rowNo m t) (ownIndex m (rowNo m t) i) v)
@@ -325,9 +322,8 @@ module _ (n : ℕ) (start : List ℤ) {over : ℕ} (m : Memory) (S : Shape over 
       let q = reached m t i 0 (λ j u. omega arith) e in
       let w = ltb-true (ownIndex m (rowNo m t) i) (writeCount (rowIn m (rowNo m t))) o in
       owes-by n start m t i v wrote (rewritten m S t i v (q .row) w) (m .counts .aborted) (map (withWrite t i v) (openTxns (m .txns))) (Event.wrote t i v)
-      (rw (q .applying)
       (model-again (setup n start) (storeOf m) (view m .transactions) t i v (txnOf (m .txns) own (row m own)) (q .item) (find-row m S t (q .row)) (q .active)
-      (has-found m S own (q .row) i ∙ o)))
+      (has-found m S own (q .row) i ∙ o))
       refl refl (row-changed m S own (q .row) (rewritten m S t i v (q .row) w) (row m own) (withWrite t i v) (again m S t i v (q .row) w))
 
   new-owes : writeRefusal m (rowNo m t) i ≡ 0 → isOwn m (rowNo m t) i ≡ false → Owed n start m (write t i v) (insertWrite m (rowNo m t) (rowIn m (rowNo m t)) i v)
@@ -338,9 +334,8 @@ module _ (n : ℕ) (start : List ℤ) {over : ℕ} (m : Memory) (S : Shape over 
       let a = ltb-false (ownIndex m (rowNo m t) i) (writeCount (rowIn m (rowNo m t))) o in
       let b : writeCount (rowIn m (rowNo m t)) < 8 = omega (arith, eqb-false (writeCount (rowIn m (rowNo m t))) 8 (p .2)) in
       owes-by n start m t i v wrote (grown m S t i v (q .row) a b) (m .counts .aborted) (map (withWrite t i v) (openTxns (m .txns))) (Event.wrote t i v)
-      (rw (q .applying)
       (model-new (setup n start) (storeOf m) (view m .transactions) t i v (txnOf (m .txns) own (row m own)) (q .item) (find-row m S t (q .row)) (q .active)
-      (has-found m S own (q .row) i ∙ o) (unheld m S t i (q .row) (p .0)) (p .1) (rw (length-row m S own (q .row)) b)))
+      (has-found m S own (q .row) i ∙ o) (unheld m S t i (q .row) (p .0)) (p .1) (rw (length-row m S own (q .row)) b))
       refl refl (row-changed m S own (q .row) (grown m S t i v (q .row) a b) (longer m S t i v (q .row) a b) (withWrite t i v) (new m S t i v (q .row) a b))
 
 pub write-owes : (n : ℕ) (start : List ℤ) (m : Memory) → Sound n m → (t i : ℕ) (v : ℤ) → Owed n start m (write t i v) (step m (write t i v))

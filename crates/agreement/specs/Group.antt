@@ -12,10 +12,10 @@ use Rattle.block.specs.Message.{Record, signed32}
 use Rattle.block.specs.Form.{messageOf}
 use Rattle.memory.specs.Memory.{Memory}
 use Rattle.engine.specs.Calls.{Answer, Outcome}
-use Rattle.engine.specs.Calls.Answer.{refused, made, began, got, wrote, queued, readOnly, withdrew, reported, sent, kept, worked, restarted}
+use Rattle.engine.specs.Calls.Answer.{refused, made, began, got, wrote, queued, readOnly, withdrew, reported, sent, kept, worked, loaded, restarted}
 use Rattle.engine.specs.Make.{madeMemory}
 use Rattle.engine.specs.Step.{Call, step}
-use Rattle.engine.specs.Step.Call.{begin, read, write, ask, withdraw, report, send, deliver, work}
+use Rattle.engine.specs.Step.Call.{begin, read, write, ask, withdraw, report, send, deliver, work, load}
 use Rattle.engine.specs.Restart.{blocksIn, restartStep}
 use Rattle.protocol.specs.Lists.{opt, update, Mem}
 use Rattle.protocol.specs.Writesets.{Write, newWrite, Writeset, Message}
@@ -25,7 +25,7 @@ use Rattle.protocol.specs.Observer.{noting, Observed, observing, Handout, obser
 
 -- ---- the calls
 
--- one of document 01, or a restart, which is lent a journal and a block, and N, its own number and the starting values as at Make
+-- a call at a replica, or a restart, which is lent a journal and a block, and N, its own number and the starting values as at Make
 pub data GroupCall : Type 0 where
   call : Call → GroupCall
   restart : (journal block : List ℕ) → GroupCall
@@ -56,6 +56,7 @@ argumentsOf (call report) = arguments 0 0 (pos 0) []
 argumentsOf (call (send block)) = arguments 0 0 (pos 0) []
 argumentsOf (call (deliver bytes)) = arguments 0 0 (pos 0) bytes
 argumentsOf (call work) = arguments 0 0 (pos 0) []
+argumentsOf (call (load classes)) = arguments 0 0 (pos 0) []
 argumentsOf (restart journal block) = arguments 0 0 (pos 0) []
 
 abbrev pub journalIn : GroupCall → List ℕ
@@ -93,6 +94,7 @@ heard n c (reported r) = Event.reported (r .turn) (r .commits)
 heard n c (sent b) = handedOut (messageIn b)
 heard n c kept = accepted (messageIn (argumentsOf c .bytes))
 heard n c (worked s) = cond (eqb (s .ticket) 0) (passed (s .sender) (s .aborted)) (committed (s .sender) (s .ticket) (s .aborted))
+heard n c loaded = Event.loaded
 heard n c (restarted k b) = Event.restarted (map messageIn (blocksIn n (journalIn c))) (givenIn b)
 
 -- the block that a call hands out: a send's; a restart's, unless it is zeros
@@ -109,6 +111,7 @@ handedOutIn (reported r) = none
 handedOutIn (sent b) = some b
 handedOutIn kept = none
 handedOutIn (worked s) = none
+handedOutIn loaded = none
 handedOutIn (restarted c b) = cond (eqb (getD b 0 0) 0) none (some b)
 
 -- ---- the journals, from what calls answer
@@ -135,6 +138,7 @@ journalAfter l c (reported r) = l
 journalAfter l c (sent b) = l ++ b
 journalAfter l c kept = l
 journalAfter l c (worked s) = l ++ s .append
+journalAfter l c loaded = l
 journalAfter l c (restarted k b) = take (512 * k) (journalIn c)
 
 abbrev pub diskAfter : Disk → GroupCall → Answer → Disk

@@ -20,8 +20,9 @@ use Rattle.memory.specs.Memory.{Memory, bump}
 use Rattle.memory.specs.Rows.{openCount, rowFrom, rowOf, freeRow, indexFrom, has, holderFrom, countBelow}
 use Rattle.memory.specs.Turns.{placeStart}
 use Rattle.engine.specs.Calls.{Answer}
-use Rattle.engine.specs.Calls.Answer.{refused, made, began, got, wrote, queued, readOnly, withdrew, reported, sent, kept, worked, restarted}
+use Rattle.engine.specs.Calls.Answer.{refused, made, began, got, wrote, queued, readOnly, withdrew, reported, sent, kept, worked, loaded, restarted}
 use Rattle.engine.specs.Make.{madeMemory, placesFit, partsFit}
+use Rattle.engine.specs.Classes.{hasClass, classFrom, classToCome, mustWait, areClasses, loadRefusal, loadStep}
 use Rattle.engine.specs.Client.{beginRefusal, beginAt, beginRow, writeRefusal, rewriteAt, insertWrite, staleAt, writeRow, askRefusal, readOnlyAt, queueAt, askRow, reportOf, reportStep}
 use Rattle.engine.specs.Moves.{waiting, writesetOf, messageFor, sendRefusal, sendNow, sendStep, sameBytes, deliverRefusal, deliverNow, deliverStep, entriesFor, applied, stamped, shares, afterAborts, insertRising, hitTickets, without, workRefusal, passNext, commitWriteset, workStep}
 use Rattle.engine.specs.Step.{Call, step}
@@ -60,6 +61,7 @@ known B c (reported r) = true
 known B c (sent b) = true
 known B c kept = any (sameBytes (argumentsOf c .bytes)) B
 known B c (worked s) = true
+known B c loaded = true
 known B c (restarted k b) = true
 
 -- for each restart of a list, the call that the cut ended, and how many bytes it left
@@ -147,11 +149,11 @@ forged-apart p f a b =
     omega arith
 
 story-computed : (allowed 3 zeros (fresh 3 zeros) story [] ≡ true) × (held story 0 ≡ holding storyValues 4) × (held story 1 ≡ holding storyValues 4) × (held story 2 ≡ holding storyValues 4)
-unfolding bytesOf numberFrom valueBytes valueOf word sumTo weightedTo firstCheck secondCheck checkBytes checkMatches ownerOf within kindFits entriesFit recordFits recordsFit ticketAbsent ticketsDiffer valid signed32 entryBytes entriesBytes recordBytes recordsBytes headerFor headerBytes bodyBytes blockOf entryOf entriesOf recordOf recordsOf messageOf allZero entriesPadded recordPadded recordsPadded padded wellFormed firstOf headerOf recordAt entryAt entriesFrom bump rowFrom rowOf freeRow indexFrom has holderFrom countBelow placeStart madeMemory beginRefusal beginAt beginRow writeRefusal rewriteAt insertWrite staleAt writeRow askRefusal readOnlyAt queueAt askRow reportOf waiting writesetOf messageFor sendRefusal sendNow sendStep sameBytes deliverRefusal deliverNow deliverStep entriesFor applied stamped shares afterAborts insertRising hitTickets without workRefusal passNext commitWriteset workStep step run any allowed
+unfolding bytesOf numberFrom valueBytes valueOf word sumTo weightedTo firstCheck secondCheck checkBytes checkMatches ownerOf within kindFits entriesFit recordFits recordsFit ticketAbsent ticketsDiffer valid signed32 entryBytes entriesBytes recordBytes recordsBytes headerFor headerBytes bodyBytes blockOf entryOf entriesOf recordOf recordsOf messageOf allZero entriesPadded recordPadded recordsPadded padded wellFormed firstOf headerOf recordAt entryAt entriesFrom bump rowFrom rowOf freeRow indexFrom has holderFrom countBelow placeStart madeMemory beginRefusal beginAt beginRow writeRefusal rewriteAt insertWrite staleAt writeRow hasClass classFrom classToCome mustWait areClasses loadRefusal loadStep askRefusal readOnlyAt queueAt askRow reportOf waiting writesetOf messageFor sendRefusal sendNow sendStep sameBytes deliverRefusal deliverNow deliverStep entriesFor applied stamped shares afterAborts insertRising hitTickets without workRefusal passNext commitWriteset workStep step run any allowed
 story-computed = (refl, refl, refl, refl)
 
 forgery-computed : (held forgery 0 ≡ holding (set zeros 5 (pos 84)) 1) × (held forgery 1 ≡ holding (set zeros 5 (pos 86)) 1)
-unfolding bytesOf numberFrom valueBytes valueOf word sumTo weightedTo firstCheck secondCheck checkBytes checkMatches ownerOf within kindFits entriesFit recordFits recordsFit ticketAbsent ticketsDiffer valid signed32 entryBytes entriesBytes recordBytes recordsBytes headerFor headerBytes bodyBytes blockOf entryOf entriesOf recordOf recordsOf messageOf allZero entriesPadded recordPadded recordsPadded padded wellFormed firstOf headerOf recordAt entryAt entriesFrom bump rowFrom rowOf freeRow indexFrom has holderFrom countBelow placeStart madeMemory beginRefusal beginAt beginRow writeRefusal rewriteAt insertWrite staleAt writeRow askRefusal readOnlyAt queueAt askRow reportOf waiting writesetOf messageFor sendRefusal sendNow sendStep sameBytes deliverRefusal deliverNow deliverStep entriesFor applied stamped shares afterAborts insertRising hitTickets without workRefusal passNext commitWriteset workStep step run any allowed
+unfolding bytesOf numberFrom valueBytes valueOf word sumTo weightedTo firstCheck secondCheck checkBytes checkMatches ownerOf within kindFits entriesFit recordFits recordsFit ticketAbsent ticketsDiffer valid signed32 entryBytes entriesBytes recordBytes recordsBytes headerFor headerBytes bodyBytes blockOf entryOf entriesOf recordOf recordsOf messageOf allZero entriesPadded recordPadded recordsPadded padded wellFormed firstOf headerOf recordAt entryAt entriesFrom bump rowFrom rowOf freeRow indexFrom has holderFrom countBelow placeStart madeMemory beginRefusal beginAt beginRow writeRefusal rewriteAt insertWrite staleAt writeRow hasClass classFrom classToCome mustWait areClasses loadRefusal loadStep askRefusal readOnlyAt queueAt askRow reportOf waiting writesetOf messageFor sendRefusal sendNow sendStep sameBytes deliverRefusal deliverNow deliverStep entriesFor applied stamped shares afterAborts insertRising hitTickets without workRefusal passNext commitWriteset workStep step run any allowed
 forgery-computed = (refl, refl)
 
 -- the first two cuts end a send; the third leaves the floor, 512 of 1024 bytes
@@ -159,7 +161,7 @@ abbrev ends : List Outage
 ends = outage (send (replicate 512 0)) 512 ∷ outage (send (replicate 512 0)) 612 ∷ outage report 512 ∷ []
 
 outages-computed : (allowed 3 zeros (fresh 3 zeros) outages ends ≡ true) × (held outages 0 ≡ holding outageValues 2) × (held outages 1 ≡ holding outageValues 2) × (held outages 2 ≡ holding outageValues 2)
-unfolding bytesOf numberFrom valueBytes valueOf word sumTo weightedTo firstCheck secondCheck checkBytes checkMatches ownerOf within kindFits entriesFit recordFits recordsFit ticketAbsent ticketsDiffer valid signed32 entryBytes entriesBytes recordBytes recordsBytes headerFor headerBytes bodyBytes blockOf entryOf entriesOf recordOf recordsOf messageOf allZero entriesPadded recordPadded recordsPadded padded wellFormed firstOf headerOf recordAt entryAt entriesFrom bump rowFrom rowOf freeRow indexFrom has holderFrom countBelow placeStart madeMemory beginRefusal beginAt beginRow writeRefusal rewriteAt insertWrite staleAt writeRow askRefusal readOnlyAt queueAt askRow reportOf waiting writesetOf messageFor sendRefusal sendNow sendStep sameBytes deliverRefusal deliverNow deliverStep entriesFor applied stamped shares afterAborts insertRising hitTickets without workRefusal passNext commitWriteset workStep step run any allowed isGood blocksFrom firstBlocks writesetsFrom commitAll commitBlocks highestTicket highestOwn ownWritesets lastOwn restartedMemory restartRefusal restartStep placesFit partsFit openCount messageIn blockRefusal heard reportStep
+unfolding bytesOf numberFrom valueBytes valueOf word sumTo weightedTo firstCheck secondCheck checkBytes checkMatches ownerOf within kindFits entriesFit recordFits recordsFit ticketAbsent ticketsDiffer valid signed32 entryBytes entriesBytes recordBytes recordsBytes headerFor headerBytes bodyBytes blockOf entryOf entriesOf recordOf recordsOf messageOf allZero entriesPadded recordPadded recordsPadded padded wellFormed firstOf headerOf recordAt entryAt entriesFrom bump rowFrom rowOf freeRow indexFrom has holderFrom countBelow placeStart madeMemory beginRefusal beginAt beginRow writeRefusal rewriteAt insertWrite staleAt writeRow hasClass classFrom classToCome mustWait areClasses loadRefusal loadStep askRefusal readOnlyAt queueAt askRow reportOf waiting writesetOf messageFor sendRefusal sendNow sendStep sameBytes deliverRefusal deliverNow deliverStep entriesFor applied stamped shares afterAborts insertRising hitTickets without workRefusal passNext commitWriteset workStep step run any allowed isGood blocksFrom firstBlocks writesetsFrom commitAll commitBlocks highestTicket highestOwn ownWritesets lastOwn restartedMemory restartRefusal restartStep placesFit partsFit openCount messageIn blockRefusal heard reportStep
 outages-computed = (refl, refl, refl, refl)
 
 story-calls : Calls 3 story

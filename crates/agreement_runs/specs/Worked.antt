@@ -8,7 +8,7 @@ use lib.ListN.{replicate, set, take}
 use Rattle.block.specs.Bytes.{blockOf}
 use Rattle.engine.specs.Client.{reportOf}
 use Rattle.engine.specs.Step.{Call}
-use Rattle.engine.specs.Step.Call.{begin, write, ask, send, deliver, work}
+use Rattle.engine.specs.Step.Call.{begin, write, ask, send, deliver, work, load}
 use Rattle.agreement.specs.Group.{Group, call, restart, CallAt, fresh, run, Calls, Premise}
 
 abbrev pub zeros : List ℤ
@@ -32,10 +32,10 @@ sending k = at k (send (replicate 512 0))
 abbrev pub taking : ℕ → List ℕ → List CallAt
 taking k block = at k (deliver block) ∷ at k work ∷ []
 
--- two stems on different letters, items 10 and 20: replica 2 gets slot 1's block before slot 0's
+-- two stems on different letters, items 10 and 20, with one table of classes at replica 0, another at replica 1 and none at replica 2, which gets slot 1's block before slot 0's
 abbrev pub differentItems : List CallAt
 differentItems =
-    asking 0 1 10 (pos 80) ++ asking 1 1 20 (pos 70)
+    at 0 (load (replicate 128 1)) ∷ at 1 (load (set (replicate 128 8) 10 2)) ∷ asking 0 1 10 (pos 80) ++ asking 1 1 20 (pos 70)
     ++ (sending 0 ∷ taking 0 (blockCommitting 0 0 1 10 (pos 80)))
     ++ taking 1 (blockCommitting 0 0 1 10 (pos 80))
     ++ (sending 1 ∷ taking 1 (blockCommitting 1 1 1 20 (pos 70)))

@@ -18,7 +18,7 @@ abbrev pub rest : List ℕ → ℕ → ℕ → ℕ → List Entry
 rest b j n e = entriesFor b j e (n - e)
 
 module _ (b : List ℕ) (j n : ℕ) (h : n ≡ min (recordAt b j .writes) 8) where
-  rest-all : writesetAt b j .entries ≡ rest b j n 0
+  pub rest-all : writesetAt b j .entries ≡ rest b j n 0
   rest-all = let k : n - 0 ≡ n = omega arith in rw (k, h)
 
   pub apply-start : (l : List ℤ) → applied (writesetAt b j .entries) l ≡ applied (rest b j n 0) l
@@ -31,7 +31,7 @@ module _ (b : List ℕ) (j n : ℕ) (h : n ≡ min (recordAt b j .writes) 8) whe
   share-start l = rw rest-all
 
 module _ (b : List ℕ) (j n e : ℕ) (h : e < n) where
-  rest-cons : rest b j n e ≡ entryAt b j e ∷ rest b j n (e + 1)
+  pub rest-cons : rest b j n e ≡ entryAt b j e ∷ rest b j n (e + 1)
   unfolding entriesFor
   rest-cons = let k : n - e ≡ suc (n - (e + 1)) = omega arith in rw (k, add-one e)
 
@@ -53,7 +53,7 @@ module _ (b : List ℕ) (j n e : ℕ) (h : e < n) where
     share-later l p = rw (rest-cons, ← q, p)
 
 module _ (b : List ℕ) (j n e : ℕ) (h : n ≤ e) where
-  rest-none : rest b j n e ≡ []
+  pub rest-none : rest b j n e ≡ []
   unfolding entriesFor
   rest-none = let k : n - e ≡ 0 = omega arith in rw k
 

@@ -23,7 +23,7 @@ pub struct Aborts {
 }
 
 // How many entries record j has.
-fn entry_count(block: &[u8], j: usize) -> usize
+pub fn entry_count(block: &[u8], j: usize) -> usize
     ensures { λ r. ⌜ r ≡ min (recordAt (now (block .entry)) j .writes) 8 ⌝ }
 {
     write_count(record_at(block, j).writes as u32)

@@ -70,6 +70,7 @@ fn parts_fit(
     snapshots: usize,
     values: usize,
     stamps: usize,
+    classes: usize,
     outbox: usize,
 ) -> bool
     ensures { λ r. ⌜ r
@@ -79,7 +80,8 @@ fn parts_fit(
         && (eqb snapshots 768
         && (eqb values 128
         && (eqb stamps 128
-        && eqb outbox 512)))))) ⌝ }
+        && (eqb classes 128
+        && eqb outbox 512))))))) ⌝ }
 {
     if queue != 6 {
         return false;
@@ -97,6 +99,9 @@ fn parts_fit(
         return false;
     }
     if stamps != 128 {
+        return false;
+    }
+    if classes != 128 {
         return false;
     }
     outbox == 512
@@ -140,6 +145,7 @@ pub fn make(
     snapshots: &mut [i32],
     values: &mut [i32],
     stamps: &mut [u32],
+    classes: &mut [u8],
     places: &mut [u8],
     outbox: &mut [u8],
 ) -> Made
@@ -147,12 +153,12 @@ pub fn make(
         Gives number
         (makeStep
         (allParts turn counts rows (now (queue .entry)) (now (items .entry)) (now (writes .entry)) (now (snapshots .entry))
-        (now (values .entry)) (now (stamps .entry)) (now (places .entry)) (now (outbox .entry)))
+        (now (values .entry)) (now (stamps .entry)) (now (classes .entry)) (now (places .entry)) (now (outbox .entry)))
         n own (now (start .entry)))
         (r .number)
         (allParts (ifMade (r .number) (r .turn) turn) (ifMade (r .number) (r .counts) counts) (ifMade (r .number) (replicate 6 closed) rows)
         (now (queue .exit)) (now (items .exit)) (now (writes .exit)) (now (snapshots .exit))
-        (now (values .exit)) (now (stamps .exit)) (now (places .exit)) (now (outbox .exit))))
+        (now (values .exit)) (now (stamps .exit)) (now (classes .exit)) (now (places .exit)) (now (outbox .exit))))
         × (r .turn ≡ turnZero)
         × (r .counts ≡ ifMade (r .number) (countsFor n own) (countsFor 0 0)) ⌝ }
 {
@@ -163,6 +169,7 @@ pub fn make(
         snapshots.len(),
         values.len(),
         stamps.len(),
+        classes.len(),
         outbox.len(),
     );
     let room = places_fit(places.len(), n);
@@ -176,6 +183,7 @@ pub fn make(
     clear_values(&mut *snapshots);
     copy_values(start, &mut *values);
     clear_numbers(&mut *stamps);
+    clear_bytes(&mut *classes);
     clear_bytes(&mut *places);
     clear_bytes(&mut *outbox);
     answer(0, n as u8, own as u8)

@@ -8,12 +8,12 @@ use Rattle.memory.specs.declared.Txn.{Txn}
 use Rattle.memory.specs.Memory.{Memory}
 
 -- all of them: what a make is lent
-abbrev pub allParts : Turn → Counts → List Txn → List ℕ → List ℕ → List ℤ → List ℤ → List ℤ → List ℕ → List ℕ → List ℕ → Memory
-allParts turn counts table queue items writes snapshots values stamps places outbox = record {
+abbrev pub allParts : Turn → Counts → List Txn → List ℕ → List ℕ → List ℤ → List ℤ → List ℤ → List ℕ → List ℕ → List ℕ → List ℕ → Memory
+allParts turn counts table queue items writes snapshots values stamps classes places outbox = record {
   turn = turn;
   counts = counts;
   txns = record { table = table; queue = queue; items = items; writes = writes; snapshots = snapshots };
-  store = record { values = values; stamps = stamps };
+  store = record { values = values; stamps = stamps; classes = classes };
   blocks = record { places = places; outbox = outbox };
 }
 
@@ -22,7 +22,7 @@ beginParts m table counts values snapshots = record {
   turn = m .turn;
   counts = counts;
   txns = record { table = table; queue = m .txns .queue; items = m .txns .items; writes = m .txns .writes; snapshots = snapshots };
-  store = record { values = values; stamps = m .store .stamps };
+  store = record { values = values; stamps = m .store .stamps; classes = m .store .classes };
   blocks = m .blocks;
 }
 
@@ -35,13 +35,13 @@ readParts m table items writes snapshots = record {
   blocks = m .blocks;
 }
 
-abbrev pub writeParts : Memory → Turn → Counts → List Txn → List ℕ → List ℤ → List ℕ → Memory
-writeParts m turn counts table items writes stamps = record {
+abbrev pub writeParts : Memory → Turn → Counts → List Txn → List ℕ → List ℤ → List ℕ → List ℕ → List ℕ → Memory
+writeParts m turn counts table items writes stamps classes places = record {
   turn = turn;
   counts = counts;
   txns = record { table = table; queue = m .txns .queue; items = items; writes = writes; snapshots = m .txns .snapshots };
-  store = record { values = m .store .values; stamps = stamps };
-  blocks = m .blocks;
+  store = record { values = m .store .values; stamps = stamps; classes = classes };
+  blocks = record { places = places; outbox = m .blocks .outbox };
 }
 
 abbrev pub askParts : Memory → Counts → List Txn → List ℕ → Memory
@@ -88,6 +88,15 @@ workParts m turn counts table queue items values stamps places = record {
   turn = turn;
   counts = counts;
   txns = record { table = table; queue = queue; items = items; writes = m .txns .writes; snapshots = m .txns .snapshots };
-  store = record { values = values; stamps = stamps };
+  store = record { values = values; stamps = stamps; classes = m .store .classes };
   blocks = record { places = places; outbox = m .blocks .outbox };
+}
+
+abbrev pub loadParts : Memory → Turn → List ℕ → Memory
+loadParts m turn classes = record {
+  turn = turn;
+  counts = m .counts;
+  txns = m .txns;
+  store = record { values = m .store .values; stamps = m .store .stamps; classes = classes };
+  blocks = m .blocks;
 }

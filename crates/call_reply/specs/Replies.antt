@@ -9,7 +9,7 @@ use lib.ListN.{length, replicate}
 use Rattle.memory.specs.Memory.{Memory}
 use Rattle.engine.specs.declared.Report.{Report}
 use Rattle.engine.specs.Calls.{Step, Answer, numberOf, Outcome}
-use Rattle.engine.specs.Calls.Answer.{refused, made, began, got, wrote, queued, readOnly, withdrew, reported, sent, kept, worked, restarted}
+use Rattle.engine.specs.Calls.Answer.{refused, made, began, got, wrote, queued, readOnly, withdrew, reported, sent, kept, worked, loaded, restarted}
 use Rattle.call_reply.specs.declared.BeginReply.{BeginReply}
 use Rattle.call_reply.specs.declared.ReadReply.{ReadReply}
 use Rattle.call_reply.specs.declared.AskReply.{AskReply}
@@ -32,6 +32,7 @@ ticketIn (reported r) = 0
 ticketIn (sent b) = 0
 ticketIn kept = 0
 ticketIn (worked s) = 0
+ticketIn loaded = 0
 ticketIn (restarted c b) = 0
 
 abbrev pub valueIn : Answer → ℤ
@@ -47,6 +48,7 @@ valueIn (reported r) = pos 0
 valueIn (sent b) = pos 0
 valueIn kept = pos 0
 valueIn (worked s) = pos 0
+valueIn loaded = pos 0
 valueIn (restarted c b) = pos 0
 
 abbrev pub isReadOnly : Answer → Bool
@@ -62,6 +64,7 @@ isReadOnly (reported r) = false
 isReadOnly (sent b) = false
 isReadOnly kept = false
 isReadOnly (worked s) = false
+isReadOnly loaded = false
 isReadOnly (restarted c b) = false
 
 abbrev pub noReport : Report
@@ -80,6 +83,7 @@ reportIn withdrew = noReport
 reportIn (sent b) = noReport
 reportIn kept = noReport
 reportIn (worked s) = noReport
+reportIn loaded = noReport
 reportIn (restarted c b) = noReport
 
 abbrev pub noStep : Step
@@ -98,6 +102,7 @@ stepIn withdrew = noStep
 stepIn (reported r) = noStep
 stepIn (sent b) = noStep
 stepIn kept = noStep
+stepIn loaded = noStep
 stepIn (restarted c b) = noStep
 
 abbrev pub countIn : Answer → ℕ
@@ -114,6 +119,7 @@ countIn (reported r) = 0
 countIn (sent b) = 0
 countIn kept = 0
 countIn (worked s) = 0
+countIn loaded = 0
 
 -- ---- the replies
 
@@ -174,6 +180,7 @@ blockLeft readOnly old = old
 blockLeft withdrew old = old
 blockLeft (reported r) old = old
 blockLeft kept old = old
+blockLeft loaded old = old
 
 abbrev pub GivesWith : {R : Type 0} → (Outcome → R) → Outcome → List ℕ → R → Memory → List ℕ → Type 0
 GivesWith of o lent r left block = Gives of o r left × (block ≡ blockLeft (o .answer) lent)

@@ -1,9 +1,19 @@
-// A block, from one part of the memory to another.
+// Bytes of a block, or of a part of the memory.
 ghost use mathlib.Core.Path.{_≡_};
 ghost use Prim.Native.Nat.{min};
-ghost use lib.ListN.{length};
+ghost use lib.ListN.{length, getD};
 ghost use lib.Seq.{paste};
 use memory::rows::lesser;
+
+// A byte, 0 past the end.
+pub fn byte_at(bytes: &[u8], at: usize) -> u8
+    ensures { λ r. ⌜ r ≡ getD (now (bytes .entry)) at 0 ⌝ }
+{
+    if at < bytes.len() {
+        return bytes[at];
+    }
+    0
+}
 
 // The bytes over the first of `to`, as many as both have.
 pub fn copy_bytes(bytes: &[u8], to: &mut [u8])

@@ -11,7 +11,7 @@ use Rattle.block.specs.Answers.{firstOf}
 use Rattle.memory.specs.declared.Counts.{Counts}
 use Rattle.memory.specs.declared.Turn.{Turn}
 use Rattle.memory.specs.declared.Txn.{Txn}
-use Rattle.memory.specs.Memory.{Memory}
+use Rattle.memory.specs.Memory.{Store, Memory}
 use Rattle.memory.specs.Rows.{closed}
 use Rattle.engine.specs.Calls.{Outcome, outcome}
 use Rattle.engine.specs.Calls.Answer.{refused, restarted}
@@ -46,7 +46,7 @@ module _ (m : Memory) (n own : ℕ) (start : List ℤ) (journal block : List ℕ
     pub restart-refused : (k ≡ 0 → ⊥) → (turn : Turn) (counts : Counts) (rows : List Txn)
         → outcome (refused k)
         (allParts (ifMade k turn (m .turn)) (ifMade k counts (m .counts)) (ifMade k rows (m .txns .table)) (left .txns .queue) (left .txns .items) (left .txns .writes) (left .txns .snapshots)
-        (left .store .values) (left .store .stamps) (left .blocks .places) (left .blocks .outbox))
+        (left .store .values) (left .store .stamps) (left .store .classes) (left .blocks .places) (left .blocks .outbox))
         ≡ restartStep m n own start journal block
     unfolding restartStep makeStep
     restart-refused h turn counts rows =
@@ -65,12 +65,11 @@ module _ (m : Memory) (n own : ℕ) (start : List ℤ) (journal block : List ℕ
       pub restart-taken : (t : Tally) (v : List ℤ) (s : List ℕ) → Replays n own journal (replayed 0 (left .store .values) (left .store .stamps)) v s t
           → outcome (restarted (t .blocks) (blockNumber (t .last) journal))
           (allParts (answered n own t .turn) (answered n own t .counts) (replicate 6 closed) (left .txns .queue) (left .txns .items) (left .txns .writes) (left .txns .snapshots)
-          v s (left .blocks .places) (left .blocks .outbox))
+          v s (left .store .classes) (left .blocks .places) (left .blocks .outbox))
           ≡ restartStep m n own start journal block
       unfolding restartStep restartedMemory madeMemory answered
       restart-taken t v s p =
           let r : replayed (t .commits) v s ≡ commitBlocks (startReplay start) (blocksIn n journal) = rw is-made at (p .store) in
           let c : t .commits ≡ commitBlocks (startReplay start) (blocksIn n journal) .commits = ap (λ (x : Replayed). x .commits) r in
-          let a : v ≡ commitBlocks (startReplay start) (blocksIn n journal) .store .values = ap (λ (x : Replayed). x .store .values) r in
-          let b : s ≡ commitBlocks (startReplay start) (blocksIn n journal) .store .stamps = ap (λ (x : Replayed). x .store .stamps) r in
-          rw (same-refusal, ← is-refusal, free, is-made, p .blocks, p .last, p .highest, p .committed, c, a, b)
+          let a : _≡_ {A = Store} (record { values = v; stamps = s; classes = replicate 128 0 }) (commitBlocks (startReplay start) (blocksIn n journal) .store) = ap (λ (x : Replayed). x .store) r in
+          rw (same-refusal, ← is-refusal, free, is-made, p .blocks, p .last, p .highest, p .committed, c, a)

@@ -9,9 +9,9 @@ use Rattle.call_reply.specs.declared.Restarted.{Restarted}
 use Rattle.engine.specs.Restart.{Replayed, blocksIn, writesetsIn, commitBlocks, isFrom, highestTicket, highestOwn, ownWritesets, lastOwn}
 use Rattle.call_restart.specs.declared.Tally.{Tally}
 
--- commit count, values and stamps
+-- commit count, values and stamps; no table of classes
 abbrev pub replayed : ℕ → List ℤ → List ℕ → Replayed
-replayed commits values stamps = record { commits = commits; store = record { values = values; stamps = stamps } }
+replayed commits values stamps = record { commits = commits; store = record { values = values; stamps = stamps; classes = replicate 128 0 } }
 
 -- the k-th block of a journal, counted from 1; 512 zeros for the 0-th
 unfoldable pub blockNumber : ℕ → List ℕ → List ℕ

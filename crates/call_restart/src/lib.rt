@@ -216,6 +216,7 @@ pub fn restart(
     snapshots: &mut [i32],
     values: &mut [i32],
     stamps: &mut [u32],
+    classes: &mut [u8],
     places: &mut [u8],
     outbox: &mut [u8],
     journal: &[u8],
@@ -225,13 +226,13 @@ pub fn restart(
         GivesWith restartReply
         (restartStep
         (allParts turn counts rows (now (queue .entry)) (now (items .entry)) (now (writes .entry)) (now (snapshots .entry))
-        (now (values .entry)) (now (stamps .entry)) (now (places .entry)) (now (outbox .entry)))
+        (now (values .entry)) (now (stamps .entry)) (now (classes .entry)) (now (places .entry)) (now (outbox .entry)))
         n own (now (start .entry)) (now (journal .entry)) (now (block .entry)))
         (now (block .entry))
         (r .reply)
         (allParts (ifMade (r .reply .number) (r .turn) turn) (ifMade (r .reply .number) (r .counts) counts) (ifMade (r .reply .number) (replicate 6 closed) rows)
         (now (queue .exit)) (now (items .exit)) (now (writes .exit)) (now (snapshots .exit))
-        (now (values .exit)) (now (stamps .exit)) (now (places .exit)) (now (outbox .exit)))
+        (now (values .exit)) (now (stamps .exit)) (now (classes .exit)) (now (places .exit)) (now (outbox .exit)))
         (now (block .exit))) ⌝ }
 {
     if block.len() != 512 {
@@ -247,6 +248,7 @@ pub fn restart(
         &mut *snapshots,
         &mut *values,
         &mut *stamps,
+        &mut *classes,
         &mut *places,
         &mut *outbox,
     );

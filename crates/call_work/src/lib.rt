@@ -16,6 +16,7 @@ ghost use Rattle.call_work.specs.Writesets.{turnParts, noMarks, endedMar
 use block_reader::record_at;
 use call_reply::WorkReply;
 use call_reply::Worked;
+use call_reply::blocks::byte_at;
 use call_reply::blocks::copy_bytes;
 use call_reply::replies::no_work;
 use ending::end_writeset;
@@ -62,16 +63,6 @@ fn lengths_fit(
         return false;
     }
     stamps == 128
-}
-
-// A byte, 0 past the end.
-fn byte_at(bytes: &[u8], at: usize) -> u8
-    ensures { λ r. ⌜ r ≡ getD (now (bytes .entry)) at 0 ⌝ }
-{
-    if at < bytes.len() {
-        return bytes[at];
-    }
-    0
 }
 
 // Whether the writeset is the replica's own and its transaction is not open as sent.

@@ -1,16 +1,17 @@
 -- A write that no early refusal meets is that of an active transaction; and each answer of that, from the tests that lead to it. Assumes nothing.
 use Prim.Native.Nat.{ℕ, suc, _+_, _*_, _-_, _≤_, _<_, min}
 use mathlib.Core.Path.{_≡_, refl, ap, _∙_}
-use mathlib.Core.Bool.{Bool, true, false, cond}
+use mathlib.Core.Bool.{Bool, true, false, cond, _&&_}
 use mathlib.Core.List.{List, [], _∷_}
 use native.Mathlib.Omega.{arith}
 use borrow.Rule.Slice.PartMut.{putMid}
-use borrow.Author.Tests.{eq-eqb, ne-eqb, lt-ltb, le-ltb, lt-leb}
+use borrow.Author.Tests.{eqb-true, eq-eqb, ne-eqb, lt-ltb, le-ltb, lt-leb}
 use lib.Dec.{eqb}
 use lib.IntN.{ℤ}
 use lib.ListN.{length, getD, set, drop, length-take}
 use lib.Seq.{slice}
 use Rattle.block.specs.Answers.{refuse, firstOf}
+use Rattle.block.proofs.BoolLaws.{both}
 use Rattle.block.proofs.ListLaws.{lent, lent-slice}
 use Rattle.memory.specs.declared.Txn.{Txn}
 use Rattle.memory.specs.Memory.{Memory, withTxns}
@@ -18,7 +19,8 @@ use Rattle.memory.specs.Rows.{rowAt, indexOf, countBelow, shiftIn}
 use Rattle.memory.proofs.RowLaws.{below-within, insert-back}
 use Rattle.engine.specs.Calls.{Outcome, outcome, unless}
 use Rattle.engine.specs.Calls.Answer.{refused, wrote}
-use Rattle.engine.specs.Client.{isOwn, heldByOther, isStale, isFull, writeRefusal, rewriteAt, insertWrite, staleAt, writeRow}
+use Rattle.engine.specs.Classes.{mustWait}
+use Rattle.engine.specs.Client.{writeLent, isOwn, heldByOther, isStale, isFull, writeRefusal, rewriteAt, insertWrite, staleAt, writeRow}
 use Rattle.call_write.specs.Parts.{Inserted, inserted, insertIn, writeActive}
 
 -- the last three refusals, where the item is not the transaction's own
@@ -36,24 +38,30 @@ by-cases m false false true f a b c = refl
 by-cases m false false false true a b c = refl
 by-cases m false false false false a b c = refl
 
-module _ (m : Memory) (r item : ℕ) (value : ℤ) (items : length (m .txns .items) ≡ 48) (writes : length (m .txns .writes) ≡ 48) (stamps : length (m .store .stamps) ≡ 128)
-    (low : item < 128) (there : r < 6) (active : rowAt (m .txns .table) r .stage ≡ 0) (off : m .turn .applying ≡ 0) where
+module _ (m : Memory) (r item : ℕ) (value : ℤ) (lengths : writeLent m ≡ true) (low : item < 128) (there : r < 6)
+    (active : rowAt (m .txns .table) r .stage ≡ 0) (free : mustWait m item ≡ false) where
   past : writeRefusal m r item ≡ lastThree (isOwn m r item) (heldByOther m r item) (isStale m r item) (isFull m r)
   unfolding writeRefusal firstOf lastThree
   past =
       rw (
-        eq-eqb (length (m .txns .items)) 48 items,
-        eq-eqb (length (m .txns .writes)) 48 writes,
-        eq-eqb (length (m .store .stamps)) 128 stamps,
+        lengths,
         lt-leb 128 item low,
         lt-leb 6 r there,
         active,
-        off,
+        free,
       )
 
   pub write-active : writeRow m r item value ≡ writeActive m r item value
   unfolding writeRow writeActive
   write-active = rw past (by-cases m _ _ _ _ _ _ _)
+
+-- what the lengths are where they fit
+pub fits-long : (i w s c p n : ℕ) → (eqb i 48 && eqb w 48 && (eqb s 128 && (eqb c 128 && eqb p n))) ≡ true → (i ≡ 48) × (w ≡ 48) × (s ≡ 128)
+fits-long i w s c p n h =
+    let a = both (eqb i 48 && eqb w 48) (eqb s 128 && (eqb c 128 && eqb p n)) h in
+    let b = both (eqb i 48) (eqb w 48) (a .left) in
+    let d = both (eqb s 128) (eqb c 128 && eqb p n) (a .right) in
+    (eqb-true i 48 (b .left), eqb-true w 48 (b .right), eqb-true s 128 (d .left))
 
 -- what a refusal of `early_refusal` says
 pub write-refused : (n : ℕ) (m : Memory) (w o : Outcome) → (n ≡ 0 → ⊥) → w ≡ unless n m o → outcome (refused n) m ≡ w

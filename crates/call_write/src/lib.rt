@@ -1,18 +1,22 @@
 // A write, at a row: `at` is any number. Its contract gives the reply and the memory after by `writeRow` of engine's `specs/Client.antt`, on every memory that has the parts
 // lent.
-ghost use Prim.Native.Nat.{_≤_, _<_};
+ghost use Prim.Native.Nat.{_*_, _≤_, _<_};
 ghost use mathlib.Core.Path.{_≡_};
+ghost use mathlib.Core.Bool.{true, _&&_};
 ghost use mathlib.Core.List.{List};
+ghost use lib.Dec.{eqb};
 ghost use lib.IntN.{ℤ};
 ghost use lib.ListN.{length, set};
 ghost use Rattle.memory.specs.declared.Txn.{Txn};
 ghost use Rattle.memory.specs.Memory.{Memory, bump, withAborted};
 ghost use Rattle.memory.specs.Rows.{closed, rowAt, writeCount, isHeld, holderOf};
 ghost use Rattle.engine.specs.Calls.{unless};
-ghost use Rattle.engine.specs.Client.{writeRow};
+ghost use Rattle.engine.specs.Classes.{mustWait};
+ghost use Rattle.engine.specs.Client.{writeLent, writeRow};
 ghost use Rattle.call_reply.specs.Parts.{writeParts};
 ghost use Rattle.call_reply.specs.Replies.{Gives, number};
 ghost use Rattle.call_write.specs.Parts.{inserted, insertIn, writeActive};
+use call_classes::must_wait;
 use call_client::rows::free;
 use call_client::rows::row_at;
 use call_reply::Changed;
@@ -97,9 +101,9 @@ fn write_at(
     requires { ⌜ (length (now items) ≡ 48) × (length (now writes) ≡ 48) × (length (now stamps) ≡ 128) × (at < 6) × (item < 128) ⌝ }
     ensures { λ r. ⌜ ((m : Memory) → t ≡ rowAt rows at →
         Gives number
-        (writeActive (writeParts m (m .turn) counts rows (now (items .entry)) (now (writes .entry)) (now (stamps .entry))) at item value)
+        (writeActive (writeParts m (m .turn) counts rows (now (items .entry)) (now (writes .entry)) (now (stamps .entry)) (m .store .classes) (m .blocks .places)) at item value)
         (r .number)
-        (writeParts m (m .turn) (r .counts) (set rows at (r .row)) (now (items .exit)) (now (writes .exit)) (now (stamps .entry)))) ⌝ }
+        (writeParts m (m .turn) (r .counts) (set rows at (r .row)) (now (items .exit)) (now (writes .exit)) (now (stamps .entry)) (m .store .classes) (m .blocks .places))) ⌝ }
 {
     let n = write_count(t.writes);
     let from = 8 * at;
@@ -121,28 +125,40 @@ fn write_at(
     changed(0, row, counts)
 }
 
-// The first of 1, 2, 3, 4 and 7 that a write is refused by, 0 where there is none, from the lengths of the lent parts: these come before the row's own writes are looked at.
-fn early_refusal(
-    at: usize,
-    stage: u32,
-    applying: u8,
+// Whether the slices lent have their lengths.
+fn lengths_fit(
     items: usize,
     writes: usize,
     stamps: usize,
-    item: u32,
-) -> u8
-    ensures { λ r. ⌜ ((m : Memory) (value : ℤ) → stage ≡ rowAt (m .txns .table) at .stage → applying ≡ m .turn .applying →
-        items ≡ length (m .txns .items) → writes ≡ length (m .txns .writes) → stamps ≡ length (m .store .stamps) →
-        writeRow m at item value ≡ unless r m (writeActive m at item value))
-        × (r ≡ 0 → (items ≡ 48) × (writes ≡ 48) × (stamps ≡ 128) × (at < 6) × (item < 128)) ⌝ }
+    classes: usize,
+    places: usize,
+    replicas: u8,
+) -> bool
+    ensures { λ r. ⌜ r ≡ (eqb items 48 && eqb writes 48 && (eqb stamps 128 && (eqb classes 128 && eqb places (512 * replicas)))) ⌝ }
 {
     if items != 48 {
-        return 1;
+        return false;
     }
     if writes != 48 {
-        return 1;
+        return false;
     }
     if stamps != 128 {
+        return false;
+    }
+    if classes != 128 {
+        return false;
+    }
+    places == 512 * replicas as usize
+}
+
+// The first of 1, 2, 3, 4 and 7 that a write is refused by, 0 where there is none: these come before the row's own writes are looked at. `fits` where what it is lent has its
+// lengths.
+fn early_refusal(fits: bool, at: usize, stage: u32, waits: bool, item: u32) -> u8
+    ensures { λ r. ⌜ ((m : Memory) (value : ℤ) → writeLent m ≡ fits → stage ≡ rowAt (m .txns .table) at .stage → waits ≡ mustWait m item →
+        writeRow m at item value ≡ unless r m (writeActive m at item value))
+        × (r ≡ 0 → (fits ≡ true) × (at < 6) × (item < 128)) ⌝ }
+{
+    if !fits {
         return 1;
     }
     if 128 <= item {
@@ -154,7 +170,7 @@ fn early_refusal(
     if stage != 0 {
         return 4;
     }
-    if applying != 0 {
+    if waits {
         return 7;
     }
     0
@@ -169,26 +185,31 @@ pub fn write(
     items: &mut [u8],
     writes: &mut [i32],
     stamps: &[u32],
+    classes: &[u8],
+    places: &[u8],
     item: u32,
     value: i32,
 ) -> Changed
     ensures { λ r. ⌜ ((m : Memory) →
         Gives number
-        (writeRow (writeParts m turn counts rows (now (items .entry)) (now (writes .entry)) (now (stamps .entry))) at item value)
+        (writeRow
+        (writeParts m turn counts rows (now (items .entry)) (now (writes .entry)) (now (stamps .entry)) (now (classes .entry)) (now (places .entry)))
+        at item value)
         (r .number)
-        (writeParts m turn (r .counts) (set rows at (r .row)) (now (items .exit)) (now (writes .exit)) (now (stamps .entry))))
+        (writeParts m turn (r .counts) (set rows at (r .row)) (now (items .exit)) (now (writes .exit)) (now (stamps .entry)) (now (classes .entry)) (now (places .entry))))
         × (6 ≤ at → r .row ≡ closed) ⌝ }
 {
     let t = row_at(rows, at);
-    let number = early_refusal(
-        at,
-        t.stage,
-        turn.applying,
+    let fits = lengths_fit(
         items.len(),
         writes.len(),
         stamps.len(),
-        item,
+        classes.len(),
+        places.len(),
+        counts.replicas,
     );
+    let waits = must_wait(turn, counts, classes, places, item);
+    let number = early_refusal(fits, at, t.stage, waits, item);
     if number != 0 {
         return changed(number, t, counts);
     }

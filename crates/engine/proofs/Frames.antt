@@ -9,7 +9,7 @@ use lib.ListN.{length}
 use borrow.Author.Tests.{ltb-true, eq-eqb}
 use Rattle.block.specs.Answers.{headerOf}
 use Rattle.memory.specs.declared.Txn.{Txn}
-use Rattle.memory.specs.Memory.{Memory, withReadOnly, withAborted, withTxns}
+use Rattle.memory.specs.Memory.{Memory, withReadOnly, withAborted, withTxns, withClasses}
 use Rattle.memory.specs.Rows.{closed, freeRow, rowAt, writeCount, itemsOf, indexOf, countBelow}
 use Rattle.memory.specs.Turns.{placeStart}
 use Rattle.engine.specs.Make.{madeMemory, makeRefusal, makeStep}
@@ -18,7 +18,7 @@ use Rattle.engine.specs.Moves.{sendNow, deliverNow}
 use Rattle.engine.specs.Step.{step}
 use Rattle.engine.specs.Step.Call.{write}
 use Rattle.engine.specs.Frames.{Frames, SameBut, BeginFrame, WriteFrame, AskFrame, WithdrawFrame, SendFrame, DeliverFrame, WorkFrame}
-use Rattle.engine.proofs.Steps.{begin-by, read-by, write-by, ask-by, withdraw-by, send-by, deliver-by, work-by}
+use Rattle.engine.proofs.Steps.{begin-by, read-by, write-by, ask-by, withdraw-by, send-by, deliver-by, work-by, load-by}
 use Rattle.engine.proofs.Passed.{BeginPassed, begin-passed, write-passed, DeliverPassed, deliver-passed}
 use Rattle.engine.proofs.PartLaws.{set-but, paste-but, insert-but, below-part}
 use Rattle.engine.proofs.RowLaws.{others, sent-row}
@@ -233,4 +233,5 @@ frames = record {
       (λ e. deliver-frame m b (deliver-passed m b e))
       (λ e. deliver-same m (headerOf b .slot));
   works = λ m. work-by (λ o. WorkFrame m (o .memory)) m (λ e k. pass-frame m) (λ e k. commit-frame m _) (λ e. work-same m);
+  loads = λ m l. load-by (λ o. o .memory ≡ withClasses m (o .memory .store .classes)) m l (λ e. refl) (λ e. refl);
 }

@@ -33,6 +33,7 @@ pub mod Refusals
 pub mod WorkFrame
 pub mod Frames
 pub mod Shapes
+pub mod OneClass
 pub mod Rising
 pub mod ReadBack
 pub mod Claims

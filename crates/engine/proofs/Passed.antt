@@ -15,6 +15,7 @@ use Rattle.block.specs.Message.{ownerOf, within}
 use Rattle.memory.specs.Memory.{Memory, maxTickets, maxSlots}
 use Rattle.memory.specs.Rows.{freeRow, writeCount}
 use Rattle.memory.specs.Turns.{isEmpty}
+use Rattle.engine.specs.Classes.{loadRefusal}
 use Rattle.engine.specs.Client.{freeNo, rowNo, rowIn, isOwn, notOpen, notActive, heldByOther, beginRefusal, writeRefusal, askRefusal, withdrawRefusal}
 use Rattle.engine.specs.Moves.{sentAlready, sendRefusal, isOwnBlock, deliverRefusal, blockAtTurn, isSent, workRefusal}
 use Rattle.engine.specs.Restart.{restartRefusal}
@@ -187,6 +188,12 @@ work-passed m e =
       waits = b .0;
       sent = λ p q. sent-own _ _ _ (c .0) (ne-eqb (getD (blockAtTurn m) 0 0) 1 p) (eq-eqb (getD (blockAtTurn m) 1 0) (m .counts .own) q);
     }
+
+-- ---- load
+
+pub load-passed : (m : Memory) (l : List ℕ) → loadRefusal m l ≡ 0 → length l ≡ 128
+unfolding loadRefusal
+load-passed m l e = eqb-true (length l) 128 (both-so (eqb (length (m .store .classes)) 128) (eqb (length l) 128) (passes _ _ refl e .0) .right)
 
 -- ---- restart
 

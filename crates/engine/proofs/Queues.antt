@@ -15,11 +15,11 @@ use Rattle.engine.specs.Make.{madeMemory}
 use Rattle.engine.specs.Client.{rowNo, beginAt, rewriteAt, insertWrite, staleAt, readOnlyAt, queueAt, withdrawAt, reportStep}
 use Rattle.engine.specs.Moves.{waiting, without, hitTickets, sendNow, deliverNow, passNext, commitWriteset}
 use Rattle.engine.specs.Step.{Call, step, after}
-use Rattle.engine.specs.Step.Call.{begin, read, write, ask, withdraw, report, send, deliver, work}
+use Rattle.engine.specs.Step.Call.{begin, read, write, ask, withdraw, report, send, deliver, work, load}
 use Rattle.engine.specs.Restart.{blocksIn, restartedMemory}
 use Rattle.engine.specs.Shape.{Shape}
 use Rattle.engine.specs.History.{pendingAfter, pending, Queues}
-use Rattle.engine.proofs.Steps.{begin-by, read-by, write-by, ask-by, withdraw-by, send-by, deliver-by, work-by}
+use Rattle.engine.proofs.Steps.{begin-by, read-by, write-by, ask-by, withdraw-by, send-by, deliver-by, work-by, load-by}
 use Rattle.engine.proofs.Passed.{RowPassed, ask-passed}
 use Rattle.engine.proofs.HitLaws.{no-zero}
 use Rattle.engine.proofs.RowLaws.{row-found}
@@ -63,6 +63,7 @@ ordered m s report = unfold step reportStep in refl
 ordered m s (send b) = send-by (Ordered m (send b)) m b (λ e. unfold sendNow waiting in refl) (λ e. refl)
 ordered m s (deliver b) = deliver-by (Ordered m (deliver b)) m b (λ e. unfold deliverNow in refl) (λ e. refl)
 ordered m s work = work-by (Ordered m work) m (λ e k. unfold passNext in sym (without-none (waiting (m .txns .queue)))) (λ e k. committed m s _ _) (λ e. refl)
+ordered m s (load l) = load-by (Ordered m (load l)) m l (λ e. refl) (λ e. refl)
 
 listed : {over : ℕ} (m : Memory) → Shape over m → (cs : List Call) → waiting (after m cs .txns .queue) ≡ pending (waiting (m .txns .queue)) m cs
 unfolding after pending Ordered

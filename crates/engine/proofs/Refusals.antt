@@ -11,13 +11,14 @@ use Rattle.memory.specs.Memory.{Memory, bump, withAborted, withTable, withTxns}
 use Rattle.memory.specs.Rows.{closed, openCount}
 use Rattle.engine.specs.Calls.{Outcome, numberOf}
 use Rattle.engine.specs.Make.{makeRefusal, makeStep}
+use Rattle.engine.specs.Classes.{loadRefusal}
 use Rattle.engine.specs.Client.{freeNo, rowNo, beginRefusal, beginAt, readRefusal, writeRefusal, rewriteAt, insertWrite, staleAt, writeRow, askRefusal, readOnlyAt, queueAt, withdrawRefusal, withdrawAt, reportStep}
 use Rattle.engine.specs.Moves.{sendRefusal, sendNow, deliverRefusal, deliverNow, workRefusal, passNext, commitWriteset}
 use Rattle.engine.specs.Step.{Call, step, refusalOf}
-use Rattle.engine.specs.Step.Call.{begin, read, write, ask, withdraw, report, send, deliver, work}
+use Rattle.engine.specs.Step.Call.{begin, read, write, ask, withdraw, report, send, deliver, work, load}
 use Rattle.engine.specs.Frames.{Refusals, isWrite}
 use Rattle.engine.proofs.Tests.{not-first, unless-by}
-use Rattle.engine.proofs.Steps.{begin-by, read-by, write-by, ask-by, withdraw-by, send-by, deliver-by, work-by}
+use Rattle.engine.proofs.Steps.{begin-by, read-by, write-by, ask-by, withdraw-by, send-by, deliver-by, work-by, load-by}
 use Rattle.engine.proofs.Passed.{stale-passed}
 use Rattle.engine.proofs.RowLaws.{row-found, open-close}
 
@@ -36,6 +37,7 @@ number m report = unfold step reportStep in refl
 number m (send b) = send-by (Numbered (sendRefusal m b)) m b (λ e. sym e) (λ e. refl)
 number m (deliver b) = deliver-by (Numbered (deliverRefusal m b)) m b (λ e. sym e) (λ e. refl)
 number m work = work-by (Numbered (workRefusal m)) m (λ e k. sym e) (λ e k. sym e) (λ e. refl)
+number m (load l) = load-by (Numbered (loadRefusal m l)) m l (λ e. sym e) (λ e. refl)
 
 -- the memory is as it was
 abbrev Left : Memory → Outcome → Type 0
@@ -52,9 +54,10 @@ unchanged m report h k = unfold step reportStep in refl
 unchanged m (send b) h k = send-by (Left m) m b (λ e. absurd (h e)) (λ e. refl)
 unchanged m (deliver b) h k = deliver-by (Left m) m b (λ e. absurd (h e)) (λ e. refl)
 unchanged m work h k = work-by (Left m) m (λ e n. absurd (h e)) (λ e o. absurd (h e)) (λ e. refl)
+unchanged m (load l) h k = load-by (Left m) m l (λ e. absurd (h e)) (λ e. refl)
 
 nine : (m : Memory) (c : Call) → refusalOf m c ≡ 9 → isWrite c ≡ true
-unfolding refusalOf beginRefusal readRefusal askRefusal withdrawRefusal sendRefusal deliverRefusal workRefusal
+unfolding refusalOf beginRefusal readRefusal askRefusal withdrawRefusal sendRefusal deliverRefusal workRefusal loadRefusal
 nine m begin e = absurd (not-first 9 _ refl e)
 nine m (read t i) e = absurd (not-first 9 _ refl e)
 nine m (write t i v) e = refl
@@ -64,6 +67,7 @@ nine m report e = absurd (omega arith)
 nine m (send b) e = absurd (not-first 9 _ refl e)
 nine m (deliver b) e = absurd (not-first 9 _ refl e)
 nine m work e = absurd (not-first 9 _ refl e)
+nine m (load l) e = absurd (not-first 9 _ refl e)
 
 stale : (m : Memory) (ticket item : ℕ) (value : ℤ) → writeRefusal m (rowNo m ticket) item ≡ 9
     → step m (write ticket item value) .memory

@@ -22,13 +22,13 @@ use Rattle.engine.specs.Make.{madeMemory}
 use Rattle.engine.specs.Client.{rowNo, beginAt, rewriteAt, insertWrite, staleAt, readOnlyAt, queueAt, withdrawAt, reportOf, reportStep}
 use Rattle.engine.specs.Moves.{sendNow, deliverNow, blockAtTurn, writesetAt, hitTickets, isLast, passNext, commitWriteset}
 use Rattle.engine.specs.Step.{Call, step, refusalOf, after}
-use Rattle.engine.specs.Step.Call.{begin, read, write, ask, withdraw, report, send, deliver, work}
+use Rattle.engine.specs.Step.Call.{begin, read, write, ask, withdraw, report, send, deliver, work, load}
 use Rattle.engine.specs.Restart.{blocksIn, startReplay, repeated, restartedMemory}
 use Rattle.engine.specs.Shape.{Shape}
 use Rattle.engine.specs.Frames.{isWrite}
 use Rattle.engine.specs.History.{Tally, noCalls, counted, tally, writesetCount, restartTally, reportFrom, Reports}
 use Rattle.engine.proofs.Tests.{clash}
-use Rattle.engine.proofs.Steps.{begin-by, read-by, write-by, ask-by, withdraw-by, send-by, deliver-by, work-by}
+use Rattle.engine.proofs.Steps.{begin-by, read-by, write-by, ask-by, withdraw-by, send-by, deliver-by, work-by, load-by}
 use Rattle.engine.proofs.Refusals.{refusals}
 use Rattle.engine.proofs.HitLaws.{aborts-open}
 use Rattle.engine.proofs.Shaping.{Bumps, bumps}
@@ -152,6 +152,10 @@ step-counted m s work =
     (λ e k. pass-counted m (bumps m s))
     (λ e k. let w = working m s e in commit-counted m s w (writesetAt (blockAtTurn m) (m .counts .done)) (w .ticket k))
     (λ e. refused-counted m _ (not-nine m work refl))
+step-counted m s (load l) =
+    load-by (Counted m) m l
+    (λ e. unfold kept counted in record { numbers = refl; own = refl })
+    (λ e. refused-counted m _ (not-nine m (load l) refl))
 
 -- ---- a list of calls
 

@@ -125,10 +125,11 @@ blocks-counted (b ∷ bs) r h =
     let a = blocks-counted bs (commitAll r (writesetsIn b)) (omega arith) in
     omega arith
 
--- 128 values and stamps stay
+-- 128 values, stamps and classes stay
 pub record Long (r : Replayed) : Type 0 where
   pub values : length (r .store .values) ≡ 128
   pub stamps : length (r .store .stamps) ≡ 128
+  pub classes : length (r .store .classes) ≡ 128
 
 all-long : (ws : List Record) (r : Replayed) → Long r → Long (commitAll r ws)
 unfolding commitAll
@@ -136,6 +137,7 @@ all-long [] r h = h
 all-long (w ∷ ws) r h = all-long ws (commitOne r w) (record {
   values = length-applied (w .entries) (r .store .values) ∙ h .values;
   stamps = length-stamped _ (w .entries) (r .store .stamps) ∙ h .stamps;
+  classes = h .classes;
 })
 
 pub blocks-long : (bs : List (List ℕ)) (r : Replayed) → Long r → Long (commitBlocks r bs)

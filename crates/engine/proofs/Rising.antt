@@ -14,7 +14,7 @@ use Rattle.memory.specs.declared.Txn.{Txn}
 use Rattle.memory.specs.Memory.{Memory}
 use Rattle.memory.specs.Rows.{rowAt, has}
 use Rattle.engine.specs.Calls.{Answer, Outcome}
-use Rattle.engine.specs.Calls.Answer.{refused, made, began, got, wrote, queued, readOnly, withdrew, reported, sent, kept, worked, restarted}
+use Rattle.engine.specs.Calls.Answer.{refused, made, began, got, wrote, queued, readOnly, withdrew, reported, sent, kept, worked, loaded, restarted}
 use Rattle.engine.specs.Moves.{blockAtTurn, isHit, insertRising, hitTickets, passNext, commitWriteset}
 use Rattle.engine.specs.Shape.{Shape}
 use Rattle.engine.specs.Step.{step}
@@ -88,6 +88,7 @@ abortedBy (reported r) = []
 abortedBy (sent b) = []
 abortedBy kept = []
 abortedBy (worked s) = s .aborted
+abortedBy loaded = []
 abortedBy (restarted c b) = []
 
 pub aborted-rise : {over : ℕ} (m : Memory) → Shape over m → Rises (abortedBy (step m work .answer))

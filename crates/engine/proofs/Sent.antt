@@ -9,21 +9,22 @@ use lib.ListN.{getD, replicate, getD-replicate}
 use borrow.Author.Tests.{eqb-true, eqb-false, eq-eqb, not-true}
 use Rattle.block.specs.Answers.{Refusal, refuse, firstOf, recordAt}
 use Rattle.block.proofs.BoolLaws.{both}
-use Rattle.memory.specs.Memory.{Memory}
+use Rattle.memory.specs.Memory.{Memory, withClasses}
 use Rattle.memory.specs.Rows.{closed, rowAt}
 use Rattle.memory.specs.Turns.{placeStart, isEmpty}
 use Rattle.engine.specs.Calls.{Outcome, numberOf}
 use Rattle.engine.specs.Calls.Answer.{refused}
 use Rattle.engine.specs.Make.{madeMemory}
+use Rattle.engine.specs.Classes.{loadRefusal}
 use Rattle.engine.specs.Client.{rowNo, isOwn, reportStep, beginRefusal, readRefusal, writeRefusal, askRefusal, withdrawRefusal}
 use Rattle.engine.specs.Moves.{sentAlready, sendRefusal, deliverRefusal, blockAtTurn, isSent, ownNotSent, workRefusal}
 use Rattle.engine.specs.Restart.{blocksIn, restartedMemory}
 use Rattle.engine.specs.Step.{Call, step, refusalOf, after}
-use Rattle.engine.specs.Step.Call.{begin, read, write, ask, withdraw, report, send, deliver, work}
+use Rattle.engine.specs.Step.Call.{begin, read, write, ask, withdraw, report, send, deliver, work, load}
 use Rattle.engine.specs.Shape.{Shape}
 use Rattle.engine.specs.Sent.{SentShape, SentShapes, NeverAnswered}
 use Rattle.engine.proofs.Tests.{cond-by, same-by, clash, not-first, passes}
-use Rattle.engine.proofs.Steps.{read-by, send-by, deliver-by, work-by}
+use Rattle.engine.proofs.Steps.{read-by, send-by, deliver-by, work-by, load-by}
 use Rattle.engine.proofs.Passed.{send-passed, deliver-passed}
 use Rattle.engine.proofs.ShapeMade.{getD-zeros}
 use Rattle.engine.proofs.ShapeTurn.{working}
@@ -60,6 +61,10 @@ sent-restarted : (n own : ℕ) (values : List ℤ) (journal : List ℕ) → Sent
 unfolding restartedMemory
 sent-restarted n own values journal = start (restartedMemory n own values (blocksIn n journal)) refl (zeros n) shut
 
+-- classes are no matter
+sent-loaded : (m : Memory) → SentShape m → (l : List ℕ) → SentShape (withClasses m l)
+sent-loaded m Q l = record { turn = Q .turn; own = Q .own; once = Q .once; live = Q .live; only = Q .only }
+
 -- ---- each call
 
 sent-each : {over : ℕ} (m : Memory) → Shape over m → SentShape m → (c : Call) → SentShape (step m c .memory)
@@ -77,6 +82,7 @@ sent-each {over} m S Q work =
     (λ e k T. sent-committed m S (working m S e) Q k T)
     (λ e T. Q)
     (shapes .each m S work)
+sent-each m S Q (load l) = load-by (λ (o : Outcome). SentShape (o .memory)) m l (λ e. sent-loaded m Q l) (λ e. Q)
 
 pub sent-shapes : SentShapes
 sent-shapes = record { made = sent-made; each = sent-each; restarted = sent-restarted }
@@ -117,7 +123,7 @@ write-unmet m r i e =
     cond-by (λ (l : List Refusal). firstOf l ≡ 22 → ⊥) (isOwn m r i) (λ o. not-first 22 [] refl) (λ o. not-first 22 _ refl) (f .1)
 
 unmet : {over : ℕ} (m : Memory) → Shape over m → SentShape m → (c : Call) → refusalOf m c ≡ 22 → ⊥
-unfolding refusalOf beginRefusal readRefusal askRefusal withdrawRefusal sendRefusal deliverRefusal
+unfolding refusalOf beginRefusal readRefusal askRefusal withdrawRefusal sendRefusal deliverRefusal loadRefusal
 unmet m S Q begin e = not-first 22 _ refl e
 unmet m S Q (read t i) e = not-first 22 _ refl e
 unmet m S Q (write t i v) e = write-unmet m (rowNo m t) i e
@@ -127,6 +133,7 @@ unmet m S Q report e = omega arith
 unmet m S Q (send b) e = not-first 22 _ refl e
 unmet m S Q (deliver b) e = not-first 22 _ refl e
 unmet m S Q work e = work-unmet m S Q e
+unmet m S Q (load l) e = not-first 22 _ refl e
 
 unmet-after : {over : ℕ} (m : Memory) → Shape over m → SentShape m → (cs : List Call) (c : Call) → step (after m cs) c .answer ≡ refused 22 → ⊥
 unfolding after

@@ -42,7 +42,7 @@ module _ {over : ℕ} (m : Memory) (bytes : List ℕ) (S : Shape over m) (k : De
 
   places : PlaceShape (deliverNow m bytes .memory)
   unfolding deliverNow
-  places = record { waits = waits; done = done }
+  places = record { waits = waits; done = done; applying = S .places .applying }
     where
       done : 0 < m .counts .done → (isEmpty n (m .turn .slot) new ≡ false) × (m .counts .done < getD (blockIn n (m .turn .slot) new) 3 0)
       done h =

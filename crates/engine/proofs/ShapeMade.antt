@@ -1,6 +1,7 @@
 -- A replica just made has the shape. Assumes nothing.
 use Prim.Native.Nat.{ℕ, _*_, _≤_, _<_}
 use mathlib.Core.Path.{_≡_, refl, ap}
+use mathlib.Core.Bool.{false}
 use mathlib.Core.List.{List}
 use native.Mathlib.Omega.{arith}
 use lib.IntN.{ℤ, pos}
@@ -30,6 +31,7 @@ shape-made n own values least most among long = record {
     snapshots = length-replicate 768 (pos 0);
     values = long;
     stamps = length-replicate {A = ℕ} 128 0;
+    classes = length-replicate {A = ℕ} 128 0;
     places = length-replicate {A = ℕ} (512 * n) 0;
     outbox = length-replicate {A = ℕ} 512 0;
   };
@@ -45,6 +47,7 @@ shape-made n own values least most among long = record {
   places = record {
     waits = λ s h u e. clash (eq-eqb _ 0 (getD-zeros (512 * n) (placeStart n s))) e;
     done = λ h. absurd (let z : ⊥ = omega arith in z);
+    applying = λ e. clash {b = false} e refl;
   };
   single = single-of (replicate 6 closed) (replicate 48 0) (length-replicate {A = ℕ} 48 0)
       (λ r h. let q = none r h in omega arith)

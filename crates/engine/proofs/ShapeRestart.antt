@@ -1,6 +1,7 @@
 -- A replica restarted has the shape, from any journal. Assumes nothing.
 use Prim.Native.Nat.{ℕ, _*_, _/_, _≤_, _<_}
 use mathlib.Core.Path.{_≡_, refl, ap}
+use mathlib.Core.Bool.{false}
 use mathlib.Core.List.{List}
 use native.Mathlib.Omega.{arith}
 use lib.IntN.{ℤ, pos}
@@ -25,7 +26,7 @@ shape-of-blocks n own values least most among long bs good few =
     let o = own-few own bs in
     let h = highest-few n own bs good in
     let w = blocks-counted bs (startReplay values) (omega arith) in
-    let l = blocks-long bs (startReplay values) (record { values = long; stamps = length-replicate {A = ℕ} 128 0 }) in
+    let l = blocks-long bs (startReplay values) (record { values = long; stamps = length-replicate {A = ℕ} 128 0; classes = length-replicate {A = ℕ} 128 0 }) in
     record {
       lengths = record {
         table = refl;
@@ -35,6 +36,7 @@ shape-of-blocks n own values least most among long bs good few =
         snapshots = length-replicate 768 (pos 0);
         values = l .values;
         stamps = l .stamps;
+        classes = l .classes;
         places = length-replicate {A = ℕ} (512 * n) 0;
         outbox = length-replicate {A = ℕ} 512 0;
       };
@@ -50,6 +52,7 @@ shape-of-blocks n own values least most among long bs good few =
       places = record {
         waits = λ s u v e. clash (eq-eqb _ 0 (getD-zeros (512 * n) (placeStart n s))) e;
         done = λ u. absurd (let z : ⊥ = omega arith in z);
+        applying = λ e. clash {b = false} e refl;
       };
       single = single-of (replicate 6 closed) (replicate 48 0) (length-replicate {A = ℕ} 48 0)
           (λ r u. let q = none r u in omega arith)

@@ -138,6 +138,7 @@ module _ {over : ℕ} (m : Memory) (s : Shape over m) (r : ℕ) (h : r < 6) (t :
         snapshots = c .snapshots;
         values = s .lengths .values;
         stamps = s .lengths .stamps;
+        classes = s .lengths .classes;
         places = s .lengths .places;
         outbox = s .lengths .outbox;
       }
@@ -180,6 +181,6 @@ module _ {over : ℕ} (m : Memory) (s : Shape over m) (r : ℕ) (h : r < 6) (t :
             (λ i u d some e. apart i u d (λ z. some (e ∙ z)) (sym e))
             (λ i j u v a b. s .distinct i j u v);
         queue = q;
-        places = record { waits = s .places .waits; done = s .places .done };
+        places = record { waits = s .places .waits; done = s .places .done; applying = s .places .applying };
         single = single-of (set (m .txns .table) r t) (p .items) (c .items) (λ i u. fits-changed i u .few) alone-changed;
       }

@@ -108,6 +108,7 @@ module _ {over : ℕ} (m : Memory) (S : Shape over m) where
       snapshots = S .lengths .snapshots;
       values = S .lengths .values;
       stamps = S .lengths .stamps;
+      classes = S .lengths .classes;
       places = S .lengths .places;
       outbox = length-outbox m (S .lengths .queue);
     };
@@ -124,6 +125,6 @@ module _ {over : ℕ} (m : Memory) (S : Shape over m) where
     rows = row-shape;
     distinct = λ i j h l d. rw (sent-row table i, sent-row table j) (S .distinct i j h l d);
     queue = queue-shape;
-    places = record { waits = S .places .waits; done = S .places .done };
+    places = record { waits = S .places .waits; done = S .places .done; applying = S .places .applying };
     single = λ i j h l d x. rw (sent-row table i, sent-row table j) (S .single i j h l d x);
   }

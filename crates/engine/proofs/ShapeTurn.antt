@@ -82,13 +82,13 @@ module _ {over : ℕ} (m : Memory) (S : Shape over m) (w : Working m) where
       rw b (S .places .waits s (omega arith) (omega (arith, d)) (sym (empty-same n s new old b) ∙ e)))
 
   -- the turn went up, and the place is empty
-  pub places-turned : (k : Memory) → k .counts .replicas ≡ n → k .turn .slot ≡ suc turn → k .counts .done ≡ 0 → k .blocks .places ≡ new → PlaceShape k
-  places-turned k a b c d = record { waits = rw (a, b, d) waits-after; done = rw c (λ h. absurd (omega arith)) }
+  pub places-turned : (k : Memory) → k .counts .replicas ≡ n → k .turn .slot ≡ suc turn → k .counts .done ≡ 0 → k .blocks .places ≡ new → k .turn .applying ≡ 0 → PlaceShape k
+  places-turned k a b c d o = record { waits = rw (a, b, d) waits-after; done = rw c (λ h. absurd (omega arith)); applying = rw o (λ e. clash {b = false} e refl) }
 
   -- one more writeset is done, and it was not the last
   pub places-done : (k : Memory) → k .counts .replicas ≡ n → k .turn .slot ≡ turn → k .counts .done ≡ m .counts .done + 1 → k .blocks .places ≡ old
       → m .counts .done + 1 < getD (blockAtTurn m) 3 0 → PlaceShape k
-  places-done k a b c d l = record { waits = rw (a, b, d) (S .places .waits); done = rw (a, b, c, d) (λ h. (w .waits, l)) }
+  places-done k a b c d l = record { waits = rw (a, b, d) (S .places .waits); done = rw (a, b, c, d) (λ h. (w .waits, l)); applying = λ e. rw c (omega arith) }
 
   pub length-emptied : length new ≡ 512 * n
   length-emptied = length-set old (placeStart n turn) 0 ∙ S .lengths .places
@@ -101,4 +101,4 @@ module _ {over : ℕ} (m : Memory) (S : Shape over m) (w : Working m) where
       let b = bumps m S .slot in
       let c = S .ranges .commits in
       shape-besides m S (advance (m .turn)) 0 new (m .txns .writes) length-emptied (S .lengths .writes) (omega arith) (omega arith)
-      (places-turned (passNext m .memory) refl b refl refl)
+      (places-turned (passNext m .memory) refl b refl refl refl)

@@ -34,7 +34,7 @@ committed m mine last w =
         writes = m .txns .writes;
         snapshots = m .txns .snapshots;
       };
-      store = record { values = applied (w .entries) (m .store .values); stamps = stamped (bump (m .counts .commits)) (w .entries) (m .store .stamps) };
+      store = record { values = applied (w .entries) (m .store .values); stamps = stamped (bump (m .counts .commits)) (w .entries) (m .store .stamps); classes = m .store .classes };
       blocks = cond last (turnBlocks m) (m .blocks);
     }
 
@@ -72,6 +72,7 @@ module _ {over : ℕ} (m : Memory) (S : Shape over m) (k : Working m) (more : m 
     snapshots = S .lengths .snapshots;
     values = length-applied (w .entries) (m .store .values) ∙ S .lengths .values;
     stamps = length-stamped (bump (m .counts .commits)) (w .entries) (m .store .stamps) ∙ S .lengths .stamps;
+    classes = S .lengths .classes;
     places = p;
     outbox = o;
   }
@@ -111,7 +112,7 @@ module _ {over : ℕ} (m : Memory) (S : Shape over m) (k : Working m) (more : m 
       let c = k .few in
       let d = k .slot in
       shape-of mine true w t (lengths-of mine true w t (length-emptied m S k) (S .lengths .outbox)) (omega arith) (omega arith)
-      (places-turned m S k (committed m mine true w) refl u refl refl)
+      (places-turned m S k (committed m mine true w) refl u refl refl refl)
   by-last mine false w e t =
       let u = slot-stays mine w in
       let a = S .ranges .commits in

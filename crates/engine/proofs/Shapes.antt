@@ -9,11 +9,12 @@ use Rattle.engine.specs.Calls.{Outcome}
 use Rattle.engine.specs.Make.{madeMemory}
 use Rattle.engine.specs.Client.{rowNo, ownIndex, reportStep}
 use Rattle.engine.specs.Step.{Call, step, after}
-use Rattle.engine.specs.Step.Call.{begin, read, write, ask, withdraw, report, send, deliver, work}
+use Rattle.engine.specs.Step.Call.{begin, read, write, ask, withdraw, report, send, deliver, work, load}
 use Rattle.engine.specs.Shape.{Shape, Shapes}
 use Rattle.engine.proofs.RowLaws.{row-found}
-use Rattle.engine.proofs.Steps.{begin-by, read-by, write-by, ask-by, withdraw-by, send-by, deliver-by, work-by}
-use Rattle.engine.proofs.Passed.{RowPassed, begin-passed, write-passed, stale-passed, ask-passed, withdraw-passed, deliver-passed}
+use Rattle.engine.proofs.Steps.{begin-by, read-by, write-by, ask-by, withdraw-by, send-by, deliver-by, work-by, load-by}
+use Rattle.engine.proofs.Passed.{RowPassed, begin-passed, write-passed, stale-passed, ask-passed, withdraw-passed, deliver-passed, load-passed}
+use Rattle.engine.proofs.Shaping.{shape-loaded}
 use Rattle.engine.proofs.ShapeMade.{shape-made}
 use Rattle.engine.proofs.ShapeBegin.{shape-begin}
 use Rattle.engine.proofs.ShapeWrite.{shape-rewritten, shape-insert}
@@ -58,6 +59,7 @@ shape-each {over} m s work =
     (λ e k. let w = working m s e in shape-next m s w (w .next k))
     (λ e k. shape-committed m s (working m s e) k)
     (λ e. s)
+shape-each {over} m s (load l) = load-by (Shaped over) m l (λ e. shape-loaded m s l (load-passed m l e)) (λ e. s)
 
 pub shape-after : {over : ℕ} (m : Memory) → Shape over m → (cs : List Call) → Shape over (after m cs)
 unfolding after

@@ -8,7 +8,7 @@ use lib.IntN.{ℤ}
 use lib.ListN.{length, getD}
 use Rattle.memory.specs.declared.Turn.{Turn}
 use Rattle.memory.specs.declared.Txn.{Txn}
-use Rattle.memory.specs.Memory.{Memory, maxSlots, bump, withDone}
+use Rattle.memory.specs.Memory.{Memory, maxSlots, bump, withDone, withClasses}
 use Rattle.memory.specs.Rows.{closed, rowAt, writeCount, itemsOf, has}
 use Rattle.engine.specs.Shape.{RowShape, PlaceShape, Shape}
 use Rattle.engine.proofs.Tests.{bump-is}
@@ -108,6 +108,7 @@ shape-besides m s t d places writes p w slot commits waits = record {
     snapshots = s .lengths .snapshots;
     values = s .lengths .values;
     stamps = s .lengths .stamps;
+    classes = s .lengths .classes;
     places = p;
     outbox = s .lengths .outbox;
   };
@@ -125,6 +126,38 @@ shape-besides m s t d places writes p w slot commits waits = record {
   distinct = s .distinct;
   queue = record { zeros = s .queue .zeros; asked = s .queue .asked; queued = s .queue .queued; once = s .queue .once };
   places = waits;
+  single = s .single;
+}
+
+-- another table of 128 classes
+pub shape-loaded : {over : ℕ} (m : Memory) → Shape over m → (classes : List ℕ) → length classes ≡ 128 → Shape over (withClasses m classes)
+shape-loaded m s classes long = record {
+  lengths = record {
+    table = s .lengths .table;
+    queue = s .lengths .queue;
+    items = s .lengths .items;
+    writes = s .lengths .writes;
+    snapshots = s .lengths .snapshots;
+    values = s .lengths .values;
+    stamps = s .lengths .stamps;
+    classes = long;
+    places = s .lengths .places;
+    outbox = s .lengths .outbox;
+  };
+  ranges = record {
+    least = s .ranges .least;
+    most = s .ranges .most;
+    own = s .ranges .own;
+    slot = s .ranges .slot;
+    tickets = s .ranges .tickets;
+    commits = s .ranges .commits;
+    repeats = s .ranges .repeats;
+    endings = s .ranges .endings;
+  };
+  rows = λ r h. row-of-fits (withClasses m classes) r (fits-of m r (s .rows r h));
+  distinct = s .distinct;
+  queue = record { zeros = s .queue .zeros; asked = s .queue .asked; queued = s .queue .queued; once = s .queue .once };
+  places = record { waits = s .places .waits; done = s .places .done; applying = s .places .applying };
   single = s .single;
 }
 

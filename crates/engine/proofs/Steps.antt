@@ -7,15 +7,16 @@ use lib.Dec.{eqb}
 use lib.IntN.{ℤ}
 use lib.ListN.{length, getD, replicate}
 use borrow.Author.Tests.{eqb-true, eqb-false}
-use Rattle.memory.specs.Memory.{Memory}
+use Rattle.memory.specs.Memory.{Memory, withClasses}
 use Rattle.memory.specs.Rows.{writeCount}
 use Rattle.engine.specs.Calls.{Outcome, outcome}
-use Rattle.engine.specs.Calls.Answer.{refused, got, restarted}
+use Rattle.engine.specs.Calls.Answer.{refused, got, loaded, restarted}
+use Rattle.engine.specs.Classes.{loadRefusal, loadStep}
 use Rattle.engine.specs.Client.{freeNo, rowNo, rowIn, ownIndex, isOwn, beginRefusal, beginAt, beginRow, readRefusal, valueFor, readRow, writeRefusal, rewriteAt, insertWrite, staleAt, writeRow, askRefusal, readOnlyAt, queueAt, askRow, withdrawRefusal, withdrawAt, withdrawRow}
 use Rattle.engine.specs.Moves.{sendRefusal, sendNow, sendStep, deliverRefusal, deliverNow, deliverStep, blockAtTurn, writesetAt, workRefusal, passNext, commitWriteset, workStep}
 use Rattle.engine.specs.Restart.{blocksIn, lastOwn, restartedMemory, restartRefusal, restartStep}
 use Rattle.engine.specs.Step.{step}
-use Rattle.engine.specs.Step.Call.{begin, read, write, ask, withdraw, send, deliver, work}
+use Rattle.engine.specs.Step.Call.{begin, read, write, ask, withdraw, send, deliver, work, load}
 use Rattle.engine.proofs.Tests.{cond-by, unless-by}
 
 module _ (P : Outcome → Type 0) (m : Memory) where
@@ -73,6 +74,10 @@ module _ (P : Outcome → Type 0) (m : Memory) where
   work-by f g r =
       let k = getD (blockAtTurn m) 0 0 in
       unless-by P _ m (λ z. cond-by P (eqb k 1) (λ e. f z (eqb-true k 1 e)) (λ e. g z (eqb-false k 1 e))) r
+
+  pub load-by : (l : List ℕ) → (loadRefusal m l ≡ 0 → P (outcome loaded (withClasses m l))) → Refused (loadRefusal m l) → P (step m (load l))
+  unfolding step loadStep
+  load-by l f r = unless-by P _ m f r
 
   -- a restart is refused, with the memory as it was, or commits the blocks read
   pub restart-by : (n k : ℕ) (start : List ℤ) (journal block : List ℕ)

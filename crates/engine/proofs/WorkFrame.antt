@@ -69,6 +69,7 @@ pass-frame m = record {
   places = place-but m;
   values = λ i h. refl;
   stamps = λ i h. refl;
+  classes = refl;
   rows = λ i. inl refl;
   items = refl;
   writes = refl;
@@ -95,6 +96,7 @@ commit-frame m mine =
           (λ e i s. refl);
       values = applied-but (w .entries) (m .store .values);
       stamps = stamped-but (bump (m .counts .commits)) (w .entries) (m .store .stamps);
+      classes = refl;
       rows = cond-by (λ (k : List Txn). (i : ℕ) → SameOrClosed (m .txns .table) k i) mine
           (λ e. set-closed (m .txns .table) (rowOf (w .ticket) (m .txns .table)))
           (λ e. aborts-closed (w .entries) (m .txns .items) (m .txns .table));
@@ -115,6 +117,7 @@ work-same m = record {
   places = λ i s. refl;
   values = λ i h. refl;
   stamps = λ i h. refl;
+  classes = refl;
   rows = λ i. inl refl;
   items = refl;
   writes = refl;

@@ -30,6 +30,8 @@ pub data Answer : Type 0 where
   sent : List ℕ → Answer
   kept : Answer
   worked : Step → Answer
+  -- a table of classes is loaded
+  loaded : Answer
   -- how many blocks were committed, and the last own one of them, 512 zeros where there is none
   restarted : ℕ → List ℕ → Answer
 
@@ -47,6 +49,7 @@ numberOf (reported r) = 0
 numberOf (sent b) = 0
 numberOf kept = 0
 numberOf (worked s) = 0
+numberOf loaded = 0
 numberOf (restarted c b) = 0
 
 pub record Outcome : Type 0 where

@@ -10,11 +10,11 @@ use lib.Seq.{paste}
 use Rattle.block.specs.Answers.{refuse, firstOf}
 use Rattle.engine.specs.declared.Report.{Report}
 use Rattle.memory.specs.declared.Txn.{Txn}
-use Rattle.memory.specs.Memory.{Memory, maxTickets, bump, writesLent, withTickets, withReadOnly, withAborted, withWithdrawn, withTable, withTxns}
-use Rattle.memory.specs.Turns.{isOn}
+use Rattle.memory.specs.Memory.{Memory, maxTickets, bump, writesLent, placesLent, withTickets, withReadOnly, withAborted, withWithdrawn, withTable, withTxns}
 use Rattle.memory.specs.Rows.{closed, openCount, rowOf, freeRow, rowAt, writeCount, itemsOf, indexOf, holderOf, isHeld, countBelow, insertAt}
 use Rattle.engine.specs.Calls.{Outcome, outcome, unless}
 use Rattle.engine.specs.Calls.Answer.{refused, began, got, wrote, queued, readOnly, withdrew, reported}
+use Rattle.engine.specs.Classes.{mustWait}
 
 -- ---- what the calls look at
 
@@ -58,10 +58,6 @@ noRoom r = leb 6 r
 -- 6: 100,000,000 tickets given
 abbrev pub ticketsSpent : Memory → Bool
 ticketsSpent m = leb maxTickets (m .counts .tickets)
-
--- 7: the applying mark is on
-abbrev pub isApplying : Memory → Bool
-isApplying m = isOn (m .turn .applying)
 
 -- 8: another open transaction holds the item
 abbrev pub heldByOther : Memory → ℕ → ℕ → Bool
@@ -133,15 +129,19 @@ readStep m ticket item = readRow m (rowNo m ticket) item
 
 -- ---- write
 
+-- the lent parts have their lengths
+abbrev pub writeLent : Memory → Bool
+writeLent m = writesLent m && (eqb (length (m .store .stamps)) 128 && (eqb (length (m .store .classes)) 128 && placesLent m))
+
 -- an item that the transaction holds already is accepted before 8, 9 and 10 are looked at
 unfoldable pub writeRefusal : Memory → ℕ → ℕ → ℕ
 writeRefusal m r item =
     firstOf
-    (refuse 1 (not (writesLent m && eqb (length (m .store .stamps)) 128))
+    (refuse 1 (not (writeLent m))
     ∷ refuse 2 (itemOut item)
     ∷ refuse 3 (notOpen r)
     ∷ refuse 4 (notActive m r)
-    ∷ refuse 7 (isApplying m)
+    ∷ refuse 7 (mustWait m item)
     ∷ cond (isOwn m r item) []
     (refuse 8 (heldByOther m r item)
     ∷ refuse 9 (isStale m r item)
@@ -182,11 +182,14 @@ insertWrite m r t item value =
 unfoldable pub staleAt : Memory → ℕ → Outcome
 staleAt m r = outcome (refused 9) (withTxns m (withAborted (m .counts) (bump (m .counts .aborted))) (withTable (m .txns) (set (m .txns .table) r closed)))
 
+-- the write where its refusal is n
+abbrev pub writeUnless : ℕ → Memory → ℕ → ℕ → ℤ → Outcome
+writeUnless n m r item value =
+    cond (eqb n 9) (staleAt m r)
+    (unless n m (cond (isOwn m r item) (rewriteAt m r (ownIndex m r item) value) (insertWrite m r (rowIn m r) item value)))
+
 unfoldable pub writeRow : Memory → ℕ → ℕ → ℤ → Outcome
-writeRow m r item value =
-    cond (eqb (writeRefusal m r item) 9) (staleAt m r)
-    (unless (writeRefusal m r item) m
-    (cond (isOwn m r item) (rewriteAt m r (ownIndex m r item) value) (insertWrite m r (rowIn m r) item value)))
+writeRow m r item value = writeUnless (writeRefusal m r item) m r item value
 
 abbrev pub writeStep : Memory → ℕ → ℕ → ℤ → Outcome
 writeStep m ticket item value = writeRow m (rowNo m ticket) item value

@@ -8,7 +8,7 @@ use lib.IntN.{ℤ, pos}
 use lib.ListN.{length, getD, set}
 use Rattle.block.specs.declared.Entry.{Entry}
 use Rattle.block.specs.Answers.{headerOf}
-use Rattle.memory.specs.Memory.{Memory, bump, withTickets, withReadOnly, withAborted, withWithdrawn, withTable, withTxns, withBlocks}
+use Rattle.memory.specs.Memory.{Memory, bump, withTickets, withReadOnly, withAborted, withWithdrawn, withTable, withTxns, withBlocks, withClasses}
 use Rattle.memory.specs.Rows.{closed, openCount, freeRow, rowAt, indexOf, has}
 use Rattle.memory.specs.Turns.{markApplying, advance, placeStart}
 use Rattle.engine.specs.Calls.{numberOf}
@@ -16,7 +16,7 @@ use Rattle.engine.specs.Make.{madeMemory, makeRefusal, makeStep}
 use Rattle.engine.specs.Client.{rowNo, writeRefusal}
 use Rattle.engine.specs.Moves.{blockAtTurn, writesetAt}
 use Rattle.engine.specs.Step.{Call, step, refusalOf}
-use Rattle.engine.specs.Step.Call.{begin, read, write, ask, withdraw, report, send, deliver, work}
+use Rattle.engine.specs.Step.Call.{begin, read, write, ask, withdraw, report, send, deliver, work, load}
 
 abbrev pub isWrite : Call → Bool
 isWrite begin = false
@@ -28,6 +28,7 @@ isWrite report = false
 isWrite (send b) = false
 isWrite (deliver b) = false
 isWrite work = false
+isWrite (load l) = false
 
 pub record Refusals : Type 0 where
   -- a number is answered where its condition is the first to hold, and at no other time
@@ -57,7 +58,7 @@ SameButItems d es l k = (i : ℕ) → has i (map (λ (e : Entry). e .item) es) �
 abbrev pub RowsBut : Memory → Memory → ℕ → Type 0
 RowsBut m n r = (i : ℕ) → (i ≡ r → ⊥) → rowAt (n .txns .table) i ≡ rowAt (m .txns .table) i
 
--- turn, values, stamps, places and the block sent last are as they were
+-- turn, values, stamps, classes, places and the block sent last are as they were
 pub record TurnKept (m n : Memory) : Type 0 where
   pub turn : n .turn ≡ m .turn
   pub store : n .store ≡ m .store
@@ -131,6 +132,7 @@ pub record WorkFrame (m n : Memory) : Type 0 where
   pub places : SameBut 0 (placeStart (m .counts .replicas) (m .turn .slot)) 1 (m .blocks .places) (n .blocks .places)
   pub values : SameButItems (pos 0) (writesetAt (blockAtTurn m) (m .counts .done) .entries) (m .store .values) (n .store .values)
   pub stamps : SameButItems 0 (writesetAt (blockAtTurn m) (m .counts .done) .entries) (m .store .stamps) (n .store .stamps)
+  pub classes : n .store .classes ≡ m .store .classes
   pub rows : (i : ℕ) → (rowAt (n .txns .table) i ≡ rowAt (m .txns .table) i) ⊎ (rowAt (n .txns .table) i ≡ closed)
   pub items : n .txns .items ≡ m .txns .items
   pub writes : n .txns .writes ≡ m .txns .writes
@@ -153,3 +155,5 @@ pub record Frames : Type 0 where
   pub sends : (m : Memory) (block : List ℕ) → SendFrame m (step m (send block) .memory)
   pub delivers : (m : Memory) (bytes : List ℕ) → DeliverFrame m (step m (deliver bytes) .memory) (headerOf bytes .slot)
   pub works : (m : Memory) → WorkFrame m (step m work .memory)
+  -- a load the classes
+  pub loads : (m : Memory) (classes : List ℕ) → let n = step m (load classes) .memory in n ≡ withClasses m (n .store .classes)

@@ -9,13 +9,13 @@ use lib.ListN.{length, getD}
 use Rattle.memory.specs.Memory.{Memory}
 use Rattle.engine.specs.declared.Report.{Report}
 use Rattle.engine.specs.Calls.{Answer, Step, numberOf, Outcome}
-use Rattle.engine.specs.Calls.Answer.{refused, made, began, got, wrote, queued, readOnly, withdrew, reported, sent, kept, worked, restarted}
+use Rattle.engine.specs.Calls.Answer.{refused, made, began, got, wrote, queued, readOnly, withdrew, reported, sent, kept, worked, loaded, restarted}
 use Rattle.engine.specs.Make.{madeMemory}
 use Rattle.engine.specs.Client.{reportOf}
 use Rattle.engine.specs.Moves.{waiting, without}
 use Rattle.engine.specs.Step.{Call, step, after}
 use Rattle.engine.specs.Restart.{blocksIn, highestOwn, ownWritesets, repeated, restartedMemory, restartStep}
-use Rattle.engine.specs.Step.Call.{begin, read, write, ask, withdraw, report, send, deliver, work}
+use Rattle.engine.specs.Step.Call.{begin, read, write, ask, withdraw, report, send, deliver, work, load}
 
 pub record Tally : Type 0 where
   pub turn : ℕ
@@ -85,6 +85,7 @@ counted own t (worked s) = record {
   aborted = t .aborted + length (s .aborted);
   withdrawn = t .withdrawn;
 }
+counted own t loaded = t
 counted own t (restarted c b) = t
 
 unfoldable pub tally : ℕ → Tally → Memory → List Call → Tally
@@ -150,6 +151,7 @@ askedTicket report = 0
 askedTicket (send b) = 0
 askedTicket (deliver b) = 0
 askedTicket work = 0
+askedTicket (load l) = 0
 
 -- the tickets asked and not yet sent, in the order asked, after one more call and its answer; `made` and `restarted` answer none
 unfoldable pub pendingAfter : List ℕ → Call → Answer → List ℕ
@@ -165,6 +167,7 @@ pendingAfter l c (reported r) = l
 pendingAfter l c (sent b) = []
 pendingAfter l c kept = l
 pendingAfter l c (worked s) = without (s .aborted) l
+pendingAfter l c loaded = l
 pendingAfter l c (restarted k b) = []
 
 unfoldable pub pending : List ℕ → Memory → List Call → List ℕ

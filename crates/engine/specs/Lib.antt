@@ -1,14 +1,16 @@
--- The calls at a replica, in the order of reading: what a call answers, a replica just made, the calls of a client, the calls that move the turn,
--- all of them as data, and a restart.
+-- The calls at a replica, in the order of reading: what a call answers, a replica just made, the calls that move the turn, classes and their load,
+-- the calls of a client, all of them as data, and a restart.
 pub mod Calls
 pub mod Make
-pub mod Client
 pub mod Moves
+pub mod Classes
+pub mod Client
 pub mod Step
 pub mod Restart
 pub mod Worked
 pub mod Frames
 pub mod Shape
+pub mod OneClass
 pub mod Claims
 pub mod Sent
 pub mod History

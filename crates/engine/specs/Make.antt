@@ -30,7 +30,7 @@ countsFor n own = record {
   withdrawn = 0;
 }
 
--- turn, counts and stamps 0, places empty, marks off, the starting values
+-- turn, counts and stamps 0, places empty, marks off, the starting values; no table of classes is loaded
 unfoldable pub madeMemory : ℕ → ℕ → List ℤ → Memory
 madeMemory n own values = record {
   turn = turnZero;
@@ -42,7 +42,7 @@ madeMemory n own values = record {
     writes = replicate 48 (pos 0);
     snapshots = replicate 768 (pos 0);
   };
-  store = record { values = values; stamps = replicate 128 0 };
+  store = record { values = values; stamps = replicate 128 0; classes = replicate 128 0 };
   blocks = record { places = replicate (512 * n) 0; outbox = replicate 512 0 };
 }
 
@@ -57,7 +57,8 @@ slicesFit m =
     && (eqb (length (m .txns .items)) 48
     && (eqb (length (m .txns .writes)) 48
     && (eqb (length (m .txns .snapshots)) 768
-    && (eqb (length (m .store .values)) 128 && (eqb (length (m .store .stamps)) 128 && eqb (length (m .blocks .outbox)) 512)))))
+    && (eqb (length (m .store .values)) 128
+    && (eqb (length (m .store .stamps)) 128 && (eqb (length (m .store .classes)) 128 && eqb (length (m .blocks .outbox)) 512))))))
 
 unfoldable pub partsFit : Memory → ℕ → Bool
 partsFit m n = slicesFit m && placesFit (m .blocks .places) n

@@ -261,7 +261,7 @@ commitWriteset m mine w =
         writes = x .writes;
         snapshots = x .snapshots;
       };
-      store = record { values = applied es (m .store .values); stamps = stamped n es (m .store .stamps) };
+      store = record { values = applied es (m .store .values); stamps = stamped n es (m .store .stamps); classes = m .store .classes };
       blocks = cond (isLast m) (turnBlocks m) (m .blocks);
     })
 

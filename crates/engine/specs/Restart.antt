@@ -53,7 +53,11 @@ pub record Replayed : Type 0 where
 abbrev pub commitOne : Replayed → Record → Replayed
 commitOne r w = record {
   commits = bump (r .commits);
-  store = record { values = applied (w .entries) (r .store .values); stamps = stamped (bump (r .commits)) (w .entries) (r .store .stamps) };
+  store = record {
+    values = applied (w .entries) (r .store .values);
+    stamps = stamped (bump (r .commits)) (w .entries) (r .store .stamps);
+    classes = r .store .classes;
+  };
 }
 
 unfoldable pub commitAll : Replayed → List Record → Replayed
@@ -65,7 +69,7 @@ commitBlocks r [] = r
 commitBlocks r (b ∷ bs) = commitBlocks (commitAll r (writesetsIn b)) bs
 
 abbrev pub startReplay : List ℤ → Replayed
-startReplay values = record { commits = 0; store = record { values = values; stamps = replicate 128 0 } }
+startReplay values = record { commits = 0; store = record { values = values; stamps = replicate 128 0; classes = replicate 128 0 } }
 
 -- ---- the replica's own blocks
 
@@ -97,7 +101,7 @@ repeated own bs = ownWritesets own bs - highestOwn own bs
 
 -- ---- the call
 
--- the blocks committed and nothing else there: tickets up to the highest in own blocks are given, all own writesets committed; aborted is the highest
+-- the blocks committed and nothing else there, also no table of classes: tickets up to the highest in own blocks are given, all own writesets committed; aborted is the highest
 -- ticket less these, 0 where they are more, which is so only where a ticket stands twice
 unfoldable pub restartedMemory : ℕ → ℕ → List ℤ → List (List ℕ) → Memory
 restartedMemory n own values bs = record {

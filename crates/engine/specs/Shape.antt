@@ -8,7 +8,7 @@ use lib.ListN.{length, getD, replicate}
 use Rattle.block.specs.Answers.{blockRefusal, headerOf}
 use Rattle.memory.specs.Memory.{Memory, maxTickets, maxSlots}
 use Rattle.memory.specs.Rows.{closed, openCount, rowOf, rowAt, writeCount, itemsOf, has}
-use Rattle.memory.specs.Turns.{blockIn, isEmpty}
+use Rattle.memory.specs.Turns.{isOn, blockIn, isEmpty}
 use Rattle.engine.specs.Make.{madeMemory}
 use Rattle.engine.specs.Moves.{waiting, blockAtTurn}
 use Rattle.engine.specs.Step.{Call, step, after}
@@ -22,6 +22,7 @@ pub record Lengths (m : Memory) : Type 0 where
   pub snapshots : length (m .txns .snapshots) ≡ 768
   pub values : length (m .store .values) ≡ 128
   pub stamps : length (m .store .stamps) ≡ 128
+  pub classes : length (m .store .classes) ≡ 128
   pub places : length (m .blocks .places) ≡ 512 * m .counts .replicas
   pub outbox : length (m .blocks .outbox) ≡ 512
 
@@ -61,7 +62,8 @@ pub record QueueShape (m : Memory) : Type 0 where
   pub queued : (r : ℕ) → r < 6 → rowAt (m .txns .table) r .stage ≡ 1 → has (rowAt (m .txns .table) r .ticket) (waiting (m .txns .queue)) ≡ true
   pub once : (j k : ℕ) → j < k → k < length (waiting (m .txns .queue)) → getD (m .txns .queue) j 0 ≡ getD (m .txns .queue) k 0 → ⊥
 
--- a block that waits is an accepted one, for its slot and this group; writesets done are fewer than the block at the turn has
+-- a block that waits is an accepted one, for its slot and this group; writesets done are fewer than the block at the turn has; with the applying mark on one is done, so that
+-- one at least is left
 pub record PlaceShape (m : Memory) : Type 0 where
   pub waits : (s : ℕ) → m .turn .slot ≤ s → s < m .turn .slot + m .counts .replicas
       → isEmpty (m .counts .replicas) s (m .blocks .places) ≡ false
@@ -70,6 +72,7 @@ pub record PlaceShape (m : Memory) : Type 0 where
       × (headerOf (blockIn (m .counts .replicas) s (m .blocks .places)) .replicas ≡ m .counts .replicas)
   pub done : 0 < m .counts .done
       → (isEmpty (m .counts .replicas) (m .turn .slot) (m .blocks .places) ≡ false) × (m .counts .done < getD (blockAtTurn m) 3 0)
+  pub applying : isOn (m .turn .applying) ≡ true → 0 < m .counts .done
 
 pub record Shape (over : ℕ) (m : Memory) : Type 0 where
   pub lengths : Lengths m

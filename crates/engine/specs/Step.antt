@@ -4,10 +4,11 @@ use mathlib.Core.List.{List, [], _∷_}
 use lib.IntN.{ℤ}
 use Rattle.memory.specs.Memory.{Memory}
 use Rattle.engine.specs.Calls.{Outcome}
+use Rattle.engine.specs.Classes.{loadRefusal, loadStep}
 use Rattle.engine.specs.Client.{rowNo, freeNo, beginRefusal, beginStep, readRefusal, readStep, writeRefusal, writeStep, askRefusal, askStep, withdrawRefusal, withdrawStep, reportStep}
 use Rattle.engine.specs.Moves.{sendRefusal, sendStep, deliverRefusal, deliverStep, workRefusal, workStep}
 
--- tickets, items, values, the lent block of a send and the bytes of a deliver are any
+-- tickets, items, values, the lent block of a send, the bytes of a deliver and the classes of a load are any
 pub data Call : Type 0 where
   begin : Call
   read : ℕ → ℕ → Call
@@ -18,6 +19,7 @@ pub data Call : Type 0 where
   send : List ℕ → Call
   deliver : List ℕ → Call
   work : Call
+  load : List ℕ → Call
 
 unfoldable pub step : Memory → Call → Outcome
 step m begin = beginStep m
@@ -29,6 +31,7 @@ step m report = reportStep m
 step m (send block) = sendStep m block
 step m (deliver bytes) = deliverStep m bytes
 step m work = workStep m
+step m (load classes) = loadStep m classes
 
 -- the first refusal of each call's list that holds, 0 where none does
 unfoldable pub refusalOf : Memory → Call → ℕ
@@ -41,6 +44,7 @@ refusalOf m report = 0
 refusalOf m (send block) = sendRefusal m block
 refusalOf m (deliver bytes) = deliverRefusal m bytes
 refusalOf m work = workRefusal m
+refusalOf m (load classes) = loadRefusal m classes
 
 -- the memory that a list of calls leaves
 unfoldable pub after : Memory → List Call → Memory

@@ -4,7 +4,7 @@ use mathlib.Core.Path.{_≡_}
 use mathlib.Core.Bool.{Bool, true, false}
 use mathlib.Core.List.{List, [], _∷_, _++_, map}
 use lib.IntN.{ℤ, pos}
-use lib.ListN.{replicate, drop}
+use lib.ListN.{replicate, drop, set}
 use Rattle.block.specs.Message.{Message}
 use Rattle.block.specs.Bytes.{blockOf}
 use Rattle.block.specs.Worked.{WorkedBlocks, exampleCommit}
@@ -13,7 +13,7 @@ use Rattle.engine.specs.Calls.{Answer, numberOf}
 use Rattle.engine.specs.Calls.Answer.{began, got, sent, kept, worked}
 use Rattle.engine.specs.Make.{madeMemory, makeStep}
 use Rattle.engine.specs.Step.{Call, step}
-use Rattle.engine.specs.Step.Call.{begin, read, write, ask, withdraw, send, deliver, work}
+use Rattle.engine.specs.Step.Call.{begin, read, write, ask, withdraw, send, deliver, work, load}
 
 -- what each call of a list answers, one after the other
 unfoldable pub answers : Memory → List Call → List Answer
@@ -68,6 +68,27 @@ ownBlock = blockOf (record {
 abbrev pub sendTwo : List Call
 sendTwo = begin ∷ begin ∷ write 1 5 (pos 7) ∷ write 2 6 (pos 8) ∷ ask 2 ∷ ask 1 ∷ send (replicate 512 0) ∷ []
 
+-- items 6 and 8 in class 2, item 9 in class 3, all others in class 1
+abbrev pub threeClasses : List ℕ
+threeClasses = set (set (set (replicate 128 1) 6 2) 8 2) 9 3
+
+-- a *tocommit* of replica 1 of 3, for slot 1: tickets 1, 2 and 3 write items 5, 6 and 7
+abbrev pub threeWritesets : List ℕ
+threeWritesets = blockOf (record {
+  kind = 2;
+  sender = 1;
+  replicas = 3;
+  slot = 1;
+  records = record { ticket = 1; entries = record { item = 5; value = pos 50 } ∷ [] }
+      ∷ record { ticket = 2; entries = record { item = 6; value = pos 60 } ∷ [] }
+      ∷ record { ticket = 3; entries = record { item = 7; value = pos 70 } ∷ [] }
+      ∷ [];
+})
+
+-- the calls by which replica 0 of 3, with those classes and an item of class 1 held by ticket 2, comes to that block
+abbrev pub toThree : List Call
+toThree = load threeClasses ∷ begin ∷ begin ∷ write 2 40 (pos 1) ∷ send (replicate 512 0) ∷ deliver (nextBlock 3 0 0) ∷ work ∷ deliver threeWritesets ∷ []
+
 pub record WorkedCases : Type 0 where
   pub blocks : WorkedBlocks
   pub size-1 : makeNumber 1 ≡ 2
@@ -98,4 +119,10 @@ pub record WorkedCases : Type 0 where
   -- brings no second block for the slot
   pub early : numbers (fresh 3 0) (deliver (nextBlock 3 2 2) ∷ work ∷ []) ≡ 0 ∷ 21 ∷ []
   pub sent-holds : numbers (fresh 2 0) (begin ∷ begin ∷ write 1 5 (pos 7) ∷ ask 1 ∷ send (replicate 512 0) ∷ write 2 5 (pos 8) ∷ []) ≡ replicate 5 0 ++ (8 ∷ [])
+  -- document 02's Req 02: class 3 is free while items 6 and 7 are to come, class 2 once 6 is applied; an item held waits too; a load waits for the block
+  pub classes : drop 8 (numbers (fresh 3 0) (toThree
+      ++ (work ∷ write 1 9 (pos 1) ∷ write 1 8 (pos 1) ∷ write 2 40 (pos 2) ∷ load threeClasses
+      ∷ work ∷ write 1 8 (pos 1) ∷ write 2 40 (pos 2) ∷ write 1 6 (pos 1)
+      ∷ work ∷ write 2 40 (pos 2) ∷ load threeClasses ∷ load (replicate 128 9) ∷ load [] ∷ [])))
+      ≡ 0 ∷ 0 ∷ 7 ∷ 7 ∷ 23 ∷ 0 ∷ 0 ∷ 7 ∷ 9 ∷ 0 ∷ 0 ∷ 0 ∷ 2 ∷ 1 ∷ []
   pub sent-once : numbers (fresh 2 0) (send (replicate 512 0) ∷ begin ∷ write 1 5 (pos 7) ∷ ask 1 ∷ send (replicate 512 0) ∷ []) ≡ replicate 4 0 ++ (12 ∷ [])

@@ -9,3 +9,4 @@ pub mod Cursor
 pub mod Numbers
 pub mod TableLaws
 pub mod Callees
+pub mod Handed

@@ -1,4 +1,4 @@
--- One turn of each loop that writes to the table: the table so far, and with one more row done. Assumes nothing.
+-- Six rows loaded are the table itself; and one turn of each loop that writes to the table: the table so far, and with one more row done. Assumes nothing.
 use mathlib.Core.Path.{_≡_, refl, sym, ap}
 use mathlib.Core.Bool.{Bool, true, false, cond, not}
 use mathlib.Core.List.{List, [], _∷_, map}
@@ -11,7 +11,11 @@ use lib.ListN.{length, getD, set, take}
 use Rattle.memory.specs.declared.Txn.{Txn}
 use Rattle.memory.specs.Rows.{closed, endRows, rowAt}
 use Rattle.engine.specs.Moves.{sendRow}
-use Rattle.host_table.specs.Table.{withStage}
+use Rattle.host_table.specs.Table.{withStage, loaded}
+
+pub loaded-six : (t : List Txn) → length t ≡ 6 → loaded t ≡ t
+unfolding loaded
+loaded-six t h = rw (eq-eqb (length t) 6 h)
 
 -- ---- rows ended by their marks: by the first i of them
 pub ended-length : (es : List Bool) (ys : List Txn) → length (endRows es ys) ≡ length ys

@@ -18,10 +18,11 @@ pub record Transactions : Type 0 where
   pub writes : List ℤ
   pub snapshots : List ℤ
 
--- the 128 items: the value of each, and document 01's *stamp*, the commit count just after its last write
+-- the 128 items: the value of each; document 01's *stamp*, the commit count just after its last write; and document 02's *class*, 1 to 8, all 0 where no table is loaded
 pub record Store : Type 0 where
   pub values : List ℤ
   pub stamps : List ℕ
+  pub classes : List ℕ
 
 -- document 01's *places*, N blocks, the first byte 0 where one is empty; and the block sent last
 pub record Blocks : Type 0 where
@@ -141,6 +142,15 @@ withTxns m c x = record { turn = m .turn; counts = c; txns = x; store = m .store
 
 abbrev pub withBlocks : Memory → Blocks → Memory
 withBlocks m b = record { turn = m .turn; counts = m .counts; txns = m .txns; store = m .store; blocks = b }
+
+abbrev pub withClasses : Memory → List ℕ → Memory
+withClasses m l = record {
+  turn = m .turn;
+  counts = m .counts;
+  txns = m .txns;
+  store = record { values = m .store .values; stamps = m .store .stamps; classes = l };
+  blocks = m .blocks;
+}
 
 abbrev pub withTurn : Memory → Turn → Counts → Blocks → Memory
 withTurn m t c b = record { turn = t; counts = c; txns = m .txns; store = m .store; blocks = b }

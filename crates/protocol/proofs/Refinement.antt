@@ -11,7 +11,7 @@ use Rattle.protocol.specs.Writesets.{Message}
 use Rattle.protocol.specs.Replica.{Setup, Cursor, Replica, Event, refused, Outcome}
 use Rattle.protocol.specs.Journal.{Journal, Cut, journalAfter, appended}
 use Rattle.protocol.specs.Observer.{Observed, Placed, Handout, observedAfter, handoutsAfter, sequence}
-use Rattle.protocol.specs.System.{Call, begin, read, write, ask, withdraw, report, send, deliver, work, restart, HandedOut, step, appends, Lent, made, PlacesApart}
+use Rattle.protocol.specs.System.{Call, begin, read, write, ask, withdraw, report, send, deliver, work, load, restart, HandedOut, step, appends, Lent, made, PlacesApart}
 use Rattle.protocol.specs.Machine.{Alike, Performed, Refines, refuses, follows, Machine, CommandClaim, MachineSystem, CommandAt, freshSystem, appendedBy, afterCommand, runCommands, CommandLent, CommandPremise, systemOf, CommandClaims, MachineTheorem}
 use Rattle.protocol.proofs.Tracking.{Tracked}
 use Rattle.protocol.proofs.OpenLaws.{open-sub, queue-same}
@@ -66,6 +66,7 @@ module _ {X : Type 0} (S : Setup X) where
     refusal-claim F D p k (some send) c n = tt
     refusal-claim F D p k (some (deliver m)) c n = tt
     refusal-claim F D p k (some work) c n = λ s u a q. let z : _≡_ {A = ℕ} 0 1 = cc in absurd (let w : ⊥ = omega arith in w)
+    refusal-claim F D p k (some load) c n = tt
     refusal-claim F D p k (some (restart l)) c n = tt
 
     module _ (A : PlacesApart S) where

@@ -12,6 +12,7 @@ use Rattle.memory.specs.Rows.{writeCount}
 use Rattle.engine.specs.declared.Report.{Report}
 use Rattle.engine.specs.Calls.{Answer, Outcome, outcome, unless}
 use Rattle.engine.specs.Calls.Answer.{refused}
+use Rattle.engine.specs.Classes.{loadRefusal, loadStep}
 use Rattle.engine.specs.Client.{rowIn, isOwn, beginRow, beginRefusal, beginAt, readRow, readRefusal, writeRow, writeRefusal, staleAt, rewriteAt, insertWrite, askRow, askRefusal, readOnlyAt, queueAt, withdrawRow, withdrawRefusal, withdrawAt, reportStep}
 use Rattle.engine.specs.Moves.{deliverRefusal, deliverNow, deliverStep}
 use Rattle.call_reply.specs.declared.BeginReply.{BeginReply}
@@ -122,6 +123,10 @@ module _ (lent : List ℕ) where
   pub bare-deliver : (m : Memory) (bytes : List ℕ) → Bare (deliverStep m bytes)
   unfolding deliverStep deliverNow
   bare-deliver m bytes = unless-by Bare (deliverRefusal m bytes) m _ (record { numbers = refl; values = refl; block = refl; change = refl }) (λ e. bare-refused _ m)
+
+  pub bare-load : (m : Memory) (classes : List ℕ) → Bare (loadStep m classes)
+  unfolding loadStep
+  bare-load m classes = unless-by Bare (loadRefusal m classes) m _ (record { numbers = refl; values = refl; block = refl; change = refl }) (λ e. bare-refused _ m)
 
 -- ---- calls that give numbers or a value where they are accepted
 

@@ -8,6 +8,7 @@ use lib.ListN.{replicate}
 use Rattle.memory.specs.Memory.{Memory}
 use Rattle.engine.specs.Calls.{Outcome}
 use Rattle.engine.specs.Make.{makeStep}
+use Rattle.engine.specs.Classes.{loadStep}
 use Rattle.engine.specs.Client.{beginStep, readStep, writeStep, askStep, withdrawStep, reportStep}
 use Rattle.engine.specs.Moves.{sendStep, deliverStep, workStep}
 use Rattle.engine.specs.Restart.{restartStep}
@@ -40,10 +41,6 @@ module _ (c : Call) (replica : Replica) (p : Played) (bytes lent : List ℕ) whe
   unfolding played
   run-read e h = rw e (h (placesSize (replica .counts .replicas)) lent)
 
-  pub run-write : c .letter ≡ 87 → Client (λ (m : Memory). writeStep m (c .first) (c .second) (c .value)) → Runs lent
-  unfolding played
-  run-write e h = rw e (h (placesSize (replica .counts .replicas)) lent)
-
   pub run-ask : c .letter ≡ 67 → Client (λ (m : Memory). askStep m (c .first)) → Runs lent
   unfolding played
   run-ask e h = rw e (h (placesSize (replica .counts .replicas)) lent)
@@ -65,6 +62,10 @@ module _ (c : Call) (replica : Replica) (p : Played) (bytes lent : List ℕ) whe
   AtPlaces step =
       (block : List ℕ) → Plays (placesSize (replica .counts .replicas)) replica p block (effect block (step (memoryOf (placesSize (replica .counts .replicas)) replica)))
 
+  pub run-write : c .letter ≡ 87 → AtPlaces (λ (m : Memory). writeStep m (c .first) (c .second) (c .value)) → Runs lent
+  unfolding played
+  run-write e h = rw e (h lent)
+
   pub run-deliver : (c .letter ≡ 68) ⊎ ((c .letter ≡ 70) ⊎ (c .letter ≡ 72)) → AtPlaces (λ (m : Memory). deliverStep m bytes) → Runs lent
   unfolding played
   run-deliver (inl e) h = rw e (h lent)
@@ -84,6 +85,10 @@ module _ (c : Call) (replica : Replica) (p : Played) (bytes lent : List ℕ) whe
   unfolding played
   run-restart left e h = rw e h
 
+  pub run-load : c .letter ≡ 80 → Client (λ (m : Memory). loadStep m bytes) → Runs lent
+  unfolding played
+  run-load e h = rw e (h (placesSize (replica .counts .replicas)) lent)
+
   pub run-show : (left : List ℕ) → c .letter ≡ 74 → ((size : ℕ) → Plays size replica p left (show bytes lent (memoryOf size replica))) → Runs left
   unfolding played
   run-show left e h = rw e (h (placesSize (replica .counts .replicas)))
@@ -91,11 +96,11 @@ module _ (c : Call) (replica : Replica) (p : Played) (bytes lent : List ℕ) whe
   -- any other letter
   pub run-look : (c .letter ≡ 77 → ⊥) → (c .letter ≡ 66 → ⊥) → (c .letter ≡ 82 → ⊥) → (c .letter ≡ 87 → ⊥) → (c .letter ≡ 67 → ⊥) → (c .letter ≡ 88 → ⊥)
       → (c .letter ≡ 81 → ⊥) → (c .letter ≡ 83 → ⊥) → ((c .letter ≡ 68) ⊎ ((c .letter ≡ 70) ⊎ (c .letter ≡ 72)) → ⊥) → (c .letter ≡ 75 → ⊥)
-      → (c .letter ≡ 89 → ⊥) → (c .letter ≡ 74 → ⊥)
+      → (c .letter ≡ 89 → ⊥) → (c .letter ≡ 80 → ⊥) → (c .letter ≡ 74 → ⊥)
       → ((size : ℕ) (block : List ℕ) → Plays size replica p block (look block (memoryOf size replica)))
       → Runs lent
   unfolding played
-  run-look a b d e f g i j k l n o h =
+  run-look a b d e f g i j k l n q o h =
       rw (
         ne-eqb (c .letter) 77 a,
         ne-eqb (c .letter) 89 n,
@@ -110,6 +115,7 @@ module _ (c : Call) (replica : Replica) (p : Played) (bytes lent : List ℕ) whe
         ne-eqb (c .letter) 70 (λ x. k (inr (inl x))),
         ne-eqb (c .letter) 72 (λ x. k (inr (inr x))),
         ne-eqb (c .letter) 75 l,
+        ne-eqb (c .letter) 80 q,
         ne-eqb (c .letter) 74 o,
       )
       (h (placesSize (replica .counts .replicas)) lent)

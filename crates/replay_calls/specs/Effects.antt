@@ -13,8 +13,9 @@ use Rattle.memory.specs.Memory.{Memory}
 use Rattle.memory.specs.Rows.{closed}
 use Rattle.engine.specs.declared.Report.{Report}
 use Rattle.engine.specs.Calls.{Step, Answer, numberOf, Outcome}
-use Rattle.engine.specs.Calls.Answer.{refused, made, began, got, wrote, queued, readOnly, withdrew, reported, sent, kept, worked, restarted}
+use Rattle.engine.specs.Calls.Answer.{refused, made, began, got, wrote, queued, readOnly, withdrew, reported, sent, kept, worked, loaded, restarted}
 use Rattle.engine.specs.Make.{makeStep}
+use Rattle.engine.specs.Classes.{loadStep}
 use Rattle.engine.specs.Client.{beginStep, readStep, writeStep, askStep, withdrawStep, reportStep}
 use Rattle.engine.specs.Moves.{sendStep, deliverStep, workStep}
 use Rattle.engine.specs.Restart.{restartStep}
@@ -38,7 +39,7 @@ placesSize n = 512 * min n 6
 -- the memory that a call is lent: of the bytes for places the first `size`
 abbrev pub memoryOf : ℕ → Replica → Memory
 memoryOf size r =
-    allParts (r .turn) (r .counts) (r .rows) (r .queue) (r .items) (r .writes) (r .snapshots) (r .values) (r .stamps) (take size (r .places)) (r .outbox)
+    allParts (r .turn) (r .counts) (r .rows) (r .queue) (r .items) (r .writes) (r .snapshots) (r .values) (r .stamps) (r .classes) (take size (r .places)) (r .outbox)
 
 -- a make and a restart are lent the places of the group that they name, any other call those of the replica's own
 abbrev pub sizeLent : Call → Counts → ℕ
@@ -56,6 +57,7 @@ withRow replica counts r t = record {
   snapshots = replica .snapshots;
   values = replica .values;
   stamps = replica .stamps;
+  classes = replica .classes;
   places = replica .places;
   outbox = replica .outbox;
 }
@@ -72,6 +74,7 @@ withMade replica r = record {
   snapshots = replica .snapshots;
   values = replica .values;
   stamps = replica .stamps;
+  classes = replica .classes;
   places = replica .places;
   outbox = replica .outbox;
 }
@@ -97,6 +100,7 @@ numbersOf wrote = []
 numbersOf withdrew = []
 numbersOf (sent b) = []
 numbersOf kept = []
+numbersOf loaded = []
 numbersOf (restarted c b) = c ∷ []
 
 abbrev pub valuesOf : Answer → List ℤ
@@ -112,6 +116,7 @@ valuesOf wrote = []
 valuesOf withdrew = []
 valuesOf (sent b) = []
 valuesOf kept = []
+valuesOf loaded = []
 valuesOf (restarted c b) = []
 
 -- ---- what becomes of the journal
@@ -131,6 +136,7 @@ changeOf readOnly = Stays
 changeOf withdrew = Stays
 changeOf (reported r) = Stays
 changeOf kept = Stays
+changeOf loaded = Stays
 
 -- ---- calls
 
@@ -182,8 +188,9 @@ played c bytes lent m =
     (cond (eqb (c .letter) 68 || (eqb (c .letter) 70 || eqb (c .letter) 72)) {- D, F, H -} (effect lent (deliverStep m bytes))
     (cond (eqb (c .letter) 75) {- K -} (effect lent (withBlock lent workStep m))
     (cond (eqb (c .letter) 89) {- Y -} (effect lent (restartStep m (c .first) (c .second) (replicate 128 (c .value)) bytes lent))
+    (cond (eqb (c .letter) 80) {- P -} (effect lent (loadStep m bytes))
     (cond (eqb (c .letter) 74) {- J -} (show bytes lent m)
-    (look lent m))))))))))))
+    (look lent m)))))))))))))
 
 -- ---- what the program has of it
 

@@ -3,10 +3,12 @@ ghost use Prim.Native.Nat.{ℕ};
 ghost use mathlib.Core.Path.{_≡_};
 ghost use mathlib.Core.List.{List};
 ghost use lib.ListN.{set};
+ghost use Rattle.engine.specs.Classes.{loadStep};
 ghost use Rattle.engine.specs.Client.{beginStep, readStep, writeStep, askStep, withdrawStep, reportStep};
-ghost use Rattle.replay_calls.specs.Effects.{memoryOf, withRow, effect, Plays};
+ghost use Rattle.replay_calls.specs.Effects.{placesSize, memoryOf, withRow, effect, Plays};
 use super::Played;
 use super::Replica;
+use super::moves::places_size;
 use super::results::accepted;
 use super::results::bare;
 use super::results::flag;
@@ -76,7 +78,7 @@ pub fn read(replica: Replica, ticket: u32, item: u32) -> Played
 }
 
 pub fn write(replica: Replica, ticket: u32, item: u32, value: i32) -> Played
-    ensures { λ r. ⌜ ((size : ℕ) (lent : List ℕ) → Plays size replica r lent (effect lent (writeStep (memoryOf size replica) ticket item value))) ⌝ }
+    ensures { λ r. ⌜ ((lent : List ℕ) → Plays (placesSize (replica .counts .replicas)) replica r lent (effect lent (writeStep (memoryOf (placesSize (replica .counts .replicas)) replica) ticket item value))) ⌝ }
 {
     let turn = replica.turn;
     let rows = replica.rows;
@@ -84,6 +86,9 @@ pub fn write(replica: Replica, ticket: u32, item: u32, value: i32) -> Played
     let mut items = replica.items;
     let mut writes = replica.writes;
     let stamps = replica.stamps;
+    let classes = replica.classes;
+    let places = replica.places;
+    let size = places_size(counts.replicas as u32);
     let at = row_of(rows, ticket);
     let changed = call_write::write(
         at,
@@ -93,6 +98,8 @@ pub fn write(replica: Replica, ticket: u32, item: u32, value: i32) -> Played
         &mut items,
         &mut writes,
         &stamps,
+        &classes,
+        &places[..size],
         item,
         value,
     );
@@ -164,4 +171,16 @@ pub fn report(replica: Replica) -> Played
         ],
         Change::Stays,
     )
+}
+
+// The bytes as the table of classes.
+pub fn load(replica: Replica, bytes: &[u8]) -> Played
+    ensures { λ r. ⌜ ((size : ℕ) (lent : List ℕ) → Plays size replica r lent (effect lent (loadStep (memoryOf size replica) (now (bytes .entry))))) ⌝ }
+{
+    let turn = replica.turn;
+    let mut classes = replica.classes;
+    let number = call_classes::load_classes(turn, &mut classes, bytes);
+    let mut after = replica;
+    after.classes = classes;
+    bare(after, number, Change::Stays)
 }

@@ -20,6 +20,7 @@ pub struct Replica {
     pub snapshots: [i32; 768],
     pub values: [i32; 128],
     pub stamps: [u32; 128],
+    pub classes: [u8; 128],
     pub places: [u8; 3072],
     pub outbox: [u8; 512],
 }
@@ -67,6 +68,7 @@ pub fn nobody() -> Replica {
         snapshots: [0; 768],
         values: [0; 128],
         stamps: [0; 128],
+        classes: [0; 128],
         places: [0; 3072],
         outbox: [0; 512],
     }

@@ -29,7 +29,7 @@ use memory::Txn;
 use replay_journal::Change;
 
 // How many of the bytes for places a group of n uses.
-fn places_size(n: u32) -> usize
+pub fn places_size(n: u32) -> usize
     ensures { λ r. ⌜ (r ≡ placesSize n) × (r ≤ 3072) ⌝ }
 {
     if n < 6 { 512 * (n as usize) } else { 3072 }
@@ -73,6 +73,7 @@ pub fn restart(
     let mut snapshots = replica.snapshots;
     let mut values = replica.values;
     let mut stamps = replica.stamps;
+    let mut classes = replica.classes;
     let mut places = replica.places;
     let mut outbox = replica.outbox;
     let restarted = call_restart::restart(
@@ -85,6 +86,7 @@ pub fn restart(
         &mut snapshots,
         &mut values,
         &mut stamps,
+        &mut classes,
         &mut places[..size],
         &mut outbox,
         journal,
@@ -97,6 +99,7 @@ pub fn restart(
     after.snapshots = snapshots;
     after.values = values;
     after.stamps = stamps;
+    after.classes = classes;
     after.places = places;
     after.outbox = outbox;
     let reply = restarted.reply;

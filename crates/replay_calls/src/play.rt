@@ -53,6 +53,7 @@ pub fn run(call: Call, replica: Replica, bytes: &[u8], block: &mut [u8]) -> Play
             bytes,
             &mut *block,
         ),
+        b'P' => client::load(replica, bytes),
         b'J' => show(replica, bytes, &mut *block),
         _ => shown(replica),
     }

@@ -143,19 +143,20 @@ module _ (line : List ℕ) (end : ℕ) (c : Call) where
   pub bytes-are : end < length line → getD line end 0 ≡ 32 → withDigits c (length line - (end + 1)) ≡ bytesBehind c (drop end line)
   bytes-are h e = rw (text-at line end h, eq-eqb (getD line end 0) 32 e, length-drop (end + 1) line)
 
-  pub end-bytes : (c .letter ≡ 72) ⊎ (c .letter ≡ 89) → bytesBehind c (drop end line) ≡ atEnd c (drop end line)
+  pub end-bytes : (c .letter ≡ 72) ⊎ ((c .letter ≡ 80) ⊎ (c .letter ≡ 89)) → bytesBehind c (drop end line) ≡ atEnd c (drop end line)
   unfolding atEnd
   end-bytes (inl e) = rw e
-  end-bytes (inr e) = rw e
+  end-bytes (inr (inl e)) = rw e
+  end-bytes (inr (inr e)) = rw e
 
-  module _ (other : (c .letter ≡ 72) ⊎ (c .letter ≡ 89) → ⊥) where
+  module _ (other : (c .letter ≡ 72) ⊎ ((c .letter ≡ 80) ⊎ (c .letter ≡ 89)) → ⊥) where
     pub end-not : end < length line → noCall ≡ atEnd c (drop end line)
     unfolding atEnd
-    end-not h = rw (ne-eqb (c .letter) 72 (λ e. other (inl e)), ne-eqb (c .letter) 89 (λ e. other (inr e)), text-at line end h)
+    end-not h = rw (ne-eqb (c .letter) 72 (λ e. other (inl e)), ne-eqb (c .letter) 80 (λ e. other (inr (inl e))), ne-eqb (c .letter) 89 (λ e. other (inr (inr e))), text-at line end h)
 
     pub end-is : length line ≤ end → c ≡ atEnd c (drop end line)
     unfolding atEnd
-    end-is h = rw (ne-eqb (c .letter) 72 (λ e. other (inl e)), ne-eqb (c .letter) 89 (λ e. other (inr e)), text-past line end h)
+    end-is h = rw (ne-eqb (c .letter) 72 (λ e. other (inl e)), ne-eqb (c .letter) 80 (λ e. other (inr (inl e))), ne-eqb (c .letter) 89 (λ e. other (inr (inr e))), text-past line end h)
 
 -- ---- the replica's place
 
@@ -336,11 +337,15 @@ module _ (letter : ℕ) (text : List ℕ) where
   behind-bare (inr (inr (inr (inr (inl e))))) = rw e
   behind-bare (inr (inr (inr (inr (inr e))))) = rw e
 
+  pub behind-load : letter ≡ 80 → atEnd (callWith letter 0 0 (pos 0)) text ≡ callBehind letter text
+  unfolding callBehind
+  behind-load e = rw e
+
   pub behind-none : ((letter ≡ 77) ⊎ ((letter ≡ 87) ⊎ (letter ≡ 89)) → ⊥) → ((letter ≡ 70) ⊎ (letter ≡ 82) → ⊥)
-      → ((letter ≡ 67) ⊎ ((letter ≡ 74) ⊎ (letter ≡ 88)) → ⊥) → (letter ≡ 68 → ⊥) → (letter ≡ 90 → ⊥) → (Bare → ⊥)
+      → ((letter ≡ 67) ⊎ ((letter ≡ 74) ⊎ (letter ≡ 88)) → ⊥) → (letter ≡ 68 → ⊥) → (letter ≡ 90 → ⊥) → (Bare → ⊥) → (letter ≡ 80 → ⊥)
       → noCall ≡ callBehind letter text
   unfolding callBehind
-  behind-none a b d g e f =
+  behind-none a b d g e f p =
       rw (
         ne-eqb letter 77 (λ x. a (inl x)),
         ne-eqb letter 87 (λ x. a (inr (inl x))),
@@ -355,6 +360,7 @@ module _ (letter : ℕ) (text : List ℕ) where
         ne-eqb letter 66 (λ x. f (inl x)),
         ne-eqb letter 72 (λ x. f (inr (inl x))),
         ne-eqb letter 75 (λ x. f (inr (inr (inl x)))),
+        ne-eqb letter 80 p,
         ne-eqb letter 81 (λ x. f (inr (inr (inr (inl x))))),
         ne-eqb letter 83 (λ x. f (inr (inr (inr (inr (inl x)))))),
         ne-eqb letter 86 (λ x. f (inr (inr (inr (inr (inr x)))))),

@@ -40,9 +40,9 @@ unhex (a ∷ (b ∷ rest)) = hexPair a b ∷ unhex rest
 abbrev pub isHexText : ℕ → List ℕ → Bool
 isHexText most digits = leb (length digits) (2 * most) && isHex digits
 
--- H writes out at most 520 bytes, Y 2,100
+-- H writes out at most 520 bytes, P 130, Y 2,100
 abbrev pub mostBytes : ℕ → ℕ
-mostBytes letter = cond (eqb letter 72) 520 2_100
+mostBytes letter = cond (eqb letter 72) 520 (cond (eqb letter 80) 130 2_100)
 
 -- the digits that end the line
 abbrev pub digitsOf : Call → List ℕ → List ℕ

@@ -92,9 +92,9 @@ abbrev pub nothingBehind : Call → List ℕ → Call
 nothingBehind c [] = c
 nothingBehind c (b ∷ text) = noCall
 
--- H and Y end in bytes, any other call in nothing
+-- H, P and Y end in bytes, any other call in nothing
 unfoldable pub atEnd : Call → List ℕ → Call
-atEnd c text = cond (eqb (c .letter) 72 || eqb (c .letter) 89) (bytesBehind c text) (nothingBehind c text)
+atEnd c text = cond (eqb (c .letter) 72 || (eqb (c .letter) 80 || eqb (c .letter) 89)) (bytesBehind c text) (nothingBehind c text)
 
 abbrev pub then : {A : Type 0} → Field A → (A → List ℕ → Call) → Call
 then none f = noCall
@@ -117,9 +117,9 @@ numbersAndValue letter text =
     then (readNumber rest) (λ (b : ℕ) (more : List ℕ).
     then (readValue more) (λ (v : ℤ) (end : List ℕ). atEnd (callWith letter a b v) end)))
 
--- B, H, K, Q, S, V: no number
+-- B, H, K, P, Q, S, V: no number
 abbrev pub isBare : ℕ → Bool
-isBare letter = eqb letter 66 || (eqb letter 72 || (eqb letter 75 || (eqb letter 81 || (eqb letter 83 || eqb letter 86))))
+isBare letter = eqb letter 66 || (eqb letter 72 || (eqb letter 75 || (eqb letter 80 || (eqb letter 81 || (eqb letter 83 || eqb letter 86)))))
 
 -- the call by its letter, with the text behind its replica
 unfoldable pub callBehind : ℕ → List ℕ → Call

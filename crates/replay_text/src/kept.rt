@@ -149,7 +149,11 @@ fn copied_but(block: &[u8], bit: u32) -> Delivery
 fn most_bytes(letter: u8) -> usize
     ensures { λ r. ⌜ (r ≡ mostBytes letter) × (r ≤ 2100) ⌝ }
 {
-    if letter == b'H' { 520 } else { 2100 }
+    match letter {
+        b'H' => 520,
+        b'P' => 130,
+        _ => 2100,
+    }
 }
 
 // The bytes of the digits that end the line.

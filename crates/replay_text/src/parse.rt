@@ -157,7 +157,7 @@ fn at_end(line: &[u8], end: usize, call: Call) -> Call
 {
     let letter = call.letter;
     match letter {
-        b'H' | b'Y' => with_bytes(line, end, call),
+        b'H' | b'P' | b'Y' => with_bytes(line, end, call),
         _ => {
             if end < line.len() {
                 return no_call();
@@ -250,6 +250,7 @@ pub fn call_of(line: &[u8]) -> Call
         b'D' => with_one(line, letter),
         b'Z' => with_one_value(line, letter),
         b'B' | b'H' | b'K' | b'Q' | b'S' | b'V' => at_end(line, 3, made(letter, 0, 0, 0)),
+        b'P' => at_end(line, 3, made(letter, 0, 0, 0)),
         _ => no_call(),
     }
 }

@@ -2,6 +2,7 @@
 //! bytes. The second model is written for clarity; this is what the library's speed is held to. A
 //! test holds it to the model.
 
+mod classes;
 mod client;
 mod restart;
 mod turn;
@@ -36,6 +37,8 @@ pub struct Replica {
     rows: [Row; OPEN],
     values: [i32; ITEMS],
     stamps: [u32; ITEMS],
+    /// All 0 where no table is loaded.
+    classes: [u8; ITEMS],
     /// The first byte is 0 where no block waits.
     places: [[u8; BLOCK]; 6],
     outbox: [u8; BLOCK],
@@ -123,6 +126,7 @@ impl Replica {
             rows: [Row::FREE; OPEN],
             values: *values,
             stamps: [0; ITEMS],
+            classes: [0; ITEMS],
             places: [[0; BLOCK]; 6],
             outbox: [0; BLOCK],
         })

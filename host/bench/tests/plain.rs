@@ -105,6 +105,7 @@ fn play(replica: &mut plain::Replica, call: &Call, journal: &mut Vec<u8>) -> Res
                 aborted: work.aborted[..work.count].to_vec(),
             })
         }),
+        Call::Load { ref classes } => replica.load(classes).map(|()| Answer::Done),
     }
 }
 
@@ -139,7 +140,7 @@ fn plain_and_model_give_the_same() {
         run(seed, style, SLOTS - 60, MAX_TICKET - 60, &mut seen);
     }
     // No list of calls leads to 22.
-    let due: Vec<usize> = (1..22).collect();
+    let due: Vec<usize> = (1..24).filter(|&number| number != 22).collect();
     assert_eq!(seen.numbers(20), due, "{seen:?}");
     assert!(seen.restarts > 1_000, "{seen:?}");
 }

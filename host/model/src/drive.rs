@@ -190,7 +190,7 @@ impl<S: Subject> Group<S> {
     }
 }
 
-/// A call that is about the replica's own transactions.
+/// A call that is about the replica's own transactions, or loads a table of classes.
 pub fn local_call(random: &mut Random, tally: &Tally, style: Style) -> Call {
     let last = tally.report.tickets;
     let ticket = if random.below(20) == 0 || tally.open.is_empty() {
@@ -217,6 +217,9 @@ pub fn local_call(random: &mut Random, tally: &Tally, style: Style) -> Call {
             value,
         },
         92..96 => Call::Withdraw { ticket },
-        _ => Call::Report,
+        96..98 => Call::Report,
+        _ => Call::Load {
+            classes: samples::classes(random),
+        },
     }
 }

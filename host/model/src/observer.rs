@@ -1,5 +1,5 @@
 //! An observer of a whole group: document 01's sheet ("The sheet beside the group"), with the restarts
-//! of document 02, Req 01.
+//! of document 02, Req 01. The loads of Req 02 change nothing on it.
 //!
 //! It is fed replica, call and answer of each call and nothing else, and says which sentences of
 //! document 01's demand 3 the group breaks. For tests: its memory and the time of a check grow with
@@ -133,7 +133,8 @@ impl Observer {
             (Call::Deliver { bytes }, Answer::Done) => {
                 self.premise &= self.blocks.contains(bytes.as_slice());
             }
-            (Call::Withdraw { .. }, Answer::Done) | (Call::Report, Answer::Report(_)) => {}
+            (Call::Withdraw { .. } | Call::Load { .. }, Answer::Done)
+            | (Call::Report, Answer::Report(_)) => {}
             _ => panic!("{answer:?} is no answer to {call:?}"),
         }
     }

@@ -1,8 +1,9 @@
-//! The numbers that refuse a call: document 01's table ("Answers when a call is turned away").
+//! The numbers that refuse a call: document 01's table ("Answers when a call is turned away"), and 23
+//! of document 02.
 
 pub use crate::block::{WRONG_CHECK, WRONG_FORM, WRONG_LENGTH};
 
-/// N, own number or item out of range.
+/// N, own number, item or class out of range.
 pub const OUT_OF_RANGE: u8 = 2;
 /// No open transaction has this ticket.
 pub const NOT_OPEN: u8 = 3;
@@ -12,7 +13,8 @@ pub const NOT_ACTIVE: u8 = 4;
 pub const ALL_OPEN: u8 = 5;
 /// 100,000,000 tickets are given.
 pub const TICKETS_SPENT: u8 = 6;
-/// A block of another replica is committed in part.
+/// A block of another replica is committed in part, and a writeset still to come has an item of the
+/// item's class.
 pub const APPLYING: u8 = 7;
 /// Another open transaction holds the item.
 pub const LOCKED: u8 = 8;
@@ -40,3 +42,5 @@ pub const SLOT_TAKEN: u8 = 20;
 pub const NOTHING_WAITS: u8 = 21;
 /// An own writeset whose ticket is not open as sent.
 pub const NOT_OPEN_AS_SENT: u8 = 22;
+/// A load of classes while a block of another replica is committed in part.
+pub const LOAD_WHILE_APPLYING: u8 = 23;

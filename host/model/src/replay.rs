@@ -20,6 +20,7 @@
 //! | `Z k b v` | restart from the first b bytes of the journal, with the N and own number that the replica has, all 128 values v | `0 c` and a block: c the blocks committed, and the block given back |
 //! | `Y k n own v hex` | restart from these bytes as journal, all 128 values v | as `Z` |
 //! | `J k i` | block i, from 0, of the journal | `0` and the block |
+//! | `P k hex` | load: these bytes as the classes of the items | `0` |
 //!
 //! The journal of a place holds what was appended there: by `S` its block, by `K` that of another
 //! whose slot it left; after an accepted `M` it is empty, after an accepted `Z` or `Y` it is the c
@@ -35,8 +36,8 @@
 //! - A number that is not written as it would be printed: with a plus sign, a zero in front, `-0`,
 //!   or out of range. k is 0 to 5, b of `F` 0 to 4095; n, own, tickets, items, b of `Z` and i are any
 //!   32-bit unsigned numbers, v any 32-bit signed one.
-//! - Bytes that are not lowercase, not whole, or more than 520, in `Y` more than 2,100. None are
-//!   written as an empty field: the line ends in the space.
+//! - Bytes that are not lowercase, not whole, or more than 520, in `Y` more than 2,100, in `P` more than
+//!   130. None are written as an empty field: the line ends in the space.
 //! - A call other than `M` and `Y` at a place where no replica is made. A refused one of these makes
 //!   none, and leaves one that is there as it is; an accepted one puts a new one in its place.
 //! - `D` and `F` of a block that is not kept. Accepted sends count from 0 over the whole run, at
@@ -67,6 +68,8 @@ pub const KEPT: usize = 64;
 pub const MAX_BYTES: usize = 520;
 /// The most bytes in a line that restarts from them.
 pub const MAX_JOURNAL: usize = 2_100;
+/// The most bytes in a line that loads them.
+pub const MAX_TABLE: usize = 130;
 
 /// Prints the answer to every line of the input.
 pub fn run(mut input: impl BufRead, mut output: impl Write) -> io::Result<()> {

@@ -1,10 +1,12 @@
-//! A replica and its calls: [`Replica::make`], [`Replica::restart`] from a journal, and the nine that
-//! a made replica takes, the client's in `client` and those that move the turn in `turn`.
+//! A replica and its calls: [`Replica::make`], [`Replica::restart`] from a journal, and the ten that
+//! a made replica takes, the client's in `client`, those that move the turn in `turn`, and the load of
+//! conflict classes in `classes`.
 //!
 //! A refused call gives the number of [`crate::refusal`] whose condition is the first to hold, in
 //! the order that the call's comment names, and changes nothing. Only a write refused by 9 changes
 //! something: its transaction ends as aborted.
 
+mod classes;
 mod client;
 mod restart;
 mod turn;
@@ -20,6 +22,8 @@ pub use self::restart::Restarted;
 pub const ITEMS: usize = 128;
 /// The most open transactions. A block has room for all their writesets.
 pub const OPEN: usize = RECORDS;
+/// The highest class of an item; the lowest is 1.
+pub const CLASSES: u8 = 8;
 /// The turn once every slot is processed.
 pub const SLOTS: u32 = MAX_SLOT + 1;
 
@@ -30,6 +34,8 @@ pub struct Replica {
     pub values: [i32; ITEMS],
     /// Per item the commit count just after its last write (document 01's stamps).
     pub stamps: [u32; ITEMS],
+    /// Per item its class, 1 to 8; all 0 where no table is loaded, and so all of one class.
+    pub classes: [u8; ITEMS],
     pub commits: u32,
     /// The slot that is processed next (document 01's turn).
     pub turn: u32,
@@ -111,6 +117,7 @@ impl Replica {
             own: own as u8,
             values,
             stamps: [0; ITEMS],
+            classes: [0; ITEMS],
             commits: 0,
             turn: 0,
             outbox: None,

@@ -4,6 +4,7 @@ use crate::block::{
     self, Entry, Message, Record, BLOCK, ENTRIES, MAX_ITEM, MAX_SLOT, MAX_TICKET, NEXT, RECORDS,
     TO_COMMIT,
 };
+use crate::replica::{CLASSES, ITEMS};
 
 /// A small deterministic generator (splitmix64): the same seed gives the same numbers on every
 /// machine.
@@ -192,6 +193,22 @@ fn ticket(random: &mut Random) -> u32 {
 pub fn value(random: &mut Random) -> i32 {
     let any = random.bits() as i32;
     random.pick(&[0, 1, -1, 65_535, 65_536, i32::MIN, i32::MAX, any, any, any])
+}
+
+/// A table of classes: most often one that a load takes, of one class, a few or all.
+pub fn classes(random: &mut Random) -> Vec<u8> {
+    let count = random.pick(&[1, 2, 2, 3, CLASSES, CLASSES]);
+    let first = 1 + random.below(usize::from(CLASSES - count) + 1) as u8;
+    let class = |_| first + random.below(usize::from(count)) as u8;
+    let mut table: Vec<u8> = (0..ITEMS).map(class).collect();
+    if random.below(12) == 0 {
+        table[random.below(ITEMS)] = random.pick(&[0, CLASSES + 1, 255]);
+    }
+    if random.below(12) == 0 {
+        let length = random.pick(&[0, 1, ITEMS - 1, ITEMS + 1, ITEMS + 2]);
+        table.resize(length, 1);
+    }
+    table
 }
 
 /// Changes one bit.

@@ -15,6 +15,7 @@ pub enum Call {
     Send,
     Deliver { bytes: Vec<u8> },
     Work,
+    Load { classes: Vec<u8> },
 }
 
 /// What a restart is lent. The journal may have any length.
@@ -29,7 +30,7 @@ pub struct Restart {
 /// The answer to an accepted call.
 #[derive(Clone, Debug, PartialEq, Eq)]
 pub enum Answer {
-    /// Write, withdraw, deliver: accepted, and no more.
+    /// Write, withdraw, deliver, load: accepted, and no more.
     Done,
     /// Begin.
     Ticket(u32),
@@ -69,6 +70,10 @@ impl Replica {
                 Answer::Done
             }
             Call::Work => Answer::Work(self.work()?),
+            Call::Load { ref classes } => {
+                self.load(classes)?;
+                Answer::Done
+            }
         })
     }
 

@@ -2,11 +2,13 @@
 //! [`crate::replay`]. It is the same on every machine.
 
 mod cases;
+mod classes;
 mod malformed;
 mod random;
 mod refusals;
 mod restarts;
 mod story;
+mod worked;
 
 use crate::replay::{hex, Replay};
 use crate::replica::Replica;
@@ -17,6 +19,8 @@ pub fn calls() -> Vec<u8> {
     without_restarts(&mut list);
     restarts::all(&mut list);
     random::with_cuts(&mut list);
+    classes::all(&mut list);
+    random::with_tables(&mut list);
     list.lines()
 }
 

@@ -55,7 +55,7 @@ pub enum Failure {
 impl Durable {
     /// Opens replica `own` of `n` from its journal, with the group's values to start with; with no
     /// file, or an empty one, it is a new replica. What a cut tore is cut off the file. The last own
-    /// block goes to every replica of the group once more. Refused by 2.
+    /// block goes to every replica of the group once more. No classes are loaded. Refused by 2.
     ///
     /// A cut tears at most the blocks up to the next own slot, `n` at most, since that one's is made
     /// durable before anything follows. A file with more behind its last good block is left as it is, with
@@ -125,6 +125,11 @@ impl Durable {
     /// As [`Replica::withdraw`].
     pub fn withdraw(&mut self, ticket: u32) -> Result<(), Failure> {
         Ok(self.going()?.withdraw(ticket)?)
+    }
+
+    /// As [`Replica::load`]. No journal keeps the classes: they are to be loaded after every open.
+    pub fn load(&mut self, classes: &[u8]) -> Result<(), Failure> {
+        Ok(self.going()?.load(classes)?)
     }
 
     /// As [`Replica::send`]; the block, and all that the journal has before it, is durable.

@@ -1,5 +1,5 @@
-//! The static library as Rust sees it: its structs, and its eleven functions as safe ones over slices,
-//! parameter by parameter those of `crates/replica/src/lib.rt`. `host/include/stemline_calls.h` says the
+//! The static library as Rust sees it: its structs, and its twelve functions as safe ones over slices,
+//! parameter by parameter those of `crates/replica_make`, `replica_client` and `replica_turn`. `host/include/stemline_calls.h` says the
 //! same in C; tests compare the layouts, and the parameters of all three.
 //!
 //! Most hosts want [`crate::Replica`], which owns what the functions are lent.
@@ -168,7 +168,7 @@ calls! {
     fn make = stemline_make(
         table: mut [Txn], turn: &mut Turn, counts: &mut Counts, n: u32, own: u32, start: ref [i32],
         queue: mut [u32], items: mut [u8], writes: mut [i32], snapshots: mut [i32],
-        values: mut [i32], stamps: mut [u32], places: mut [u8], outbox: mut [u8]
+        values: mut [i32], stamps: mut [u32], classes: mut [u8], places: mut [u8], outbox: mut [u8]
     ) -> u8;
 
     /// As a make; then the blocks of the journal are committed, up to the first that is torn, fails its
@@ -177,7 +177,7 @@ calls! {
     fn restart = stemline_restart(
         table: mut [Txn], turn: &mut Turn, counts: &mut Counts, n: u32, own: u32, start: ref [i32],
         queue: mut [u32], items: mut [u8], writes: mut [i32], snapshots: mut [i32],
-        values: mut [i32], stamps: mut [u32], places: mut [u8], outbox: mut [u8],
+        values: mut [i32], stamps: mut [u32], classes: mut [u8], places: mut [u8], outbox: mut [u8],
         journal: ref [u8], block: mut [u8]
     ) -> RestartReply;
 
@@ -195,7 +195,8 @@ calls! {
     /// Puts an item and its value into a writeset. Refused by 1, 2, 3, 4, 7, 8, 9, 10.
     fn write = stemline_write(
         table: mut [Txn], turn: &Turn, counts: &mut Counts, ticket: u32, items: mut [u8],
-        writes: mut [i32], stamps: ref [u32], item: u32, value: i32
+        writes: mut [i32], stamps: ref [u32], classes: ref [u8], places: ref [u8], item: u32,
+        value: i32
     ) -> u8;
 
     /// Requests commit. Refused by 1, 3, 4.
@@ -226,4 +227,7 @@ calls! {
         table: mut [Txn], turn: &mut Turn, counts: &mut Counts, queue: mut [u32], items: ref [u8],
         values: mut [i32], stamps: mut [u32], places: mut [u8], block: mut [u8]
     ) -> WorkReply;
+
+    /// Puts the 128 classes given, each 1 to 8, in the place of those there. Refused by 1, 2, 23.
+    fn load = stemline_load(turn: &Turn, classes: mut [u8], given: ref [u8]) -> u8;
 }

@@ -1,8 +1,8 @@
 //! A replica of the proved engine, for Rust.
 //!
-//! [`Replica`] has document 01's ten calls and document 02's restart. A refused call gives a [`Refusal`]
-//! and changes nothing, but for [`Refusal::Stale`], which ends its transaction. A group has 2 to 6
-//! replicas, numbered from 0; each holds 128 values, of the items 0 to 127.
+//! [`Replica`] has document 01's ten calls and document 02's restart and load. A refused call gives a
+//! [`Refusal`] and changes nothing, but for [`Refusal::Stale`], which ends its transaction. A group has 2
+//! to 6 replicas, numbered from 0; each holds 128 values, of the items 0 to 127.
 //!
 //! Who has several replicas moves the blocks. Slot s belongs to replica s mod n, and only its owner may
 //! send for it: when [`Replica::is_turn`] holds, what [`Replica::send`] gives goes to every replica of
@@ -61,8 +61,10 @@ pub const SLOTS: u32 = 100_000_000;
 pub const TABLE: usize = 6;
 /// Tickets of the queue: those asked and not yet sent.
 pub const QUEUE: usize = 6;
-/// Items of a replica, numbered from 0; as many values, stamps and values to start with.
+/// Items of a replica, numbered from 0; as many values, stamps, classes and values to start with.
 pub const ITEMS: usize = 128;
+/// Conflict classes of items, numbered from 1.
+pub const CLASSES: u8 = 8;
 /// Written items of all rows, 8 for each; as many values beside them.
 pub const WRITTEN: usize = 48;
 /// Values of all snapshots, 128 for each row.
@@ -162,6 +164,7 @@ impl Replica {
             &mut m.snapshots,
             &mut m.values,
             &mut m.stamps,
+            &mut m.classes,
             &mut m.places,
             &mut m.outbox,
         );
@@ -171,7 +174,7 @@ impl Replica {
     /// As [`Replica::new`], with the group's values to start with; then commits the blocks of a
     /// journal, up to the first that is torn, fails its check or form, has another `n` or is not of the
     /// next slot. Transactions that were open are gone; tickets go on above the highest in its own
-    /// blocks. Refused by 2; the journal may have any length.
+    /// blocks; classes are to be loaded anew. Refused by 2; the journal may have any length.
     ///
     /// Before the block given back is handed out, the journal is cut behind the blocks committed and
     /// made durable.
@@ -197,6 +200,7 @@ impl Replica {
             &mut m.snapshots,
             &mut m.values,
             &mut m.stamps,
+            &mut m.classes,
             &mut m.places,
             &mut m.outbox,
             journal,
@@ -211,7 +215,7 @@ impl Replica {
     }
 
     /// A replica of a memory that was taken from one before. Where its places have another length
-    /// than its counts say, deliver and work are refused by 1.
+    /// than its counts say, write, deliver and work are refused by 1.
     pub fn from_memory(memory: Memory) -> Replica {
         Replica {
             memory: Box::new(memory),
@@ -245,7 +249,9 @@ impl Replica {
         accepted(reply.number, reply.value)
     }
 
-    /// Puts the item with its value into the writeset and locks it. Refused by 2, 3, 4, 7, 8, 9, 10.
+    /// Puts the item with its value into the writeset and locks it. While a block of another is applied,
+    /// 7 if an item of its class is still to come (see [`Replica::load`]). Refused by 1, 2, 3, 4, 7, 8,
+    /// 9, 10.
     #[inline]
     pub fn write(&mut self, ticket: u32, item: u32, value: i32) -> Result<(), Refusal> {
         let m = &mut *self.memory;
@@ -257,6 +263,8 @@ impl Replica {
             &mut m.items,
             &mut m.writes,
             &m.stamps,
+            &m.classes,
+            &m.places,
             item,
             value,
         );
@@ -354,6 +362,16 @@ impl Replica {
             append: reply.append.then(|| Box::new(block)),
         };
         accepted(reply.number, work)
+    }
+
+    /// Gives each of the 128 items a conflict class, 1 to [`CLASSES`], in the place of the ones that it
+    /// had. While a block of another is applied, writeset by writeset, only items wait (7) whose class
+    /// holds an item of a writeset still to be applied. After [`Replica::new`] and after
+    /// [`Replica::restart`] all items are of one class. Classes are the host's own matter: they go into no
+    /// block and no journal, and each replica of a group may have others. Refused by 1, 2, 23.
+    pub fn load(&mut self, classes: &[u8]) -> Result<(), Refusal> {
+        let m = &mut *self.memory;
+        accepted(ffi::load(&m.turn, &mut m.classes, classes), ())
     }
 
     /// What a replica does with a block that arrives: delivers it, then works until nothing waits for the

@@ -21,6 +21,8 @@ pub struct Memory {
     pub values: [i32; ITEMS],
     /// Per item the commit count just after its last write.
     pub stamps: [u32; ITEMS],
+    /// Per item its conflict class, 1 to 8; all 0 where no table is loaded, and so all of one class.
+    pub classes: [u8; ITEMS],
     /// The block that waits at each place, 512 bytes for each replica; its first byte is 0 where none
     /// waits.
     pub places: Box<[u8]>,
@@ -41,6 +43,7 @@ impl Memory {
             queue: [0; QUEUE],
             values: [0; ITEMS],
             stamps: [0; ITEMS],
+            classes: [0; ITEMS],
             places: vec![0; BLOCK * n].into_boxed_slice(),
             outbox: [0; BLOCK],
         }

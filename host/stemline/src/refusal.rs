@@ -3,7 +3,7 @@
 use std::num::NonZeroU8;
 use std::{error, fmt};
 
-/// Why a call is refused: one case for each number of document 01's table.
+/// Why a call is refused: one case for each number of document 01's table, and of document 02.
 ///
 /// Both `{}` and `{:?}` write the words and the number, so that a `main` that gives it back by `?` ends
 /// in `Error: the block's check does not match (14)`.
@@ -33,20 +33,21 @@ pub enum Refusal {
     SlotTaken,
     NothingWaits,
     NotOpenAsSent,
+    LoadWhileApplying,
     /// A number that the table does not have: the library is newer than this crate.
     Unknown(u8),
 }
 
 /// The cases in the order of their numbers, from 1 on, and what each says; `stemline_words` of the C
 /// header says the same.
-const TABLE: [(Refusal, &str); 22] = [
+const TABLE: [(Refusal, &str); 23] = [
     (
         Refusal::WrongLength,
         "a lent slice has not its exact length",
     ),
     (
         Refusal::OutOfRange,
-        "the number of replicas, the own number or the item is out of range",
+        "the number of replicas, the own number, the item or a class is out of range",
     ),
     (Refusal::NotOpen, "no open transaction has this ticket"),
     (
@@ -57,7 +58,7 @@ const TABLE: [(Refusal, &str); 22] = [
     (Refusal::TicketsSpent, "all 100,000,000 tickets are given"),
     (
         Refusal::Applying,
-        "a block of another replica is being applied",
+        "a block of another replica is being applied, with items of this one's class still to come",
     ),
     (Refusal::Locked, "another open transaction holds the item"),
     (
@@ -95,6 +96,10 @@ const TABLE: [(Refusal, &str); 22] = [
         Refusal::NotOpenAsSent,
         "an own writeset whose transaction is not open as sent",
     ),
+    (
+        Refusal::LoadWhileApplying,
+        "classes are loaded while a block of another replica is being applied",
+    ),
 ];
 
 impl Refusal {
@@ -112,7 +117,7 @@ impl Refusal {
         known.map_or(Refusal::Unknown(number.get()), |&(refusal, _)| refusal)
     }
 
-    /// The number in document 01's table.
+    /// The number in the documents.
     pub fn number(self) -> u8 {
         match self {
             Refusal::Unknown(number) => number,
@@ -157,7 +162,7 @@ mod tests {
         for number in 1..=u8::MAX {
             let refusal = Refusal::from_number(number).unwrap();
             assert_eq!(refusal.number(), number);
-            assert_eq!(matches!(refusal, Refusal::Unknown(_)), number > 22);
+            assert_eq!(matches!(refusal, Refusal::Unknown(_)), number > 23);
         }
     }
 
@@ -165,9 +170,9 @@ mod tests {
     fn words() {
         let words = |number| Refusal::from_number(number).unwrap().to_string();
         assert_eq!(words(14), "the block's check does not match (14)");
-        assert_eq!(words(23), "refused by an unknown number (23)");
-        let said: Vec<String> = (1..=23).map(words).collect();
-        assert!((1..23).all(|at| !said[..at].contains(&said[at])));
+        assert_eq!(words(24), "refused by an unknown number (24)");
+        let said: Vec<String> = (1..=24).map(words).collect();
+        assert!((1..24).all(|at| !said[..at].contains(&said[at])));
         let boxed: Box<dyn error::Error> = Box::new(Refusal::Stale);
         assert!(boxed.to_string().ends_with("(9)"));
         // What std prints of a main that ends in an error.
@@ -175,7 +180,7 @@ mod tests {
         assert_eq!(said, "Error: the block's check does not match (14)");
     }
 
-    /// By the table of document 01.
+    /// By the table of document 01, and document 02.
     #[test]
     fn cases_by_number() {
         assert_eq!(Refusal::from_number(1), Some(Refusal::WrongLength));
@@ -183,5 +188,6 @@ mod tests {
         assert_eq!(Refusal::from_number(13), Some(Refusal::SlotsSpent));
         assert_eq!(Refusal::from_number(21), Some(Refusal::NothingWaits));
         assert_eq!(Refusal::from_number(22), Some(Refusal::NotOpenAsSent));
+        assert_eq!(Refusal::from_number(23), Some(Refusal::LoadWhileApplying));
     }
 }

@@ -21,16 +21,16 @@ use Rattle.call_make.proofs.make.Tie as tie
 abbrev before : tie.Start → Turn → Counts → List Txn → Memory
 before s turn counts rows =
     let a = s .args in
-    allParts turn counts rows (a .queue .now) (a .items .now) (a .writes .now) (a .snapshots .now) (a .values .now) (a .stamps .now) (a .places .now) (a .outbox .now)
+    allParts turn counts rows (a .queue .now) (a .items .now) (a .writes .now) (a .snapshots .now) (a .values .now) (a .stamps .now) (a .classes .now) (a .places .now) (a .outbox .now)
 
 -- the number is the refusal's
 said : (c : tie.After-refusal) (turn : Turn) (counts : Counts) (rows : List Txn)
-    → let s = c .before .before .before .before .before .before .before .before in c .refusal .result ≡ makeRefusal (before s turn counts rows) (s .args .n) (s .args .own) (s .args .start .now)
+    → let s = c .before .before .before .before .before .before .before .before .before in c .refusal .result ≡ makeRefusal (before s turn counts rows) (s .args .n) (s .args .own) (s .args .start .now)
 unfolding placesFit
 said c turn counts rows =
     let f = c .before in
     let p = f .before in
-    let s = p .before .before .before .before .before .before in
+    let s = p .before .before .before .before .before .before .before in
     c .refusal .ensures (before s turn counts rows) (s .args .start .now) refl (sym (p .parts-fit .ensures)) (sym (f .places-fit .ensures))
 
 parts-fit-requires : tie.Need-parts-fit-requires
@@ -48,7 +48,7 @@ answer-requires c κs = search needs
 returns : tie.Need-returns
 returns c =
     let r = c .before .before in
-    let s = r .before .before .before .before .before .before .before .before in
+    let s = r .before .before .before .before .before .before .before .before .before in
     let k = r .refusal .result in
     let no = c .before .if1 .taken in
     rw (c .answer .ensures) (
@@ -81,29 +81,32 @@ clear-bytes-requires-2 c κs = search needs
 clear-bytes-requires-3 : tie.Need-clear-bytes-requires-3
 clear-bytes-requires-3 c κs = search needs
 
+clear-bytes-requires-4 : tie.Need-clear-bytes-requires-4
+clear-bytes-requires-4 c κs = search needs
+
 -- what is known once the make is not refused
-taken : (c : tie.Else1) → let s = c .before .before .before .before .before .before .before .before .before in Given (before s turnZero (countsFor 0 0) []) (s .args .n) (s .args .own) (s .args .start .now)
+taken : (c : tie.Else1) → let s = c .before .before .before .before .before .before .before .before .before .before in Given (before s turnZero (countsFor 0 0) []) (s .args .n) (s .args .own) (s .args .start .now)
 taken c =
     let r = c .before in
-    let s = r .before .before .before .before .before .before .before .before in
+    let s = r .before .before .before .before .before .before .before .before .before in
     given (before s turnZero (countsFor 0 0) []) (s .args .n) (s .args .own) (s .args .start .now) (sym (said r turnZero (countsFor 0 0) []) ∙ c .if1 .left)
 
 cast-answer : tie.Need-cast-answer
-cast-answer c = omega (arith, taken (c .before .before .before .before .before .before .before .before .before .before .before .before .before .before .before .before .before .before .before .before .before .before .before .before .before .before .before .before .before) .most)
+cast-answer c = omega (arith, taken (c .before .before .before .before .before .before .before .before .before .before .before .before .before .before .before .before .before .before .before .before .before .before .before .before .before .before .before .before .before .before .before .before .before) .most)
 
 cast-answer-2 : tie.Need-cast-answer-2
 cast-answer-2 c =
-    let g = taken (c .before .before .before .before .before .before .before .before .before .before .before .before .before .before .before .before .before .before .before .before .before .before .before .before .before .before .before .before .before) in
+    let g = taken (c .before .before .before .before .before .before .before .before .before .before .before .before .before .before .before .before .before .before .before .before .before .before .before .before .before .before .before .before .before .before .before .before .before) in
     omega (arith, g .most, g .own-low)
 
 answer-requires-2 : tie.Need-answer-requires-2
 answer-requires-2 c κs = search needs
 
 same-length : tie.Need-same-length
-same-length c = c .before .before .before .before .before .before .before .before .before .before .before .before .before .before .before .before .before .before .before .before .before .before .before .before .before .before .before .before .clear-numbers .kept .0
+same-length c = c .before .before .before .before .before .before .before .before .before .before .before .before .before .before .before .before .before .before .before .before .before .before .before .before .before .before .before .before .before .before .before .before .clear-numbers .kept .0
 
 same-length-2 : tie.Need-same-length-2
-same-length-2 c = c .before .before .before .before .before .before .before .before .before .before .before .before .before .before .before .before .before .before .before .before .before .before .before .before .clear-bytes .kept .0
+same-length-2 c = c .before .before .before .before .before .before .before .before .before .before .before .before .before .before .before .before .before .before .before .before .before .before .before .before .before .before .before .before .clear-bytes .kept .0
 
 same-length-3 : tie.Need-same-length-3
 same-length-3 c = search needs
@@ -123,11 +126,15 @@ same-length-7 c = search needs
 same-length-8 : tie.Need-same-length-8
 same-length-8 c = search needs
 
+same-length-9 : tie.Need-same-length-9
+same-length-9 c = search needs
+
 returns-2 : tie.Need-returns-2
 returns-2 c =
     let o = c .before .before .before in
     let pl = o .before .before .before .before in
-    let st = pl .before .before .before .before in
+    let cl = pl .before .before .before .before in
+    let st = cl .before .before .before .before in
     let v = st .before .before .before in
     let n = v .before .before .before in
     let w = n .before .before .before in
@@ -135,14 +142,14 @@ returns-2 c =
     let q = i .before .before .before .before in
     let e = q .before .before in
     let r = e .before in
-    let s = r .before .before .before .before .before .before .before .before in
+    let s = r .before .before .before .before .before .before .before .before .before in
     rw (c .answer2 .ensures) (
       λ turn counts rows.
           gives number
           (make-taken (before s turn counts rows) (s .args .n) (s .args .own) (s .args .start .now) (r .refusal .result) (said r turn counts rows) (e .if1 .left)
           (q .clear-numbers .last .0) (i .clear-bytes .last .0) (w .clear-values .last .0) (n .clear-values2 .last .0) (v .copy-values .last .1 .0) (st .clear-numbers2 .last .0)
-          (pl .clear-bytes2 .last .0) (o .clear-bytes3 .last .0) (q .clear-numbers .ensures) (i .clear-bytes .ensures) (w .clear-values .ensures) (n .clear-values2 .ensures)
-          (v .copy-values .ensures) (st .clear-numbers2 .ensures) (pl .clear-bytes2 .ensures) (o .clear-bytes3 .ensures)),
+          (cl .clear-bytes2 .last .0) (pl .clear-bytes3 .last .0) (o .clear-bytes4 .last .0) (q .clear-numbers .ensures) (i .clear-bytes .ensures) (w .clear-values .ensures) (n .clear-values2 .ensures)
+          (v .copy-values .ensures) (st .clear-numbers2 .ensures) (cl .clear-bytes2 .ensures) (pl .clear-bytes3 .ensures) (o .clear-bytes4 .ensures)),
       refl,
       refl,
     )
@@ -164,6 +171,7 @@ make-spec =
     clear-numbers-requires-2
     clear-bytes-requires-2
     clear-bytes-requires-3
+    clear-bytes-requires-4
     cast-answer
     cast-answer-2
     answer-requires-2
@@ -175,4 +183,5 @@ make-spec =
     same-length-6
     same-length-7
     same-length-8
+    same-length-9
     returns-2)

@@ -22,8 +22,11 @@ returns-6 : tie.Need-returns-6
 returns-6 c = rw (eq-eqb _ 6 (c .before .before .before .before .before .if1 .left), eq-eqb _ 48 (c .before .before .before .before .if2 .left), eq-eqb _ 48 (c .before .before .before .if3 .left), eq-eqb _ 768 (c .before .before .if4 .left), eq-eqb _ 128 (c .before .if5 .left), ne-eqb _ 128 (c .if6 .taken))
 
 returns-7 : tie.Need-returns-7
-returns-7 c = rw (eq-eqb _ 6 (c .before .before .before .before .before .if1 .left), eq-eqb _ 48 (c .before .before .before .before .if2 .left), eq-eqb _ 48 (c .before .before .before .if3 .left), eq-eqb _ 768 (c .before .before .if4 .left), eq-eqb _ 128 (c .before .if5 .left), eq-eqb _ 128 (c .if6 .left))
+returns-7 c = rw (eq-eqb _ 6 (c .before .before .before .before .before .before .if1 .left), eq-eqb _ 48 (c .before .before .before .before .before .if2 .left), eq-eqb _ 48 (c .before .before .before .before .if3 .left), eq-eqb _ 768 (c .before .before .before .if4 .left), eq-eqb _ 128 (c .before .before .if5 .left), eq-eqb _ 128 (c .before .if6 .left), ne-eqb _ 128 (c .if7 .taken))
+
+returns-8 : tie.Need-returns-8
+returns-8 c = rw (eq-eqb _ 6 (c .before .before .before .before .before .before .if1 .left), eq-eqb _ 48 (c .before .before .before .before .before .if2 .left), eq-eqb _ 48 (c .before .before .before .before .if3 .left), eq-eqb _ 768 (c .before .before .before .if4 .left), eq-eqb _ 128 (c .before .before .if5 .left), eq-eqb _ 128 (c .before .if6 .left), eq-eqb _ 128 (c .if7 .left))
 
 pub parts-fit-spec : {M : Type 1} → statement M
 parts-fit-spec =
-    tie.close (tie.spec returns returns-2 returns-3 returns-4 returns-5 returns-6 returns-7)
+    tie.close (tie.spec returns returns-2 returns-3 returns-4 returns-5 returns-6 returns-7 returns-8)

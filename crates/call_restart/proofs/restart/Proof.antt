@@ -23,14 +23,14 @@ use Rattle.call_restart.proofs.restart.Tie as tie
 abbrev before : tie.Start → Turn → Counts → List Txn → Memory
 before s turn counts rows =
     let a = s .args in
-    allParts turn counts rows (a .queue .now) (a .items .now) (a .writes .now) (a .snapshots .now) (a .values .now) (a .stamps .now) (a .places .now) (a .outbox .now)
+    allParts turn counts rows (a .queue .now) (a .items .now) (a .writes .now) (a .snapshots .now) (a .values .now) (a .stamps .now) (a .classes .now) (a .places .now) (a .outbox .now)
 
 refused-requires : tie.Need-refused-requires
 refused-requires c κs = search needs
 
 returns : tie.Need-returns
 returns c =
-    let s = c .before .before .before .before .before .before .before .before .before in
+    let s = c .before .before .before .before .before .before .before .before .before .before in
     let a = s .args in
     rw (c .refused .ensures)
     (λ turn counts rows. gives-with restartReply (a .block .now) (restart-other (before s turn counts rows) (a .n) (a .own) (a .start .now) (a .journal .now) (a .block .now) (c .before .if1 .taken)))
@@ -65,31 +65,34 @@ same-length-7 c = search needs
 same-length-8 : tie.Need-same-length-8
 same-length-8 c = search needs
 
+same-length-9 : tie.Need-same-length-9
+same-length-9 c = search needs
+
 returns-2 : tie.Need-returns-2
 returns-2 c =
-    let d = c .before .before .before .before .before .before .before .before .before .before .before .before .before .before .before .before in
-    let s = d .before .before .before .before .before .before .before .before .before .before .before .before .before .before .before .before .before in
+    let d = c .before .before .before .before .before .before .before .before .before .before .before .before .before .before .before .before .before .before in
+    let s = d .before .before .before .before .before .before .before .before .before .before .before .before .before .before .before .before .before .before .before in
     let a = s .args in
     rw (c .refused2 .ensures)
     (λ turn counts rows.
     gives-with restartReply (a .block .now)
-    (restart-refused (before s turn counts rows) (a .n) (a .own) (a .start .now) (a .journal .now) (a .block .now) (d .before .before .before .before .before .before .before .before .before .if1 .left)
+    (restart-refused (before s turn counts rows) (a .n) (a .own) (a .start .now) (a .journal .now) (a .block .now) (d .before .before .before .before .before .before .before .before .before .before .if1 .left)
     (d .make .result .number) _ (d .make .ensures .0 turn counts rows) (c .before .if2 .taken) turnZero (countsFor 0 0) (replicate 6 closed)))
 
 -- what is known once the restart is not refused
-taken : (c : tie.Else2) → let s = c .before .before .before .before .before .before .before .before .before .before .before .before .before .before .before .before .before .before .before .before .before .before .before .before .before .before .before .before .before .before .before .before in Given (before s turnZero (countsFor 0 0) []) (s .args .n) (s .args .own) (s .args .start .now)
+taken : (c : tie.Else2) → let s = c .before .before .before .before .before .before .before .before .before .before .before .before .before .before .before .before .before .before .before .before .before .before .before .before .before .before .before .before .before .before .before .before .before .before .before .before in Given (before s turnZero (countsFor 0 0) []) (s .args .n) (s .args .own) (s .args .start .now)
 taken c =
-    let d = c .before .before .before .before .before .before .before .before .before .before .before .before .before .before .before in
-    let s = d .before .before .before .before .before .before .before .before .before .before .before .before .before .before .before .before .before in
+    let d = c .before .before .before .before .before .before .before .before .before .before .before .before .before .before .before .before .before in
+    let s = d .before .before .before .before .before .before .before .before .before .before .before .before .before .before .before .before .before .before .before in
     let a = s .args in
-    restart-given (before s turnZero (countsFor 0 0) []) (a .n) (a .own) (a .start .now) (a .journal .now) (a .block .now) (d .before .before .before .before .before .before .before .before .before .if1 .left)
+    restart-given (before s turnZero (countsFor 0 0) []) (a .n) (a .own) (a .start .now) (a .journal .now) (a .block .now) (d .before .before .before .before .before .before .before .before .before .before .if1 .left)
     (d .make .result .number) _ (d .make .ensures .0 turnZero (countsFor 0 0) []) (c .if2 .left)
 
 replay-requires : tie.Need-replay-requires
 replay-requires c κs = search needs
 
 give-back-requires : tie.Need-give-back-requires
-give-back-requires c κs = (c .before .before .before .before .before .before .before .before .before .before .before .before .before .before .before .before .before .before .before .before .before .before .before .before .before .before .before .before .before .before .before .if1 .left, c .before .before .before .before .replay .ensures .last-there)
+give-back-requires c κs = (c .before .before .before .before .before .before .before .before .before .before .before .before .before .before .before .before .before .before .before .before .before .before .before .before .before .before .before .before .before .before .before .before .before .before .if1 .left, c .before .before .before .before .replay .ensures .last-there)
 
 cast-answer : tie.Need-cast-answer
 cast-answer c = omega (arith, taken (c .before .before .before .before .before .before .before .before .before .before) .most)
@@ -100,42 +103,45 @@ cast-answer-2 c = let g = taken (c .before .before .before .before .before .befo
 answer-requires : tie.Need-answer-requires
 answer-requires c κs = search needs
 
-same-length-9 : tie.Need-same-length-9
-same-length-9 c = c .before .before .before .before .before .before .before .before .before .before .before .before .before .before .before .before .before .before .before .before .before .before .before .before .before .before .make .kept .1 .1 .1 .0
-
 same-length-10 : tie.Need-same-length-10
-same-length-10 c = c .before .before .before .before .before .before .before .before .before .before .before .before .before .before .before .before .before .before .before .before .before .before .before .before .before .before .make .kept .1 .1 .1 .1 .0
+same-length-10 c = c .before .before .before .before .before .before .before .before .before .before .before .before .before .before .before .before .before .before .before .before .before .before .before .before .before .before .before .before .make .kept .1 .1 .1 .0
 
 same-length-11 : tie.Need-same-length-11
-same-length-11 c = c .before .before .before .before .before .before .before .before .before .before .before .before .before .before .before .before .before .before .before .before .before .before .before .before .before .before .make .kept .1 .1 .1 .1 .1 .0
+same-length-11 c = c .before .before .before .before .before .before .before .before .before .before .before .before .before .before .before .before .before .before .before .before .before .before .before .before .before .before .before .before .make .kept .1 .1 .1 .1 .0
 
 same-length-12 : tie.Need-same-length-12
-same-length-12 c = c .before .before .before .before .before .before .before .before .before .before .before .before .before .before .before .before .before .before .before .before .before .before .before .before .before .before .make .kept .1 .1 .1 .1 .1 .1 .0
+same-length-12 c = c .before .before .before .before .before .before .before .before .before .before .before .before .before .before .before .before .before .before .before .before .before .before .before .before .before .before .before .before .make .kept .1 .1 .1 .1 .1 .0
 
 same-length-13 : tie.Need-same-length-13
-same-length-13 c =
-    let r = c .before .before .before .before .before .before .before .before in
-    let d = r .before .before .before .before .before .before .before .before .before .before .before .before .before .before .before .before .before .before in
-    let v : length (r .replay .last .1 .1 .1 .0) ≡ length (d .make .last .1 .1 .1 .1 .1 .1 .1 .0) = r .replay .kept .1 .1 .1 .0 in
-    let w : length (d .make .last .1 .1 .1 .1 .1 .1 .1 .0) ≡ length (d .before .before .before .before .before .before .before .before .before .before .before .before .before .before .before .before .before .args .values .now) = d .make .kept .1 .1 .1 .1 .1 .1 .1 .0 in
-    v ∙ w
+same-length-13 c = c .before .before .before .before .before .before .before .before .before .before .before .before .before .before .before .before .before .before .before .before .before .before .before .before .before .before .before .before .make .kept .1 .1 .1 .1 .1 .1 .0
 
 same-length-14 : tie.Need-same-length-14
 same-length-14 c =
     let r = c .before .before .before .before .before .before .before .before in
-    let d = r .before .before .before .before .before .before .before .before .before .before .before .before .before .before .before .before .before .before in
-    let v : length (r .replay .last .1 .1 .1 .1 .0) ≡ length (d .make .last .1 .1 .1 .1 .1 .1 .1 .1 .0) = r .replay .kept .1 .1 .1 .1 .0 in
-    let w : length (d .make .last .1 .1 .1 .1 .1 .1 .1 .1 .0) ≡ length (d .before .before .before .before .before .before .before .before .before .before .before .before .before .before .before .before .before .args .stamps .now) = d .make .kept .1 .1 .1 .1 .1 .1 .1 .1 .0 in
+    let d = r .before .before .before .before .before .before .before .before .before .before .before .before .before .before .before .before .before .before .before .before in
+    let v : length (r .replay .last .1 .1 .1 .0) ≡ length (d .make .last .1 .1 .1 .1 .1 .1 .1 .0) = r .replay .kept .1 .1 .1 .0 in
+    let w : length (d .make .last .1 .1 .1 .1 .1 .1 .1 .0) ≡ length (d .before .before .before .before .before .before .before .before .before .before .before .before .before .before .before .before .before .before .before .args .values .now) = d .make .kept .1 .1 .1 .1 .1 .1 .1 .0 in
     v ∙ w
 
 same-length-15 : tie.Need-same-length-15
-same-length-15 c = c .before .before .before .before .before .before .before .before .before .before .before .before .before .before .before .before .before .before .before .before .before .before .before .before .before .before .make .kept .1 .1 .1 .1 .1 .1 .1 .1 .1 .0
+same-length-15 c =
+    let r = c .before .before .before .before .before .before .before .before in
+    let d = r .before .before .before .before .before .before .before .before .before .before .before .before .before .before .before .before .before .before .before .before in
+    let v : length (r .replay .last .1 .1 .1 .1 .0) ≡ length (d .make .last .1 .1 .1 .1 .1 .1 .1 .1 .0) = r .replay .kept .1 .1 .1 .1 .0 in
+    let w : length (d .make .last .1 .1 .1 .1 .1 .1 .1 .1 .0) ≡ length (d .before .before .before .before .before .before .before .before .before .before .before .before .before .before .before .before .before .before .before .args .stamps .now) = d .make .kept .1 .1 .1 .1 .1 .1 .1 .1 .0 in
+    v ∙ w
 
 same-length-16 : tie.Need-same-length-16
-same-length-16 c = search needs
+same-length-16 c = c .before .before .before .before .before .before .before .before .before .before .before .before .before .before .before .before .before .before .before .before .before .before .before .before .before .before .before .before .make .kept .1 .1 .1 .1 .1 .1 .1 .1 .1 .0
 
 same-length-17 : tie.Need-same-length-17
-same-length-17 c = search needs
+same-length-17 c = c .before .before .before .before .before .before .before .before .before .before .before .before .before .before .before .before .before .before .before .before .before .before .before .before .before .before .before .before .make .kept .1 .1 .1 .1 .1 .1 .1 .1 .1 .1 .0
+
+same-length-18 : tie.Need-same-length-18
+same-length-18 c = search needs
+
+same-length-19 : tie.Need-same-length-19
+same-length-19 c = search needs
 
 returns-3 : tie.Need-returns-3
 unfolding answered
@@ -143,13 +149,13 @@ returns-3 c =
     let g = c .before .before .before in
     let r = g .before .before .before .before .before in
     let e = r .before .before .before in
-    let d = e .before .before .before .before .before .before .before .before .before .before .before .before .before .before .before in
-    let s = d .before .before .before .before .before .before .before .before .before .before .before .before .before .before .before .before .before in
+    let d = e .before .before .before .before .before .before .before .before .before .before .before .before .before .before .before .before .before in
+    let s = d .before .before .before .before .before .before .before .before .before .before .before .before .before .before .before .before .before .before .before in
     let a = s .args in
     rw (c .answer .ensures, g .give-back .ensures)
     (λ turn counts rows.
     gives-with restartReply (a .block .now)
-    (restart-taken (before s turn counts rows) (a .n) (a .own) (a .start .now) (a .journal .now) (a .block .now) (d .before .before .before .before .before .before .before .before .before .if1 .left)
+    (restart-taken (before s turn counts rows) (a .n) (a .own) (a .start .now) (a .journal .now) (a .block .now) (d .before .before .before .before .before .before .before .before .before .before .if1 .left)
     (d .make .result .number) _ (d .make .ensures .0 turn counts rows) (e .if2 .left)
     (r .replay .result) _ _ (r .replay .ensures)))
 
@@ -169,13 +175,13 @@ restart-spec =
     same-length-6
     same-length-7
     same-length-8
+    same-length-9
     returns-2
     replay-requires
     give-back-requires
     cast-answer
     cast-answer-2
     answer-requires
-    same-length-9
     same-length-10
     same-length-11
     same-length-12
@@ -184,4 +190,6 @@ restart-spec =
     same-length-15
     same-length-16
     same-length-17
+    same-length-18
+    same-length-19
     returns-3)

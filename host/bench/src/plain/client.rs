@@ -37,7 +37,7 @@ impl Replica {
     pub fn write(&mut self, ticket: u32, item: u32, value: i32) -> Result<(), u8> {
         let item = in_range(item)?;
         let r = self.active(ticket)?;
-        if self.applying {
+        if self.applying && self.is_to_come(item) {
             return Err(APPLYING);
         }
         let row = &mut self.rows[r];

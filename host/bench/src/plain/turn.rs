@@ -137,7 +137,7 @@ impl Replica {
         self.queued = kept;
     }
 
-    fn place(&self, slot: u32) -> usize {
+    pub(super) fn place(&self, slot: u32) -> usize {
         (slot % u32::from(self.n)) as usize
     }
 

@@ -117,7 +117,7 @@ impl Tally {
 pub struct Seen {
     pub calls: u32,
     /// By refusal number.
-    pub refused: [u32; 23],
+    pub refused: [u32; 24],
     pub commits: u32,
     /// Transactions aborted by a work, and by a write.
     pub aborted: u32,
@@ -171,6 +171,6 @@ impl Seen {
 
     /// The refusal numbers met at least `least` times.
     pub fn numbers(&self, least: u32) -> Vec<usize> {
-        (1..23).filter(|&n| self.refused[n] >= least).collect()
+        (1..24).filter(|&n| self.refused[n] >= least).collect()
     }
 }

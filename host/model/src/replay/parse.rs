@@ -2,7 +2,7 @@
 
 use std::str::FromStr;
 
-use super::{MAX_BYTES, MAX_JOURNAL, PLACES};
+use super::{MAX_BYTES, MAX_JOURNAL, MAX_TABLE, PLACES};
 use crate::block::BLOCK;
 use crate::trace::Call;
 
@@ -102,6 +102,9 @@ fn call(letter: &[u8], arguments: &[&[u8]]) -> Option<Call> {
             bytes: bytes(hex, MAX_BYTES)?,
         },
         (b"K", []) => Call::Work,
+        (b"P", [hex]) => Call::Load {
+            classes: bytes(hex, MAX_TABLE)?,
+        },
         _ => return None,
     })
 }

@@ -115,7 +115,7 @@ fn letters_and_fields() {
     let lines = "| |?|B|b 0|BB 0|A 0|B0| B 0|B 0 |B  0|B\t0|B 0\t|B 0\r|B 0\0|B 0 0|0 0|R 0 1|\
         R 0 1 5 |R 0 1 5 5|R 0 1  5|W 0 1 5|W 0 1 5 |W 0 1 5 7 7|C 0|C 0 |C 0 1 1|X 0|X 0 1 1|Q|\
         Q 0 0|S 0 0|D 0|D 0 |D 0 0 0|F 0 0|F 0 0 0 0|H 0|H 0 00 00|K 0 0|V 0 0|M 0 2 0|M 0 2 0 |\
-        M 0 2 0 7 7|M  0 2 0 7";
+        M 0 2 0 7 7|M  0 2 0 7|P|P |P 0|P  0 01|P 0 01 |P 0 01 01|p 0 01|PP 0 01";
     check_rejected(&made(), lines.split('|'));
     let input = b"M 0 2 0 0\nQ 0\xff\n\xff\n\0\nB 0\0\nB 0\n";
     assert_eq!(print(input), "0\n?\n?\n?\n?\n0 1\n");
@@ -189,7 +189,8 @@ fn bytes() {
 /// A place without a replica, a refused make, an accepted one.
 #[test]
 fn makes() {
-    let calls = "B 1|R 1 1 0|W 1 1 0 0|C 1 1|X 1 1|Q 1|S 1|D 1 0|F 1 0 0|H 1 00|H 1 |K 1|V 1";
+    let calls =
+        "B 1|R 1 1 0|W 1 1 0 0|C 1 1|X 1 1|Q 1|S 1|D 1 0|F 1 0 0|H 1 00|H 1 |K 1|V 1|P 1 01|P 1 ";
     let mut replay = made();
     check_rejected(&replay, calls.split('|'));
     check(
@@ -238,4 +239,36 @@ fn kept_blocks() {
         &mut replay,
         "D 1 5 -> ?\n D 1 70 -> ?\n D 1 6 -> 0\n D 1 69 -> 20",
     );
+}
+
+/// The bytes of a load.
+#[test]
+fn tables() {
+    let replay = made();
+    let answer = |digits: &str| replay.clone().answer(format!("P 0 {digits}").as_bytes());
+    for digits in "0|010|0A|0g|g0|0/|:0|0`| 01|01 |01\r".split('|') {
+        assert_eq!(answer(digits), "?", "{digits:?}");
+    }
+    for (bytes, due) in [
+        (0, "1"),
+        (1, "1"),
+        (127, "1"),
+        (128, "0"),
+        (129, "1"),
+        (130, "1"),
+        (131, "?"),
+        (256, "?"),
+    ] {
+        assert_eq!(answer(&"08".repeat(bytes)), due, "{bytes} bytes");
+    }
+    assert_eq!(answer(&"09".repeat(128)), "2");
+    assert_eq!(answer(&"00".repeat(128)), "2");
+    let mut loaded = replay.clone();
+    assert_eq!(
+        loaded.answer(format!("P 0 {}", "08".repeat(128)).as_bytes()),
+        "0"
+    );
+    assert_eq!(loaded.replica(0).unwrap().classes, [8; ITEMS]);
+    check(&mut loaded, "M 0 2 0 7 -> 0");
+    assert_eq!(loaded.replica(0).unwrap().classes, [0; ITEMS]);
 }

@@ -43,7 +43,7 @@ impl Replica {
     pub fn write(&mut self, ticket: u32, item: u32, value: i32) -> Result<(), u8> {
         let item = in_range(item)?;
         let at = self.active(ticket)?;
-        if self.applying {
+        if self.must_wait(item) {
             return Err(APPLYING);
         }
         if let Some(held) = self.open[at].writes.get_mut(&item) {

@@ -26,8 +26,9 @@ impl Replica {
     /// one at which [`journal::blocks`] stops, own ones from their bytes. Refused as a make, by 1, 2;
     /// a journal may have any length.
     ///
-    /// Nothing is open, asked, sent or waiting then. The tickets up to the highest in an own block
-    /// count as given, those in own blocks as committed and the others as aborted.
+    /// Nothing is open, asked, sent or waiting then, and no table of classes is loaded. The tickets up
+    /// to the highest in an own block count as given, those in own blocks as committed and the others
+    /// as aborted.
     pub fn restart(
         n: u32,
         own: u32,

@@ -2,7 +2,8 @@
 
 use super::*;
 use crate::block::{self, Header, TO_COMMIT};
-use crate::refusal::{LOCKED, NOTHING_WAITS, NOT_OPEN_AS_SENT};
+use crate::refusal::{APPLYING, LOAD_WHILE_APPLYING, LOCKED, NOTHING_WAITS, NOT_OPEN_AS_SENT};
+use crate::samples::block_of;
 
 /// A replica 0 of 2 with its own block of two writesets back in its inbox.
 fn with_own_block() -> Replica {
@@ -69,4 +70,26 @@ fn sent_and_a_remote_writeset() {
     assert_eq!(replica.open.len(), 1);
     let later = replica.begin().unwrap();
     assert_eq!(replica.write(later, 7, 0), Err(LOCKED));
+}
+
+/// Nor here: the applying mark is on, and nothing is left to be applied. Then no class waits; a load
+/// looks at the mark alone.
+#[test]
+fn applying_and_nothing_to_come() {
+    let mut replica = Replica::make(2, 1, &[0; ITEMS]).unwrap();
+    let ticket = replica.begin().unwrap();
+    let block = block_of(2, 0, &[(1, &[(5, 1)]), (2, &[(6, 1)])]);
+    replica.deliver(&block).unwrap();
+    replica.work().unwrap();
+    assert_eq!(replica.write(ticket, 40, 7), Err(APPLYING));
+    let mut done = replica.clone();
+    done.done = 2;
+    let mut empty = replica.clone();
+    empty.inbox[0] = None;
+    let mut next = replica;
+    next.inbox[0] = block::decode(&block_of(2, 0, &[])).ok();
+    for mut altered in [done, empty, next] {
+        assert_eq!(altered.write(ticket, 40, 7), Ok(()));
+        assert_eq!(altered.load(&[1; ITEMS]), Err(LOAD_WHILE_APPLYING));
+    }
 }

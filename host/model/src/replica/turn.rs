@@ -137,7 +137,7 @@ impl Replica {
     }
 
     /// The replica that a slot belongs to. Its message waits at that index of the inbox.
-    fn owner(&self, slot: u32) -> usize {
+    pub(super) fn owner(&self, slot: u32) -> usize {
         slot as usize % self.inbox.len()
     }
 

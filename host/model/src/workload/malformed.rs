@@ -27,7 +27,7 @@ const BITS: &str = "0|7|4088|4095|4096|4097|8192|65536|4294967296|00|-1";
 /// Calls where no replica is made; a refused make makes none.
 pub(super) fn not_made(list: &mut List) {
     list.calls("B 0, R 0 1 0, W 0 1 0 0, C 0 1, X 0 1, Q 0, S 0, D 0 0, F 0 0 0, K 0, V 0");
-    list.calls("H 0 00, M 0 7 0 0, Q 0, M 5 2 2 0, V 5, M 5 2 1 0, Q 5, Q 4");
+    list.calls("H 0 00, P 0 01, M 0 7 0 0, Q 0, M 5 2 2 0, V 5, M 5 2 1 0, Q 5, Q 4");
 }
 
 pub(super) fn all(list: &mut List) {

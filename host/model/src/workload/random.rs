@@ -1,10 +1,11 @@
 //! Random calls of groups of 2 to 6 replicas, by seed. Blocks arrive early, late, repeated, damaged,
-//! forged, or not at all for a while; in some rounds replicas lose power.
+//! forged, or not at all for a while; in some rounds replicas lose power, in some they load classes.
 
 mod group;
 
 use self::group::Group;
 use super::List;
+use crate::replay::hex;
 use crate::replica::OPEN;
 use crate::samples::{self, Random};
 
@@ -26,6 +27,8 @@ pub(super) struct Round {
     pub forged: bool,
     /// One call in so many is a cut, if this is not 0.
     cuts: usize,
+    /// One call in so many at transactions is a load of classes instead, if this is not 0.
+    loads: usize,
 }
 
 pub(super) const ROUNDS: [Round; 10] = [
@@ -54,6 +57,17 @@ pub(super) const CUT_ROUNDS: [Round; 6] = [
     Round::with_cuts(&[2, 4], 12, 25, 30),
 ];
 
+/// The seed of the first round in which replicas load classes.
+pub(super) const TABLE_SEED: u64 = CUT_SEED + CUT_ROUNDS.len() as u64;
+
+/// The rounds in which replicas load classes, each its own; in the last two they lose power too.
+pub(super) const TABLE_ROUNDS: [Round; 4] = [
+    Round::with_tables(&[2], 24, 25, 0),
+    Round::with_tables(&[5], 128, 25, 0),
+    Round::with_tables(&[4], 40, 20, 50),
+    Round::with_tables(&[3, 2], 16, 25, 50),
+];
+
 impl Round {
     const fn new(sizes: &'static [usize], items: usize, asks: usize, forged: bool) -> Round {
         Round {
@@ -62,6 +76,7 @@ impl Round {
             asks,
             forged,
             cuts: 0,
+            loads: 0,
         }
     }
 
@@ -69,6 +84,13 @@ impl Round {
         Round {
             cuts,
             ..Round::new(sizes, items, asks, false)
+        }
+    }
+
+    const fn with_tables(sizes: &'static [usize], items: usize, asks: usize, cuts: usize) -> Round {
+        Round {
+            loads: 16,
+            ..Round::with_cuts(sizes, items, asks, cuts)
         }
     }
 }
@@ -81,6 +103,12 @@ pub(super) fn all(list: &mut List) {
 
 pub(super) fn with_cuts(list: &mut List) {
     for (round, seed) in CUT_ROUNDS.iter().zip(CUT_SEED..) {
+        play(list, round, seed);
+    }
+}
+
+pub(super) fn with_tables(list: &mut List) {
+    for (round, seed) in TABLE_ROUNDS.iter().zip(TABLE_SEED..) {
         play(list, round, seed);
     }
 }
@@ -114,8 +142,13 @@ pub(super) fn play(list: &mut List, round: &Round, seed: u64) -> Vec<Vec<usize>>
     groups.iter().map(Group::places).collect()
 }
 
-/// A call at the transactions of a replica.
+/// A call at the transactions of a replica, or a load.
 fn client_call(list: &mut List, random: &mut Random, place: usize, round: &Round) {
+    if round.loads > 0 && random.below(round.loads) == 0 {
+        let classes = samples::classes(random);
+        list.call(&format!("P {place} {}", hex(&classes)));
+        return;
+    }
     let replica = list.replica(place);
     let (active, report) = (replica.active_tickets(), replica.report());
     if active.is_empty() || (report.open < OPEN as u32 && random.below(12) == 0) {

@@ -4,6 +4,7 @@
 mod journals;
 pub(super) mod worked;
 
+use super::worked::play;
 use super::List;
 use crate::block::BLOCK;
 use crate::replay::{JOURNAL, MAX_JOURNAL};
@@ -19,7 +20,7 @@ const NUMBERS: &str = "00|-0|+1|01|1a|0x1|4294967296|4294967808";
 const BYTES: &str = "0|000|0A|0g|g0|0/|:0|0`|0x|00\r";
 
 pub(super) fn all(list: &mut List) {
-    worked::all(list);
+    play(list, &worked::LISTS);
     lines(list);
     outgrown(list);
     journals::all(list);

@@ -102,3 +102,34 @@ fn rounds_with_cuts() {
         "{counts:?}"
     );
 }
+
+/// Groups that load tables end with equal copies. Loads are accepted and refused by each number, and while
+/// a block is applied some writes wait and some do not; tables of one group differ.
+#[test]
+fn rounds_with_tables() {
+    let mut list = List::default();
+    let mut differ = 0;
+    for (round, seed) in random::TABLE_ROUNDS.iter().zip(random::TABLE_SEED..) {
+        for places in random::play(&mut list, round, seed) {
+            agree(&list, &places);
+            let first = list.replica(places[0]).classes;
+            differ += i32::from(places.iter().any(|&k| list.replica(k).classes != first));
+        }
+    }
+    assert!(differ > 2);
+    let loads = answers(&list, "P ");
+    for (answer, least) in [("0", 200), ("1", 20), ("2", 20), ("23", 20)] {
+        let found = loads.iter().filter(|one| *one == answer).count();
+        assert!(found >= least, "{found} loads gave {answer}");
+    }
+    let mut replay = Replay::default();
+    let (mut waited, mut let_through) = (0, 0);
+    for line in String::from_utf8(list.text).unwrap().lines() {
+        let replica = line.get(2..3).and_then(|k| replay.replica(k.parse().ok()?));
+        let applying = replica.is_some_and(|replica| replica.applying);
+        let answer = replay.answer(line.as_bytes());
+        waited += i32::from(answer == "7");
+        let_through += i32::from(line.starts_with('W') && applying && answer == "0");
+    }
+    assert!(waited > 100 && let_through > 30, "{waited}, {let_through}");
+}

@@ -114,7 +114,7 @@ fn many_cuts() {
         "{seen:?}"
     );
     assert!(seen.commits > 25_000 && seen.aborted > 3_000, "{seen:?}");
-    let due: Vec<usize> = (1..22).filter(|number| ![6, 13].contains(number)).collect();
+    let due: Vec<usize> = (1..24).filter(|n| ![6, 13, 22].contains(n)).collect();
     assert_eq!(seen.numbers(20), due, "{seen:?}");
 }
 

@@ -10,7 +10,7 @@ use crate::single::Pair;
 
 /// Each fault, and whether demand 3 forbids it. Where not, only the contracts of the calls do:
 /// what a write answers, what a report counts, when a number may be returned.
-const FAULTS: [(Fault, bool); 11] = [
+const FAULTS: [(Fault, bool); 15] = [
     (Fault::ArrivalOrder, true),
     (Fault::SparesAsked, true),
     (Fault::StaleAtAsk, false),
@@ -22,6 +22,10 @@ const FAULTS: [(Fault, bool); 11] = [
     (Fault::NoValues, true),
     (Fault::InventedCounts, false),
     (Fault::RefusesBegin, false),
+    (Fault::NextOnly, false),
+    (Fault::AppliedToo, false),
+    (Fault::HeldFirst, false),
+    (Fault::AbortsByClass, true),
 ];
 
 const STYLE: Style = Style::new(6, 50, 15);

@@ -1,6 +1,7 @@
 //! A replica that keeps its history and works every answer out of it: no counts, no values and no
 //! stamps are kept. It is slow, and it can be told to commit a fault.
 
+mod classes;
 mod turn;
 
 use model::block::{self, Entry, Message, Record, BLOCK, MAX_TICKET};
@@ -8,7 +9,8 @@ use model::drive::Subject;
 use model::replica::{Report, Work, ITEMS};
 use model::trace::{Answer, Call};
 
-/// What a replica by history does wrong (the list of document 01's "Misdrawn replicas").
+/// What a replica by history does wrong: the list of document 01's "Misdrawn replicas"; and what is wrong
+/// about conflict classes.
 #[derive(Clone, Copy, Debug, PartialEq, Eq)]
 pub enum Fault {
     None,
@@ -34,6 +36,14 @@ pub enum Fault {
     InventedCounts,
     /// No transaction is ever begun.
     RefusesBegin,
+    /// Of the writesets still to be applied only the next one decides which classes wait.
+    NextOnly,
+    /// The writesets that are applied already decide too.
+    AppliedToo,
+    /// An item that is held already is written before 7 is looked at.
+    HeldFirst,
+    /// A remote writeset aborts whoever has written an item of one of its classes.
+    AbortsByClass,
 }
 
 pub struct Historical {
@@ -56,6 +66,8 @@ pub struct Historical {
     works: Vec<Work>,
     /// Every writeset committed.
     commits: Vec<Vec<Entry>>,
+    /// Every table of classes loaded.
+    loads: Vec<[u8; ITEMS]>,
 }
 
 #[derive(Clone)]
@@ -114,6 +126,7 @@ impl Historical {
             received: Vec::new(),
             works: Vec::new(),
             commits: Vec::new(),
+            loads: Vec::new(),
         }
     }
 
@@ -223,10 +236,11 @@ impl Historical {
             return Err(2);
         }
         let at = self.active(ticket)?;
-        if self.applying() {
+        let own = self.begun[at].last_write(item).is_some();
+        let spared = own && self.fault == Fault::HeldFirst;
+        if self.must_wait(item) && !spared {
             return Err(7);
         }
-        let own = self.begun[at].last_write(item).is_some();
         let locks = |t: &Begun| match t.state {
             State::Active | State::Asked => true,
             State::Sent => self.fault != Fault::FreesSentLocks,
@@ -290,6 +304,7 @@ impl Subject for Historical {
             Call::Send => Answer::Block(Box::new(self.send()?)),
             Call::Deliver { ref bytes } => self.deliver(bytes).map(|()| Answer::Done)?,
             Call::Work => Answer::Work(self.work()?),
+            Call::Load { ref classes } => self.load(classes).map(|()| Answer::Done)?,
         })
     }
 

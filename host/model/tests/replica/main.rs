@@ -1,6 +1,7 @@
 //! The replica and the observer of the model.
 
 mod cases;
+mod classes;
 mod common;
 mod cuts;
 mod faults;

@@ -34,11 +34,14 @@ enum Fault {
     EndingsKept,
     /// No item has a stamp after a restart.
     NoStamps,
+    /// The table of classes is the one of before the cut.
+    TableKept,
 }
 
 /// Each fault, and whether demand 3 forbids it. Where not, only the contract of a restart does: what
-/// tickets it leaves, what is reported, and the stamps, which no call shows before the next commit.
-const FAULTS: [(Fault, bool); 10] = [
+/// tickets it leaves, what is reported, the stamps, which no call shows before the next commit, and which
+/// classes wait.
+const FAULTS: [(Fault, bool); 11] = [
     (Fault::OwnWhenLeft, true),
     (Fault::TornTailKept, true),
     (Fault::LastOwnSentAgain, true),
@@ -49,6 +52,7 @@ const FAULTS: [(Fault, bool); 10] = [
     (Fault::ZerosGivenBack, true),
     (Fault::EndingsKept, false),
     (Fault::NoStamps, false),
+    (Fault::TableKept, false),
 ];
 
 struct Faulty {
@@ -129,7 +133,7 @@ impl Powered for Faulty {
         self.machine.floor
     }
     fn restart(&mut self, restart: &Restart) -> Result<Restarted, u8> {
-        let before = self.machine.report();
+        let (before, classes) = (self.machine.report(), self.machine.replica.classes);
         self.held = None;
         let mut lent = restart.clone();
         let own = self.own_blocks(restart);
@@ -160,6 +164,7 @@ impl Powered for Faulty {
                 replica.withdrawn = before.withdrawn;
             }
             Fault::NoStamps => replica.stamps = [0; ITEMS],
+            Fault::TableKept => replica.classes = classes,
             Fault::None | Fault::OwnWhenLeft => {}
         }
         Ok(restarted)

@@ -50,6 +50,9 @@ impl Pair {
         if self.replica.report() != self.historical.report() {
             return Err(format!("after {call:?}: the reports differ"));
         }
+        if self.replica.classes != self.historical.classes() {
+            return Err(format!("after {call:?}: the classes differ"));
+        }
         // Only a work may change values and stamps; then all of both are compared.
         if !matches!(call, Call::Work) {
             assert_eq!(self.replica.values(), before.values());
@@ -90,7 +93,7 @@ fn both_give_the_same() {
     assert!(seen.aborted > 1_000 && seen.stale > 500, "{seen:?}");
     assert!(seen.read_only > 300 && seen.withdrawn > 300, "{seen:?}");
     assert!(seen.sent.iter().all(|&blocks| blocks > 10), "{seen:?}");
-    let due: Vec<usize> = (1..22).filter(|number| ![6, 13].contains(number)).collect();
+    let due: Vec<usize> = (1..24).filter(|n| ![6, 13, 22].contains(n)).collect();
     assert_eq!(seen.numbers(50), due, "{seen:?}");
 }
 
@@ -99,12 +102,12 @@ fn both_give_the_same() {
 fn both_give_the_same_at_the_end() {
     let mut seen = Seen::default();
     let style = Style::new(30, 40, 3);
-    for seed in 100..120 {
+    for seed in 100..130 {
         let n = 2 + seed as u32 % 5;
         let own = seed as u32 / 5 % n;
         let pair = Pair::late(n, own, Fault::None, SLOTS - 60, MAX_TICKET - 60);
         seen.add(&run(pair, seed, style, 2_500));
     }
-    let due: Vec<usize> = (1..22).collect();
+    let due: Vec<usize> = (1..24).filter(|&n| n != 22).collect();
     assert_eq!(seen.numbers(10), due, "{seen:?}");
 }

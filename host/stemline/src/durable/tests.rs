@@ -85,6 +85,7 @@ fn over(replica: &mut Durable, block: &[u8]) {
     assert!(said(replica.withdraw(1)).ends_with(due));
     assert!(said(replica.send()).ends_with(due));
     assert!(said(replica.deliver(block)).ends_with(due));
+    assert!(said(replica.load(&[1; ITEMS])).ends_with(due));
     assert!(said(replica.work()).ends_with(due));
     assert!(said(replica.take(block)).ends_with(due));
     assert!(said(replica.journal.append(&[0; BLOCK]).map_err(Failure::Disk)).ends_with(due));

@@ -3,11 +3,12 @@
  * each call how often it gave each number. */
 #include "same.h"
 
-enum call { MAKE, RESTART, BEGIN, READ, WRITE, ASK, WITHDRAW, REPORT, SEND, DELIVER, WORK, CALLS };
+enum call { MAKE, RESTART, BEGIN, READ, WRITE, ASK, WITHDRAW, REPORT, SEND, DELIVER, WORK, LOAD,
+            CALLS };
 
 static const char *const names[CALLS] = {
     "make", "restart", "begin", "read", "write", "ask", "withdraw", "report", "send", "deliver",
-    "work"};
+    "work", "load"};
 static unsigned given[CALLS][256];
 static uint8_t good[STEMLINE_BLOCK];
 static int32_t start[STEMLINE_ITEMS] = {7, -7};
@@ -116,6 +117,22 @@ static uint8_t work(stemline_replica *r) {
     return said;
 }
 
+/* Classes, most often good ones. */
+static uint8_t load(stemline_replica *r) {
+    uint8_t classes[STEMLINE_ITEMS + 1];
+    for (size_t item = 0; item < sizeof classes; item++) {
+        classes[item] = (uint8_t)(1 + any() % STEMLINE_CLASSES);
+    }
+    if (any() % 4 == 0) {
+        classes[any() % STEMLINE_ITEMS] = (uint8_t)(any() % 2 * (STEMLINE_CLASSES + 1));
+    }
+    size_t length = STEMLINE_ITEMS - (any() % 8 == 0) + (any() % 8 == 0);
+    uint8_t said = stemline_replica_load(r, classes, length);
+    hold((said == 1) == (length != STEMLINE_ITEMS), "load: not 1");
+    hold(said != 0 || memcmp(r->classes, classes, sizeof r->classes) == 0, "load: other classes");
+    return said;
+}
+
 static uint8_t play(stemline_replica *r, enum call call) {
     uint32_t ticket = r->table[any() % STEMLINE_TABLE].ticket;
     uint32_t item = any() % (STEMLINE_ITEMS + 2);
@@ -130,6 +147,7 @@ static uint8_t play(stemline_replica *r, enum call call) {
     case REPORT: return stemline_replica_report(r).number;
     case SEND: return send(r);
     case DELIVER: return deliver(r);
+    case LOAD: return load(r);
     default: return work(r);
     }
 }

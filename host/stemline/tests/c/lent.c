@@ -5,7 +5,8 @@
 
 /* The arrays that calls are lent. */
 enum part {
-    TABLE, START, QUEUE, ITEMS, WRITES, SNAPSHOTS, VALUES, STAMPS, PLACES, OUTBOX, BLOCK, BYTES, PARTS
+    TABLE, START, QUEUE, ITEMS, WRITES, SNAPSHOTS, VALUES, STAMPS, CLASSES, PLACES, OUTBOX, BLOCK, BYTES,
+    GIVEN, PARTS
 };
 
 /* What calls are lent and given, in another order than a replica has it. Each array has room for an
@@ -13,6 +14,7 @@ enum part {
 typedef struct parts {
     uint8_t outbox[STEMLINE_BLOCK + 1], bytes[600 + 1], block[STEMLINE_BLOCK + 1];
     uint8_t places[STEMLINE_BLOCK * STEMLINE_REPLICAS + 1], items[STEMLINE_WRITTEN + 1];
+    uint8_t given[130 + 1], classes[STEMLINE_ITEMS + 1];
     uint32_t stamps[STEMLINE_ITEMS + 1], queue[STEMLINE_QUEUE + 1];
     int32_t values[STEMLINE_ITEMS + 1], start[STEMLINE_ITEMS + 1];
     int32_t snapshots[STEMLINE_SNAPSHOTS + 1], writes[STEMLINE_WRITTEN + 1];
@@ -38,14 +40,14 @@ static struct {
     stemline_work_reply work;
 } said;
 
-/* ---- The eleven calls over the parts, with the lengths as they are told */
+/* ---- The twelve calls over the parts, with the lengths as they are told */
 
 static uint8_t call_make(void) {
     return stemline_make(
         p.table, length[TABLE], &p.turn, &p.counts, p.n, p.own, p.start, length[START],
         p.queue, length[QUEUE], p.items, length[ITEMS], p.writes, length[WRITES],
         p.snapshots, length[SNAPSHOTS], p.values, length[VALUES], p.stamps, length[STAMPS],
-        p.places, length[PLACES], p.outbox, length[OUTBOX]);
+        p.classes, length[CLASSES], p.places, length[PLACES], p.outbox, length[OUTBOX]);
 }
 
 static uint8_t call_restart(void) {
@@ -53,7 +55,7 @@ static uint8_t call_restart(void) {
         p.table, length[TABLE], &p.turn, &p.counts, p.n, p.own, p.start, length[START],
         p.queue, length[QUEUE], p.items, length[ITEMS], p.writes, length[WRITES],
         p.snapshots, length[SNAPSHOTS], p.values, length[VALUES], p.stamps, length[STAMPS],
-        p.places, length[PLACES], p.outbox, length[OUTBOX], p.journal, p.journal_length,
+        p.classes, length[CLASSES], p.places, length[PLACES], p.outbox, length[OUTBOX], p.journal, p.journal_length,
         p.block, length[BLOCK]);
     return said.restart.number;
 }
@@ -74,7 +76,8 @@ static uint8_t call_read(void) {
 static uint8_t call_write(void) {
     return stemline_write(
         p.table, length[TABLE], &p.turn, &p.counts, p.ticket, p.items, length[ITEMS],
-        p.writes, length[WRITES], p.stamps, length[STAMPS], p.item, p.value);
+        p.writes, length[WRITES], p.stamps, length[STAMPS], p.classes, length[CLASSES],
+        p.places, length[PLACES], p.item, p.value);
 }
 
 static uint8_t call_ask(void) {
@@ -110,12 +113,16 @@ static uint8_t call_work(void) {
     return said.work.number;
 }
 
+static uint8_t call_load(void) {
+    return stemline_load(&p.turn, p.classes, length[CLASSES], p.given, length[GIVEN]);
+}
+
 /* ---- A call at a replica by one over the parts */
 
 static int same_parts(const parts *a, const parts *b) {
     return SAME(outbox) && SAME(bytes) && SAME(block) && SAME(places) && SAME(items) && SAME(stamps)
         && SAME(queue) && SAME(values) && SAME(start) && SAME(snapshots) && SAME(writes) && SAME(table)
-        && same_counts(&a->counts, &b->counts) && SAME(turn.slot) && SAME(turn.sent)
+        && SAME(classes) && SAME(given) && same_counts(&a->counts, &b->counts) && SAME(turn.slot) && SAME(turn.sent)
         && SAME(turn.applying);
 }
 
@@ -135,15 +142,15 @@ static int said_zeros(void) {
 static void lend(const stemline_replica *r, uint32_t n) {
     static const size_t right[PARTS] = {
         STEMLINE_TABLE, STEMLINE_ITEMS, STEMLINE_QUEUE, STEMLINE_WRITTEN, STEMLINE_WRITTEN,
-        STEMLINE_SNAPSHOTS, STEMLINE_ITEMS, STEMLINE_ITEMS, 0, STEMLINE_BLOCK, STEMLINE_BLOCK,
-        STEMLINE_BLOCK};
+        STEMLINE_SNAPSHOTS, STEMLINE_ITEMS, STEMLINE_ITEMS, STEMLINE_ITEMS, 0, STEMLINE_BLOCK,
+        STEMLINE_BLOCK, STEMLINE_BLOCK, STEMLINE_ITEMS};
     memcpy(length, right, sizeof length);
     length[PLACES] = stemline_lent_places(n);
     memset(&said, 0, sizeof said);
     memset(&p, 0xa5, sizeof p);
     COPY(&p, r, table), COPY(&p, r, queue), COPY(&p, r, items), COPY(&p, r, writes);
     COPY(&p, r, snapshots), COPY(&p, r, values), COPY(&p, r, stamps), COPY(&p, r, places);
-    COPY(&p, r, outbox);
+    COPY(&p, r, outbox), COPY(&p, r, classes);
     p.turn = r->turn;
     p.counts = r->counts;
 }
@@ -151,7 +158,7 @@ static void lend(const stemline_replica *r, uint32_t n) {
 static void give_back(stemline_replica *r) {
     COPY(r, &p, table), COPY(r, &p, queue), COPY(r, &p, items), COPY(r, &p, writes);
     COPY(r, &p, snapshots), COPY(r, &p, values), COPY(r, &p, stamps), COPY(r, &p, places);
-    COPY(r, &p, outbox);
+    COPY(r, &p, outbox), COPY(r, &p, classes);
     r->turn = p.turn;
     r->counts = p.counts;
 }
@@ -174,7 +181,7 @@ static uint8_t called(const char *name, uint8_t (*call)(void), const enum part *
            sizeof (const enum part[]){__VA_ARGS__} / sizeof(enum part))
 
 /* What a make is lent but for the places: with an n out of range these may have any length. */
-#define MADE TABLE, START, QUEUE, ITEMS, WRITES, SNAPSHOTS, VALUES, STAMPS, OUTBOX
+#define MADE TABLE, START, QUEUE, ITEMS, WRITES, SNAPSHOTS, VALUES, STAMPS, CLASSES, OUTBOX
 
 /* Lends what a make is lent. Gives whether n is in range. */
 static bool lend_made(const stemline_replica *r, uint32_t n, uint32_t own, const int32_t *start) {
@@ -228,7 +235,7 @@ static uint8_t lent_write(stemline_replica *r, uint32_t ticket, uint32_t item, i
     p.ticket = ticket;
     p.item = item;
     p.value = value;
-    uint8_t number = CALLED(write, TABLE, ITEMS, WRITES, STAMPS);
+    uint8_t number = CALLED(write, TABLE, ITEMS, WRITES, STAMPS, CLASSES, PLACES);
     give_back(r);
     return number;
 }
@@ -283,6 +290,16 @@ static stemline_work_reply lent_work(stemline_replica *r, uint8_t *block) {
     return said.work;
 }
 
+static uint8_t lent_load(stemline_replica *r, const uint8_t *classes, size_t count) {
+    lend(r, r->counts.replicas);
+    memcpy(p.given, classes, count);
+    length[GIVEN] = count;
+    /* as the bytes of a deliver */
+    uint8_t number = count != STEMLINE_ITEMS ? CALLED(load, CLASSES) : CALLED(load, CLASSES, GIVEN);
+    give_back(r);
+    return number;
+}
+
 #define stemline_replica_make lent_make
 #define stemline_replica_restart lent_restart
 #define stemline_replica_begin lent_begin
@@ -294,4 +311,5 @@ static stemline_work_reply lent_work(stemline_replica *r, uint8_t *block) {
 #define stemline_replica_send lent_send
 #define stemline_replica_deliver lent_deliver
 #define stemline_replica_work lent_work
+#define stemline_replica_load lent_load
 #include "replay.c"

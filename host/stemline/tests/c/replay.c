@@ -189,6 +189,14 @@ static uint8_t work(stemline_replica *r, journal *j) {
     return w.number;
 }
 
+static uint8_t load(stemline_replica *r, const char *rest) {
+    uint8_t classes[130];
+    size_t length = bytes_of(rest, classes, sizeof classes);
+    uint8_t number = stemline_replica_load(r, classes, length);
+    printf("%d", number);
+    return number;
+}
+
 static uint8_t report(const stemline_replica *r) {
     stemline_report_reply reply = stemline_replica_report(r);
     const stemline_report_values *v = &reply.report;
@@ -227,6 +235,7 @@ static uint8_t play(stemline_replica *r, journal *j, char letter, const char *re
     case 'S': return send(r, j);
     case 'D': case 'F': case 'H': return deliver(r, letter, rest);
     case 'K': return work(r, j);
+    case 'P': return load(r, rest);
     default: return values(r);
     }
 }

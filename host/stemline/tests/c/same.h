@@ -18,7 +18,8 @@ static inline int same_counts(const stemline_counts *a, const stemline_counts *b
 static inline int same(const stemline_replica *a, const stemline_replica *b) {
     return SAME(table) && SAME(turn.slot) && SAME(turn.sent) && SAME(turn.applying)
         && same_counts(&a->counts, &b->counts) && SAME(queue) && SAME(items) && SAME(writes)
-        && SAME(snapshots) && SAME(values) && SAME(stamps) && SAME(places) && SAME(outbox);
+        && SAME(snapshots) && SAME(values) && SAME(stamps) && SAME(classes) && SAME(places)
+        && SAME(outbox);
 }
 
 /* Stops the program where something does not hold. */

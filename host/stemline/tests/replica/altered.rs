@@ -5,7 +5,7 @@ use model::block::{self, Message, BLOCK, MAX_TICKET};
 use model::drive::{start_values, Peers, Subject, STYLES};
 use model::samples::{self, Random};
 use stemline::ffi::Txn;
-use stemline::{Memory, Refusal, Replica, Taken, STEPS};
+use stemline::{Memory, Refusal, Replica, Taken, ITEMS, STEPS};
 
 use crate::both::Both;
 use crate::lent::{refused, Lent};
@@ -15,9 +15,9 @@ const RUNS: u64 = 2_000;
 /// Calls at one altered memory, each on what the last one left.
 const CALLS: usize = 60;
 /// The calls, write twice: it has the most to look at.
-const CALLED: [&str; 12] = [
+const CALLED: [&str; 13] = [
     "make", "restart", "begin", "read", "write", "write", "ask", "withdraw", "report", "send",
-    "deliver", "work",
+    "deliver", "work", "load",
 ];
 
 /// A number with the limits of what a call compares it with.
@@ -92,7 +92,7 @@ fn reached(random: &mut Random, seed: u64) -> Lent {
 fn alter(random: &mut Random, memory: &mut Lent) {
     let replicas = memory.counts.replicas;
     let counts = &mut memory.counts;
-    match random.below(16) {
+    match random.below(18) {
         0 => memory.table[random.below(6)] = row(random),
         1 => memory.table.fill_with(|| row(random)),
         2 => memory.table[random.below(6)].stage = small(random),
@@ -127,7 +127,9 @@ fn alter(random: &mut Random, memory: &mut Lent) {
                 .iter_mut()
                 .for_each(|at| *at = place(random, replicas));
         }
-        _ => memory.outbox = place(random, replicas).to_vec(),
+        15 => memory.outbox = place(random, replicas).to_vec(),
+        16 => memory.classes.fill_with(|| byte(random)),
+        _ => memory.classes[random.below(ITEMS)] = byte(random),
     }
 }
 
@@ -145,6 +147,7 @@ fn give(random: &mut Random, memory: &mut Lent) {
         1 => samples::block_of(2, any % 1_000, &[]).to_vec(),
         _ => place(random, memory.counts.replicas).to_vec(),
     };
+    memory.given = samples::classes(random);
     memory.journal = match random.below(3) {
         0 => memory.places.clone(),
         _ => journal(random, memory.n),
@@ -173,7 +176,7 @@ fn journal(random: &mut Random, n: u32) -> Vec<u8> {
 
 #[test]
 fn every_call_returns() {
-    let mut numbers = [0u32; 23];
+    let mut numbers = [0u32; 24];
     let seeds = Seeds::new(RUNS);
     seeds.each(|seed| {
         let mut random = Random::new(seed);
@@ -212,7 +215,7 @@ fn every_call_returns() {
         }
     });
     // Every number of the table is met here too, unless fewer runs are asked for.
-    let missing: Vec<usize> = (0..23).filter(|&number| numbers[number] == 0).collect();
+    let missing: Vec<usize> = (0..24).filter(|&number| numbers[number] == 0).collect();
     assert!(seeds.runs < RUNS || missing.is_empty(), "{numbers:?}");
 }
 
@@ -279,6 +282,10 @@ fn single_alterations() {
     // A stage above 2 is not active.
     let mut replica = altered(|memory| memory.table[0].stage = 3);
     assert_eq!(replica.ask(1), Err(Refusal::NotActive));
+    // With the applying mark on and nothing left to be applied no write waits; a load looks at the mark.
+    let mut replica = altered(|memory| memory.turn.applying = 2);
+    assert_eq!(replica.write(1, 5, 0), Ok(()));
+    assert_eq!(replica.load(&[1; ITEMS]), Err(Refusal::LoadWhileApplying));
     // With an N of 0 and no place every place is empty; of 200, every block is another group's.
     let places = |replicas: u8, places: usize| {
         altered(|memory| {
@@ -287,6 +294,8 @@ fn single_alterations() {
         })
     };
     assert_eq!(places(0, 2).work(), Err(Refusal::WrongLength));
+    assert_eq!(places(0, 2).write(1, 5, 0), Err(Refusal::WrongLength));
+    assert_eq!(places(0, 0).write(1, 5, 0), Ok(()));
     assert_eq!(places(0, 0).work(), Err(Refusal::NothingWaits));
     let good = samples::block_of(2, 1, &[]);
     let mut replica = places(200, 0);

@@ -157,6 +157,7 @@ fn play(replica: &mut Replica, call: &Call, journal: &mut Vec<u8>) -> Result<Ans
             journal.extend(work.append().into_iter().flatten());
             Answer::Work(worked(&work))
         }),
+        Call::Load { ref classes } => replica.load(classes).map(|()| Answer::Done),
     };
     played.map_err(Refusal::number)
 }
@@ -205,6 +206,7 @@ pub fn same(model: &second::Replica, memory: &Memory) {
     assert_eq!((turn.slot, turn.sent != 0, turn.applying != 0), due);
     assert!(memory.values == model.values, "values");
     assert!(memory.stamps == model.stamps, "stamps");
+    assert!(memory.classes == model.classes, "classes");
     if let Some(sent) = &model.outbox {
         assert!(memory.outbox == *sent, "outbox");
     }

@@ -184,7 +184,7 @@ fn random_lists() {
         let list = list.take();
         compare(&program, &list.lines, &list.due);
     });
-    let all: Vec<usize> = (1..=21).collect();
+    let all: Vec<usize> = (1..=23).filter(|&number| number != 22).collect();
     let enough = seen.numbers(20) == all && seen.restarts > 500;
     assert!(seeds.runs < RUNS || enough, "{seen:?}");
 }
@@ -207,6 +207,7 @@ fn any_bytes() {
         ("send", 4),
         ("deliver", 7),
         ("work", 4),
+        ("load", 4),
     ];
     assert_eq!(lines.len(), least.len(), "{said}");
     for (line, (name, numbers)) in lines.into_iter().zip(least) {

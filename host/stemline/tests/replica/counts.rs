@@ -9,10 +9,10 @@ use crate::lent::{refused, Lent};
 
 /// The counts by name, with the calls that look at each. An accepted make or restart sets them all.
 const COUNTS: [(&str, &str); 9] = [
-    ("replicas", "send deliver work"),
+    ("replicas", "write send deliver work"),
     ("own", "send deliver work"),
     ("commits", "begin report work"),
-    ("done", "work"),
+    ("done", "write work"),
     ("tickets", "begin report"),
     ("committed", "report work"),
     ("read_only", "ask report"),
@@ -90,7 +90,7 @@ fn every_byte_of_the_counts() {
 /// Any number of replicas, with as many places, which hold something.
 #[test]
 fn every_number_of_replicas() {
-    let mut numbers = [0; 23];
+    let mut numbers = [0; 24];
     for name in ["send", "deliver", "work"] {
         for (state, _) in states(name) {
             for replicas in 0..=255 {

@@ -19,6 +19,7 @@ fn makes() {
     let values = start_values();
     let mut used = Lent::of(with_own_block().library.memory());
     (used.turn.sent, used.turn.applying) = (255, 2);
+    used.classes.fill(3);
     for n in (0..10).chain([256, 258, 1 << 31, u32::MAX]) {
         for own in (0..10).chain([256, 1 << 31, u32::MAX]) {
             let model = second::Replica::make(n, own, &values);

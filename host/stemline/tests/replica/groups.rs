@@ -77,7 +77,7 @@ fn library_and_model_give_the_same() {
     // Fewer runs may meet less.
     if seeds.runs >= RUNS {
         assert!(seen.calls >= 1_000_000, "{} calls", seen.calls);
-        let all: Vec<usize> = (1..=22).collect();
+        let all: Vec<usize> = (1..=23).collect();
         assert_eq!(seen.numbers(20), all, "{seen:?}");
         assert!(seen.commits > 50_000 && seen.aborted > 10_000, "{seen:?}");
         assert!(seen.stale > 5_000 && seen.read_only > 5_000, "{seen:?}");
@@ -88,7 +88,7 @@ fn library_and_model_give_the_same() {
 /// The counts, past the capture of a test that passes: the gate is to show them.
 fn print(seen: &Seen) {
     let mut out = std::io::stdout().lock();
-    let refused: Vec<String> = (1..=22)
+    let refused: Vec<String> = (1..=23)
         .map(|number| format!("{number}: {}", seen.refused[number]))
         .collect();
     let text = format!(

@@ -74,7 +74,7 @@ fn parts_have_one_length() {
             ));
         )*};
     }
-    part!(table queue items writes snapshots values stamps places outbox);
+    part!(table queue items writes snapshots values stamps classes places outbox);
     lines.push_str("printf(\"%zu %zu\\n\", STEMLINE_PLACES(0), STEMLINE_PLACES(5));\n");
     due.push_str("0 2560\n");
     assert_eq!(run_c("lengths", &program(&lines), b""), due);
@@ -97,7 +97,10 @@ fn limits_have_one_name() {
     let c = limits(HEADERS, "#define STEMLINE_", &[' '], '/');
     let rust = limits(include_str!("../../src/lib.rs"), "pub const ", &[':'], ';');
     assert_eq!(c, rust);
-    assert!(rust.len() == 9 && rust["ITEMS"] == ITEMS as u64, "{rust:?}");
+    assert!(
+        rust.len() == 10 && rust["ITEMS"] == ITEMS as u64,
+        "{rust:?}"
+    );
 }
 
 /// STEMLINE_NOT_OPEN in C is Refusal::NotOpen in Rust, by the same number.
@@ -108,7 +111,7 @@ fn numbers_have_one_name() {
     }
     let cases = cases!(WrongLength OutOfRange NotOpen NotActive AllOpen TicketsSpent Applying Locked Stale
         WritesetFull NotOurTurn AlreadySent SlotsSpent WrongCheck WrongForm WrongGroup PastSlot FarSlot
-        NotSent SlotTaken NothingWaits NotOpenAsSent);
+        NotSent SlotTaken NothingWaits NotOpenAsSent LoadWhileApplying);
     let (mut due, mut lines) = (String::new(), String::new());
     for (case, refusal) in cases {
         let mut name = String::new();

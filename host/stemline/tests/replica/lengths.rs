@@ -3,12 +3,12 @@
 use model::drive::start_values;
 use model::samples::{block_of, Random};
 use stemline::ffi::Txn;
-use stemline::Replica;
+use stemline::{Replica, ITEMS};
 
 use crate::lent::{refused, Lent};
 
 /// The parts with a length, by name; a call is lent some of them.
-const PARTS: [&str; 12] = [
+const PARTS: [&str; 14] = [
     "table",
     "queue",
     "items",
@@ -16,11 +16,13 @@ const PARTS: [&str; 12] = [
     "snapshots",
     "values",
     "stamps",
+    "classes",
     "places",
     "outbox",
     "start",
     "block",
     "bytes",
+    "given",
 ];
 
 fn length(lent: &Lent, part: &str) -> usize {
@@ -32,11 +34,13 @@ fn length(lent: &Lent, part: &str) -> usize {
         "snapshots" => lent.snapshots.len(),
         "values" => lent.values.len(),
         "stamps" => lent.stamps.len(),
+        "classes" => lent.classes.len(),
         "places" => lent.places.len(),
         "outbox" => lent.outbox.len(),
         "start" => lent.start.len(),
         "block" => lent.block.len(),
         "bytes" => lent.bytes.len(),
+        "given" => lent.given.len(),
         _ => panic!("no part {part}"),
     }
 }
@@ -50,38 +54,42 @@ fn resize(lent: &mut Lent, part: &str, length: usize) {
         "snapshots" => lent.snapshots.resize(length, 0),
         "values" => lent.values.resize(length, 0),
         "stamps" => lent.stamps.resize(length, 0),
+        "classes" => lent.classes.resize(length, 0),
         "places" => lent.places.resize(length, 0),
         "outbox" => lent.outbox.resize(length, 0),
         "start" => lent.start.resize(length, 0),
         "block" => lent.block.resize(length, 0),
         "bytes" => lent.bytes.resize(length, 0),
+        "given" => lent.given.resize(length, 1),
         _ => panic!("no part {part}"),
     }
 }
 
 /// The calls and the parts that each is lent. A journal has no wrong length.
-pub const CALLS: [(&str, &str); 11] = [
+pub const CALLS: [(&str, &str); 12] = [
     (
         "make",
-        "table queue items writes snapshots values stamps places outbox start",
+        "table queue items writes snapshots values stamps classes places outbox start",
     ),
     (
         "restart",
-        "table queue items writes snapshots values stamps places outbox start block",
+        "table queue items writes snapshots values stamps classes places outbox start block",
     ),
     ("begin", "table values snapshots"),
     ("read", "table items writes snapshots"),
-    ("write", "table items writes stamps"),
+    ("write", "table items writes stamps classes places"),
     ("ask", "table queue"),
     ("withdraw", "table"),
     ("report", "table"),
     ("send", "table queue items writes outbox block"),
     ("deliver", "places outbox bytes"),
     ("work", "table queue items values stamps places block"),
+    ("load", "classes given"),
 ];
 
 /// A replica 0 of 2 at which the call is accepted; and one at which it is refused, by the number. For
-/// a work also one at which it leaves the slot of another.
+/// a work also one at which it leaves the slot of another, for a write and a load those at which a block
+/// of another is applied in part.
 pub fn states(name: &str) -> Vec<(Lent, u8)> {
     let mut replica = Replica::new(2, 0, &start_values()).unwrap();
     let ticket = replica.begin().unwrap();
@@ -126,6 +134,10 @@ pub fn states(name: &str) -> Vec<(Lent, u8)> {
         "send" => 12,
         "deliver" => 14,
         "work" => 21,
+        "load" => {
+            bad.given[127] = 9;
+            2
+        }
         // A report is refused by 1 alone.
         _ => 0,
     };
@@ -135,7 +147,37 @@ pub fn states(name: &str) -> Vec<(Lent, u8)> {
         back.deliver(&bytes).unwrap();
         states.push((lent(&back), 0));
     }
+    if name == "write" || name == "load" {
+        let applying = applying();
+        let number = if name == "write" { 7 } else { 23 };
+        states.push((lent(&applying), number));
+        // Item 6 is of another class than what is still to come.
+        let item = 6;
+        let free = Lent {
+            item,
+            ..lent(&applying)
+        };
+        states.extend((name == "write").then_some((free, 0)));
+    }
     states
+}
+
+/// A replica 0 of 2 that has loaded classes, with one transaction, and a block of another applied in
+/// part: item 9 is still to come, and items 5 and 9 are of one class.
+fn applying() -> Replica {
+    let mut replica = Replica::new(2, 0, &start_values()).unwrap();
+    let own = replica.send().unwrap();
+    replica.take(&own).unwrap();
+    replica.begin().unwrap();
+    replica
+        .load(&std::array::from_fn::<u8, ITEMS, _>(|item| {
+            1 + item as u8 % 2
+        }))
+        .unwrap();
+    let records: [(u32, &[(u8, i32)]); 2] = [(3, &[(8, 1)]), (4, &[(9, 1)])];
+    replica.deliver(&block_of(2, 1, &records)).unwrap();
+    assert!(!replica.work().unwrap().moved);
+    replica
 }
 
 /// Calls with these parts at wrong lengths; none of the parts may be lent to it, or it is 1.

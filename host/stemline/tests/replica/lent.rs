@@ -2,7 +2,7 @@
 
 use model::drive::start_values;
 use stemline::ffi::{self, Counts, Turn, Txn};
-use stemline::{Memory, BLOCK};
+use stemline::{Memory, BLOCK, ITEMS};
 
 /// All that the calls are lent, and what else they are given.
 #[derive(Clone, Debug, PartialEq)]
@@ -16,6 +16,7 @@ pub struct Lent {
     pub snapshots: Vec<i32>,
     pub values: Vec<i32>,
     pub stamps: Vec<u32>,
+    pub classes: Vec<u8>,
     pub places: Vec<u8>,
     pub outbox: Vec<u8>,
     /// What a make starts with.
@@ -26,6 +27,8 @@ pub struct Lent {
     pub bytes: Vec<u8>,
     /// What a restart gets.
     pub journal: Vec<u8>,
+    /// What a load gets.
+    pub given: Vec<u8>,
     pub n: u32,
     pub own: u32,
     pub ticket: u32,
@@ -45,12 +48,14 @@ impl Lent {
             snapshots: memory.snapshots.to_vec(),
             values: memory.values.to_vec(),
             stamps: memory.stamps.to_vec(),
+            classes: memory.classes.to_vec(),
             places: memory.places.to_vec(),
             outbox: memory.outbox.to_vec(),
             start: start_values().to_vec(),
             block: vec![0xa5; BLOCK],
             bytes: vec![0; BLOCK],
             journal: Vec::new(),
+            given: vec![1; ITEMS],
             n: 2,
             own: 0,
             ticket: 0,
@@ -72,6 +77,7 @@ impl Lent {
             snapshots: self.snapshots[..].try_into().expect(wrong),
             values: self.values[..].try_into().expect(wrong),
             stamps: self.stamps[..].try_into().expect(wrong),
+            classes: self.classes[..].try_into().expect(wrong),
             places: self.places.clone().into_boxed_slice(),
             outbox: self.outbox[..].try_into().expect(wrong),
         }
@@ -100,6 +106,7 @@ impl Lent {
                 &mut l.snapshots,
                 &mut l.values,
                 &mut l.stamps,
+                &mut l.classes,
                 &mut l.places,
                 &mut l.outbox,
             ),
@@ -117,6 +124,7 @@ impl Lent {
                     &mut l.snapshots,
                     &mut l.values,
                     &mut l.stamps,
+                    &mut l.classes,
                     &mut l.places,
                     &mut l.outbox,
                     &l.journal,
@@ -149,6 +157,8 @@ impl Lent {
                 &mut l.items,
                 &mut l.writes,
                 &l.stamps,
+                &l.classes,
+                &l.places,
                 l.item,
                 l.value,
             ),
@@ -186,6 +196,7 @@ impl Lent {
                     &mut l.block
                 ))
             }
+            "load" => ffi::load(&l.turn, &mut l.classes, &l.given),
             _ => panic!("no call {name}"),
         };
         (number, format!("{number}"))

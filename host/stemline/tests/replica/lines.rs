@@ -21,6 +21,7 @@ pub fn line(k: usize, call: &Call) -> String {
         Call::Send => format!("S {k}"),
         Call::Deliver { bytes } => format!("H {k} {}", hex(bytes)),
         Call::Work => format!("K {k}"),
+        Call::Load { classes } => format!("P {k} {}", hex(classes)),
     }
 }
 
@@ -54,6 +55,9 @@ pub fn parse(line: &str, shown: &str) -> Option<(usize, Call, Result<Answer, u8>
             bytes: bytes(fields.next()?)?,
         },
         "K" => Call::Work,
+        "P" => Call::Load {
+            classes: bytes(fields.next()?)?,
+        },
         _ => return None,
     };
     let answer = match shown.split_once(' ').unwrap_or((shown, "")) {
@@ -71,7 +75,8 @@ fn answer(call: &Call, rest: &str) -> Option<Answer> {
         Call::Read { .. } => Answer::Value(rest.parse().ok()?),
         Call::Ask { .. } => Answer::ReadOnly(rest == "1"),
         Call::Send => Answer::Block(block(rest)?),
-        Call::Write { .. } | Call::Withdraw { .. } | Call::Deliver { .. } => Answer::Done,
+        Call::Write { .. } | Call::Withdraw { .. } => Answer::Done,
+        Call::Deliver { .. } | Call::Load { .. } => Answer::Done,
         Call::Report => {
             let [turn, commits, tickets, open, committed, read_only, aborted, withdrawn] =
                 numbers?[..].try_into().ok()?;

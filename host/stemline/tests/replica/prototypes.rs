@@ -1,7 +1,11 @@
-//! The eleven functions with their parameters, in order, as the engine exports them; the C header and the
+//! The twelve functions with their parameters, in order, as the three crates of the engine export them; the C header and the
 //! Rust crate declare the same. A compiler sees types alone, of which several parameters have the same.
 
-const ENGINE: &str = include_str!("../../../../crates/replica/src/lib.rt");
+const ENGINE: &str = concat!(
+    include_str!("../../../../crates/replica_make/src/lib.rt"),
+    include_str!("../../../../crates/replica_client/src/lib.rt"),
+    include_str!("../../../../crates/replica_turn/src/lib.rt"),
+);
 const HEADER: &str = include_str!("../../../include/stemline_calls.h");
 const RUST: &str = include_str!("../../src/ffi.rs");
 
@@ -74,10 +78,16 @@ fn parameter_in_c(parameter: &str) -> Vec<String> {
     }
 }
 
+/// By name: the crates' order is their own.
+fn sorted(mut all: Vec<Function>) -> Vec<Function> {
+    all.sort_by(|a, b| a.name.cmp(&b.name));
+    all
+}
+
 fn engine() -> Vec<Function> {
     let found = functions(ENGINE, "pub extern \"C\" fn ", &['\n', '{']);
-    assert_eq!(found.len(), 11);
-    found
+    assert_eq!(found.len(), 12);
+    sorted(found)
 }
 
 /// The prototypes of the header, which stand in its last section.
@@ -101,8 +111,8 @@ fn the_header_declares_them() {
             .collect(),
         name: function.name,
     });
-    let (declared, due): (Vec<_>, Vec<_>) = (declared.collect(), due.collect());
-    assert_eq!(declared, due);
+    let due: Vec<_> = due.collect();
+    assert_eq!(sorted(declared.collect()), due);
 }
 
 /// The crate's, which writes `mut [T]` and `ref [T]` for slices.
@@ -111,5 +121,5 @@ fn the_crate_declares_them() {
     let (_, calls) = RUST.split_once("\ncalls! {").unwrap();
     let calls = calls.replace("mut [", "&mut [").replace("ref [", "&[");
     let declared = functions(&calls, " = ", &[';']);
-    assert_eq!(declared, engine());
+    assert_eq!(sorted(declared), engine());
 }

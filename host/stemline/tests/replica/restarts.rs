@@ -114,6 +114,7 @@ fn journal(random: &mut Random, n: u32, style: Style) -> Vec<u8> {
 fn over_used_parts(random: &mut Random, restart: &Restart, both: &Both) {
     let mut used = Lent::of(both.library.memory());
     random.fill(&mut used.items);
+    random.fill(&mut used.classes);
     random.fill(&mut used.places);
     random.fill(&mut used.outbox);
     random.fill(&mut used.block);

@@ -43,6 +43,7 @@ pub fn play(durable: &mut Durable, call: &Call) -> Result<Answer, u8> {
         Call::Send => durable.send().map(|block| Answer::Block(Box::new(block))),
         Call::Deliver { ref bytes } => durable.deliver(bytes).map(|()| Answer::Done),
         Call::Work => durable.work().map(|work| Answer::Work(worked(&work))),
+        Call::Load { ref classes } => durable.load(classes).map(|()| Answer::Done),
     };
     played.map_err(|failure| match failure.refusal() {
         Some(refusal) => refusal.number(),

@@ -1,13 +1,30 @@
 -- `client::write` meets its contract.
-use mathlib.Core.Path.{ap}
+use mathlib.Core.Path.{_≡_, sym, ap}
+use native.Mathlib.Omega.{arith}
 use borrow.Author.Needs.{needs}
-use lib.ListN.{drop}
+use lib.ListN.{length, drop}
+use lib.Seq.{length-take-le}
 use mir.Facts.{toZ-ofZ}
 use Rattle.replay_calls.specs.Effects.{memoryOf}
 use Rattle.replay_calls.specs.declared.Replica.{Replica}
 use Rattle.replay_calls.proofs.EffectLaws.{plays-bare, bare-effect, bare-write}
 use Rattle.replay_calls.proofs.client.write.Statement.{statement}
 use Rattle.replay_calls.proofs.client.write.Tie as tie
+
+stamps-long : (c : tie.Start) → length (c .args .replica .stamps) ≡ 128
+stamps-long c = search needs
+
+classes-long : (c : tie.Start) → length (c .args .replica .classes) ≡ 128
+classes-long c = search needs
+
+places-long : (c : tie.Start) → length (c .args .replica .places) ≡ 3072
+places-long c = search needs
+
+cast-places-size : tie.Need-cast-places-size
+cast-places-size c = search needs
+
+places-size-requires : tie.Need-places-size-requires
+places-size-requires c κs = search needs
 
 row-of-requires : tie.Need-row-of-requires
 row-of-requires c κs = search needs
@@ -19,7 +36,18 @@ slice-aggregate-write-2 : tie.Need-slice-aggregate-write-2
 slice-aggregate-write-2 c = search needs
 
 slice-aggregate-write-3 : tie.Need-slice-aggregate-write-3
-slice-aggregate-write-3 c = search needs
+slice-aggregate-write-3 c = sym (stamps-long (c .before .before .before .before .before .before .before .before .before .before .before .before .before .before))
+
+slice-aggregate-write-4 : tie.Need-slice-aggregate-write-4
+slice-aggregate-write-4 c = sym (classes-long (c .before .before .before .before .before .before .before .before .before .before .before .before .before .before .before))
+
+array-share-prefix-places : tie.Need-array-share-prefix-places
+array-share-prefix-places c = omega (arith, c .before .before .before .before .before .places-size .ensures .1, places-long (c .before .before .before .before .before .before .before .before .before .before .before .before .before .before .before))
+
+slice-aggregate-write-5 : tie.Need-slice-aggregate-write-5
+slice-aggregate-write-5 c =
+    let z = c .before .before .before .before .before .before in
+    sym (length-take-le (z .places-size .result) (c .before .before .before .before .before .before .before .before .before .before .before .before .before .before .before .before .args .replica .places) (omega (arith, z .places-size .ensures .1, places-long (c .before .before .before .before .before .before .before .before .before .before .before .before .before .before .before .before))))
 
 write-requires : tie.Need-write-requires
 write-requires c κs = search needs
@@ -32,22 +60,33 @@ bare-requires c κs = search needs
 
 returns : tie.Need-returns
 returns c =
-    λ size lent.
-    let s = c .before .before .before .before .before .before .before .before .before .before .before .before .before .before .before .before .before .args .replica in
-    let g = rw (toZ-ofZ (c .before .before .before .before .before .before .before .before .before .before .before .before .before .before .before .before .before .fits .value)) at (c .before .before .before .before .before .before .write .ensures .0 (memoryOf size s)) in
+    let w = c .before .before .before .before .before .before in
+    let r = w .before .before .before .before .before .before in
+    let z = r .before in
+    let s = z .before .before .before .before .before .before .before .before .before .before in
+    let a = s .args in
+    let size = z .places-size .result in
+    let g = rw (toZ-ofZ (s .fits .value)) at (w .write .ensures .0 (memoryOf size (a .replica))) in
+    rw (← z .places-size .ensures .0)
+    (λ lent.
     plays-bare
     (c .bare .ensures)
-    (rw (c .before .with-row .ensures, ← c .before .before .before .before .before .before .before .before .before .before .row-of .ensures) (bare-effect lent (bare-write lent (memoryOf size s) (c .before .before .before .before .before .before .before .before .before .before .row-of .result) (c .before .before .before .before .before .before .before .before .before .before .before .before .before .before .before .before .before .args .item) (c .before .before .before .before .before .before .before .before .before .before .before .before .before .before .before .before .before .args .value)) g))
-    (ap (λ (r : Replica). drop size (r .places)) (c .before .with-row .ensures))
+    (rw (c .before .with-row .ensures, ← r .row-of .ensures) (bare-effect lent (bare-write lent (memoryOf size (a .replica)) (r .row-of .result) (a .item) (a .value)) g))
+    (ap (λ (x : Replica). drop size (x .places)) (c .before .with-row .ensures)))
 
 pub write-spec : {M : Type 1} → statement M
 write-spec =
     tie.close
     (tie.spec
+    cast-places-size
+    places-size-requires
     row-of-requires
     slice-aggregate-write
     slice-aggregate-write-2
     slice-aggregate-write-3
+    slice-aggregate-write-4
+    array-share-prefix-places
+    slice-aggregate-write-5
     write-requires
     with-row-requires
     bare-requires

@@ -30,6 +30,9 @@ values-long c = search needs
 stamps-long : (c : tie.Start) → length (c .args .replica .stamps) ≡ 128
 stamps-long c = search needs
 
+classes-long : (c : tie.Start) → length (c .args .replica .classes) ≡ 128
+classes-long c = search needs
+
 places-long : (c : tie.Start) → length (c .args .replica .places) ≡ 3072
 places-long c = search needs
 
@@ -46,31 +49,36 @@ slice-aggregate-restart : tie.Need-slice-aggregate-restart
 slice-aggregate-restart c = search needs
 
 slice-aggregate-restart-2 : tie.Need-slice-aggregate-restart-2
-slice-aggregate-restart-2 c = sym (queue-long (c .before .before .before .before .before .before .before .before .before .before .before .before .before .before))
+slice-aggregate-restart-2 c = sym (queue-long (c .before .before .before .before .before .before .before .before .before .before .before .before .before .before .before))
 
 slice-aggregate-restart-3 : tie.Need-slice-aggregate-restart-3
-slice-aggregate-restart-3 c = sym (items-long (c .before .before .before .before .before .before .before .before .before .before .before .before .before .before .before))
+slice-aggregate-restart-3 c = sym (items-long (c .before .before .before .before .before .before .before .before .before .before .before .before .before .before .before .before))
 
 slice-aggregate-restart-4 : tie.Need-slice-aggregate-restart-4
-slice-aggregate-restart-4 c = sym (writes-long (c .before .before .before .before .before .before .before .before .before .before .before .before .before .before .before .before))
+slice-aggregate-restart-4 c = sym (writes-long (c .before .before .before .before .before .before .before .before .before .before .before .before .before .before .before .before .before))
 
 slice-aggregate-restart-5 : tie.Need-slice-aggregate-restart-5
-slice-aggregate-restart-5 c = sym (snapshots-long (c .before .before .before .before .before .before .before .before .before .before .before .before .before .before .before .before .before))
+slice-aggregate-restart-5 c = sym (snapshots-long (c .before .before .before .before .before .before .before .before .before .before .before .before .before .before .before .before .before .before))
 
 slice-aggregate-restart-6 : tie.Need-slice-aggregate-restart-6
-slice-aggregate-restart-6 c = sym (values-long (c .before .before .before .before .before .before .before .before .before .before .before .before .before .before .before .before .before .before))
+slice-aggregate-restart-6 c = sym (values-long (c .before .before .before .before .before .before .before .before .before .before .before .before .before .before .before .before .before .before .before))
 
 slice-aggregate-restart-7 : tie.Need-slice-aggregate-restart-7
-slice-aggregate-restart-7 c = sym (stamps-long (c .before .before .before .before .before .before .before .before .before .before .before .before .before .before .before .before .before .before .before))
-
-array-borrow-prefix-places : tie.Need-array-borrow-prefix-places
-array-borrow-prefix-places c = omega (arith, c .before .before .before .before .before .before .before .before .before .before .before .before .before .before .before .places-size .ensures .1, places-long (c .before .before .before .before .before .before .before .before .before .before .before .before .before .before .before .before .before .before .before))
+slice-aggregate-restart-7 c = sym (stamps-long (c .before .before .before .before .before .before .before .before .before .before .before .before .before .before .before .before .before .before .before .before))
 
 slice-aggregate-restart-8 : tie.Need-slice-aggregate-restart-8
-slice-aggregate-restart-8 c = sym (length-take-le (c .before .before .before .before .before .before .before .before .before .before .before .before .before .before .before .before .places-size .result) (c .before .before .before .before .before .before .before .before .before .before .before .before .before .before .before .before .before .before .before .before .args .replica .places) (omega (arith, c .before .before .before .before .before .before .before .before .before .before .before .before .before .before .before .before .places-size .ensures .1, places-long (c .before .before .before .before .before .before .before .before .before .before .before .before .before .before .before .before .before .before .before .before))))
+slice-aggregate-restart-8 c = sym (classes-long (c .before .before .before .before .before .before .before .before .before .before .before .before .before .before .before .before .before .before .before .before .before))
+
+array-borrow-prefix-places : tie.Need-array-borrow-prefix-places
+array-borrow-prefix-places c = omega (arith, c .before .before .before .before .before .before .before .before .before .before .before .before .before .before .before .before .before .places-size .ensures .1, places-long (c .before .before .before .before .before .before .before .before .before .before .before .before .before .before .before .before .before .before .before .before .before))
 
 slice-aggregate-restart-9 : tie.Need-slice-aggregate-restart-9
-slice-aggregate-restart-9 c = sym (outbox-long (c .before .before .before .before .before .before .before .before .before .before .before .before .before .before .before .before .before .before .before .before .before))
+slice-aggregate-restart-9 c =
+    let z = c .before .before .before .before .before .before .before .before .before .before .before .before .before .before .before .before .before .before in
+    sym (length-take-le (z .places-size .result) (z .before .before .before .before .args .replica .places) (omega (arith, z .places-size .ensures .1, places-long (z .before .before .before .before))))
+
+slice-aggregate-restart-10 : tie.Need-slice-aggregate-restart-10
+slice-aggregate-restart-10 c = sym (outbox-long (c .before .before .before .before .before .before .before .before .before .before .before .before .before .before .before .before .before .before .before .before .before .before .before))
 
 restart-requires : tie.Need-restart-requires
 restart-requires c κs = search needs
@@ -93,13 +101,13 @@ start-is c = rw (toZ-ofZ (c .before .before .before .fits .value)) at (c .repeat
 
 returns : tie.Need-returns
 returns c =
-    let m = c .before .before .before .before .before .before .before .before .before .before .before .before .before .before in
-    let z = m .before .before .before .before .before .before .before .before .before .before .before .before .before .before .before .before .before .before .before in
+    let m = c .before .before .before .before .before .before .before .before .before .before .before .before .before .before .before in
+    let z = m .before .before .before .before .before .before .before .before .before .before .before .before .before .before .before .before .before .before .before .before .before in
     let a = z .before .before .before .before .args in
     let s = a .replica in
     let size = z .places-size .result in
-    let left = m .restart .last .1 .1 .1 .1 .1 .1 .1 .1 .1 .0 in
-    let l : length left ≡ size = m .restart .kept .1 .1 .1 .1 .1 .1 .1 .1 .1 .0 ∙ length-take-le size (s .places) (omega (arith, z .places-size .ensures .1, places-long (z .before .before .before .before))) in
+    let left = m .restart .last .1 .1 .1 .1 .1 .1 .1 .1 .1 .1 .0 in
+    let l : length left ≡ size = m .restart .kept .1 .1 .1 .1 .1 .1 .1 .1 .1 .1 .0 ∙ length-take-le size (s .places) (omega (arith, z .places-size .ensures .1, places-long (z .before .before .before .before))) in
     let g = rw (start-is (z .before)) at (m .restart .ensures (s .turn) (s .counts) (s .rows)) in
     rw (← z .places-size .ensures .0)
     (plays-numbers
@@ -121,9 +129,10 @@ restart-spec =
     slice-aggregate-restart-5
     slice-aggregate-restart-6
     slice-aggregate-restart-7
-    array-borrow-prefix-places
     slice-aggregate-restart-8
+    array-borrow-prefix-places
     slice-aggregate-restart-9
+    slice-aggregate-restart-10
     restart-requires
     if-made-requires
     changing-requires

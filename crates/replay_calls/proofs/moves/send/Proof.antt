@@ -1,11 +1,15 @@
 -- `moves::send` meets its contract.
-use mathlib.Core.Path.{refl}
+use mathlib.Core.Path.{_≡_, refl, sym}
 use borrow.Author.Needs.{needs}
+use lib.ListN.{length}
 use Rattle.replay_calls.specs.Effects.{memoryOf}
 use Rattle.replay_calls.proofs.EffectLaws.{plays-bare}
 use Rattle.replay_calls.proofs.MoveLaws.{send-effect}
 use Rattle.replay_calls.proofs.moves.send.Statement.{statement}
 use Rattle.replay_calls.proofs.moves.send.Tie as tie
+
+outbox-long : (c : tie.Start) → length (c .args .replica .outbox) ≡ 512
+outbox-long c = search needs
 
 slice-aggregate-send : tie.Need-slice-aggregate-send
 slice-aggregate-send c = search needs
@@ -17,7 +21,7 @@ slice-aggregate-send-3 : tie.Need-slice-aggregate-send-3
 slice-aggregate-send-3 c = search needs
 
 slice-aggregate-send-4 : tie.Need-slice-aggregate-send-4
-slice-aggregate-send-4 c = search needs
+slice-aggregate-send-4 c = sym (outbox-long (c .before .before .before .before .before .before .before .before .before .before .before .before))
 
 send-requires : tie.Need-send-requires
 send-requires c κs = search needs

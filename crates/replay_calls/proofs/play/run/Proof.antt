@@ -1,7 +1,7 @@
 -- `play::run` meets its contract.
 use borrow.Author.Needs.{needs}
 use mir.Facts.{toZ-ofZ}
-use Rattle.replay_calls.proofs.RunLaws.{run-make, run-begin, run-read, run-write, run-ask, run-withdraw, run-report, run-send, run-deliver, run-work, run-restart, run-show, run-look}
+use Rattle.replay_calls.proofs.RunLaws.{run-make, run-begin, run-read, run-write, run-ask, run-withdraw, run-report, run-send, run-deliver, run-work, run-restart, run-load, run-show, run-look}
 use Rattle.replay_calls.proofs.play.run.Statement.{statement}
 use Rattle.replay_calls.proofs.play.run.Tie as tie
 
@@ -37,6 +37,9 @@ work-requires c κs = search needs
 
 restart-requires : tie.Need-restart-requires
 restart-requires c κs = search needs
+
+load-requires : tie.Need-load-requires
+load-requires c κs = search needs
 
 show-requires : tie.Need-show-requires
 show-requires c κs = search needs
@@ -113,14 +116,19 @@ same-length-4 c = search needs
 
 returns-12 : tie.Need-returns-12
 returns-12 c =
-    let a = c .before .before .before .before .before .before .before .args in
-    run-show (a .call) (a .replica) (c .before .before .show .result) (a .bytes .now) (a .block .now) (c .before .before .show .last .1 .1 .0) (c .before .before .before .before .match .keys12) (c .before .before .show .ensures)
+    let a = c .before .before .before .before .args in
+    run-load (a .call) (a .replica) (c .load .result) (a .bytes .now) (a .block .now) (c .before .match .keys12) (c .load .ensures)
 
 returns-13 : tie.Need-returns-13
 returns-13 c =
+    let a = c .before .before .before .before .before .before .before .args in
+    run-show (a .call) (a .replica) (c .before .before .show .result) (a .bytes .now) (a .block .now) (c .before .before .show .last .1 .1 .0) (c .before .before .before .before .match .keys13) (c .before .before .show .ensures)
+
+returns-14 : tie.Need-returns-14
+returns-14 c =
     let a = c .before .before .before .before .args in
     let n = c .before .match .rest in
-    run-look (a .call) (a .replica) (c .shown .result) (a .bytes .now) (a .block .now) (n .0 .0 .0 .0 .0 .0 .0 .0 .0 .0 .0 .1) (n .0 .0 .0 .0 .0 .0 .0 .0 .0 .0 .1) (n .0 .0 .0 .0 .0 .0 .0 .0 .0 .1) (n .0 .0 .0 .0 .0 .0 .0 .0 .1) (n .0 .0 .0 .0 .0 .0 .0 .1) (n .0 .0 .0 .0 .0 .0 .1) (n .0 .0 .0 .0 .0 .1) (n .0 .0 .0 .0 .1) (n .0 .0 .0 .1) (n .0 .0 .1) (n .0 .1) (n .1) (c .shown .ensures)
+    run-look (a .call) (a .replica) (c .shown .result) (a .bytes .now) (a .block .now) (n .0 .0 .0 .0 .0 .0 .0 .0 .0 .0 .0 .0 .1) (n .0 .0 .0 .0 .0 .0 .0 .0 .0 .0 .0 .1) (n .0 .0 .0 .0 .0 .0 .0 .0 .0 .0 .1) (n .0 .0 .0 .0 .0 .0 .0 .0 .0 .1) (n .0 .0 .0 .0 .0 .0 .0 .0 .1) (n .0 .0 .0 .0 .0 .0 .0 .1) (n .0 .0 .0 .0 .0 .0 .1) (n .0 .0 .0 .0 .0 .1) (n .0 .0 .0 .0 .1) (n .0 .0 .0 .1) (n .0 .0 .1) (n .0 .1) (n .1) (c .shown .ensures)
 
 pub run-spec : {M : Type 1} → statement M
 run-spec =
@@ -137,6 +145,7 @@ run-spec =
     deliver-requires
     work-requires
     restart-requires
+    load-requires
     show-requires
     shown-requires
     returns
@@ -153,6 +162,7 @@ run-spec =
     returns-10
     same-length-3
     returns-11
-    same-length-4
     returns-12
-    returns-13)
+    same-length-4
+    returns-13
+    returns-14)

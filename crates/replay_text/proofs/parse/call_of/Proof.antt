@@ -3,7 +3,7 @@ use mathlib.Core.Logic.{inl, inr, ⊎-elim}
 use mathlib.Core.Path.{_∙_}
 use borrow.Author.Needs.{needs}
 use lib.ListN.{getD, drop}
-use Rattle.replay_text.proofs.LineLaws.{call-short, call-long, behind-three, behind-two, behind-one, behind-value, behind-bare, behind-none}
+use Rattle.replay_text.proofs.LineLaws.{call-short, call-long, behind-three, behind-two, behind-one, behind-value, behind-bare, behind-load, behind-none}
 use Rattle.replay_text.proofs.parse.call_of.Statement.{statement}
 use Rattle.replay_text.proofs.parse.call_of.Tie as tie
 
@@ -36,6 +36,12 @@ made-requires c κs = search needs
 
 at-end-requires : tie.Need-at-end-requires
 at-end-requires c κs = search needs
+
+made-requires-2 : tie.Need-made-requires-2
+made-requires-2 c κs = search needs
+
+at-end-requires-2 : tie.Need-at-end-requires-2
+at-end-requires-2 c κs = search needs
 
 no-call-requires-2 : tie.Need-no-call-requires-2
 no-call-requires-2 c κs = search needs
@@ -72,9 +78,14 @@ returns-7 c =
 
 returns-8 : tie.Need-returns-8
 returns-8 c =
+    let line = c .before .before .before .before .before .before .args .line .now in
+    call-long line (c .before .before .before .before .if1 .left) (rw (c .before .made2 .ensures) at (c .at-end2 .ensures) ∙ behind-load (getD line 0 0) (drop 3 line) (c .before .before .match .keys7))
+
+returns-9 : tie.Need-returns-9
+returns-9 c =
     let line = c .before .before .before .before .before .args .line .now in
     let n = c .before .match .rest in
-    call-long line (c .before .before .before .if1 .left) (c .no-call2 .ensures ∙ behind-none (getD line 0 0) (drop 3 line) (n .0 .0 .0 .0 .0 .1) (n .0 .0 .0 .0 .1) (n .0 .0 .0 .1) (n .0 .0 .1) (n .0 .1) (n .1))
+    call-long line (c .before .before .before .if1 .left) (c .no-call2 .ensures ∙ behind-none (getD line 0 0) (drop 3 line) (n .0 .0 .0 .0 .0 .0 .1) (n .0 .0 .0 .0 .0 .1) (n .0 .0 .0 .0 .1) (n .0 .0 .0 .1) (n .0 .0 .1) (n .0 .1) (n .1))
 
 pub call-of-spec : {M : Type 1} → statement M
 call-of-spec =
@@ -90,6 +101,8 @@ call-of-spec =
     with-one-value-requires
     made-requires
     at-end-requires
+    made-requires-2
+    at-end-requires-2
     no-call-requires-2
     returns-2
     returns-3
@@ -97,4 +110,5 @@ call-of-spec =
     returns-5
     returns-6
     returns-7
-    returns-8)
+    returns-8
+    returns-9)

@@ -77,7 +77,12 @@ impl Historical {
             moved: true,
             aborted: Vec::new(),
         };
-        let done = self.done();
+        let (done, classes) = (self.done(), self.classes());
+        let by_class = self.fault == Fault::AbortsByClass;
+        let conflict = |item: u32, other: u8| match by_class {
+            true => classes[item as usize] == classes[usize::from(other)],
+            false => item == u32::from(other),
+        };
         let record = message.records.get(done);
         if let Some(record) = record.filter(|_| self.fault != Fault::DropsBlocks) {
             work.ticket = record.ticket;
@@ -86,7 +91,7 @@ impl Historical {
             for t in &mut self.begun {
                 let spared = t.state == State::Asked && self.fault == Fault::SparesAsked;
                 let in_reach = matches!(t.state, State::Active | State::Asked) && !spared;
-                let written = |e: &Entry| t.last_write(u32::from(e.item)).is_some();
+                let written = |e: &Entry| t.writes.iter().any(|w| conflict(w.0, e.item));
                 if own && t.ticket == record.ticket {
                     t.state = State::Committed;
                 } else if !own && in_reach && record.entries.iter().any(written) {

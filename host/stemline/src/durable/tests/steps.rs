@@ -50,7 +50,13 @@ fn append_then_sync() {
     assert_eq!((replica.values()[5], replica.report().turn), (0, 8));
     replica.ask(ticket).unwrap();
     assert!(replica.is_turn());
+    replica.load(&[2; ITEMS]).unwrap();
     assert_eq!(told::steps(), [""; 0]);
+    // No journal keeps the classes.
+    assert_eq!(replica.replica.memory().classes, [2; ITEMS]);
+    drop(replica);
+    let (replica, _) = open(&room, 2, 0).unwrap();
+    assert_eq!(replica.replica.memory().classes, [0; ITEMS]);
 }
 
 /// What is torn is cut off, and the rest durable before anything goes on.

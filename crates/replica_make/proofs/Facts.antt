@@ -1,0 +1,39 @@
+-- What each call says by value (`On`), what it says of the lent parts (`Did`), and the way from the one to the other. Written by `scripts/walks`. Assumes nothing.
+use Prim.Native.Nat.{ℕ}
+use mathlib.Core.Path.{_≡_, refl}
+use mathlib.Core.List.{List}
+use lib.IntN.{ℤ}
+use lib.ListN.{length, replicate}
+use Rattle.memory.specs.declared.Counts.{Counts}
+use Rattle.memory.specs.declared.Turn.{Turn}
+use Rattle.memory.specs.declared.Txn.{Txn}
+use Rattle.memory.specs.Memory.{Memory}
+use Rattle.memory.specs.Rows.{closed}
+use Rattle.engine.specs.Make.{turnZero, countsFor, makeStep}
+use Rattle.engine.specs.Restart.{restartStep}
+use Rattle.call_reply.specs.Parts.{allParts}
+use Rattle.call_reply.specs.Replies.{number, restartReply, Gives, GivesWith}
+use Rattle.call_reply.specs.declared.RestartReply.{RestartReply}
+use Rattle.call_reply.specs.declared.Made.{Made}
+use Rattle.call_reply.specs.declared.Restarted.{Restarted}
+use Rattle.call_reply.specs.Called.{called}
+use Rattle.call_make.specs.Made.{ifMade}
+use Rattle.call_reply.proofs.CalledLaws.{called-other}
+
+abbrev pub MakeOn : ℕ → ℕ → List ℤ → List ℕ → List ℕ → List ℤ → List ℤ → List ℤ → List ℕ → List ℕ → List ℕ → List ℕ → Made → List ℕ → List ℕ → List ℤ → List ℤ → List ℤ → List ℕ → List ℕ → List ℕ → List ℕ → Type 0
+MakeOn size me start queue items writes snapshots values stamps classes places outbox r queue′ items′ writes′ snapshots′ values′ stamps′ classes′ places′ outbox′ = ((turn : Turn) (counts : Counts) (table : List Txn) → Gives number (makeStep (allParts turn counts table queue items writes snapshots values stamps classes places outbox) size me start) (r .number) (allParts (ifMade (r .number) (r .turn) turn) (ifMade (r .number) (r .counts) counts) (ifMade (r .number) (replicate 6 closed) table) queue′ items′ writes′ snapshots′ values′ stamps′ classes′ places′ outbox′)) × (r .turn ≡ turnZero) × (r .counts ≡ ifMade (r .number) (countsFor size me) (countsFor 0 0))
+
+abbrev pub MakeDid : List Txn → Turn → Counts → ℕ → ℕ → List ℤ → List ℕ → List ℕ → List ℤ → List ℤ → List ℤ → List ℕ → List ℕ → List ℕ → List ℕ → ℕ → List Txn → Turn → Counts → List ℕ → List ℕ → List ℤ → List ℤ → List ℤ → List ℕ → List ℕ → List ℕ → List ℕ → Type 0
+MakeDid table turn counts size me start queue items writes snapshots values stamps classes places outbox r table′ turn′ counts′ queue′ items′ writes′ snapshots′ values′ stamps′ classes′ places′ outbox′ = Gives number (called (λ (x : Memory). makeStep x size me start) (allParts turn counts table queue items writes snapshots values stamps classes places outbox)) (r) (allParts turn′ counts′ table′ queue′ items′ writes′ snapshots′ values′ stamps′ classes′ places′ outbox′)
+
+pub make-not : (table : List Txn) (turn : Turn) (counts : Counts) (size : ℕ) (me : ℕ) (start : List ℤ) (queue : List ℕ) (items : List ℕ) (writes : List ℤ) (snapshots : List ℤ) (values : List ℤ) (stamps : List ℕ) (classes : List ℕ) (places : List ℕ) (outbox : List ℕ) → (length table ≡ 6 → ⊥) → MakeDid table turn counts size me start queue items writes snapshots values stamps classes places outbox (1) table turn counts queue items writes snapshots values stamps classes places outbox
+make-not table turn counts size me start queue items writes snapshots values stamps classes places outbox other = rw (called-other (λ (x : Memory). makeStep x size me start) (allParts turn counts table queue items writes snapshots values stamps classes places outbox) other) (refl, refl)
+
+abbrev pub RestartOn : ℕ → ℕ → List ℤ → List ℕ → List ℕ → List ℤ → List ℤ → List ℤ → List ℕ → List ℕ → List ℕ → List ℕ → List ℕ → List ℕ → Restarted → List ℕ → List ℕ → List ℤ → List ℤ → List ℤ → List ℕ → List ℕ → List ℕ → List ℕ → List ℕ → Type 0
+RestartOn size me start queue items writes snapshots values stamps classes places outbox journal block r queue′ items′ writes′ snapshots′ values′ stamps′ classes′ places′ outbox′ block′ = (turn : Turn) (counts : Counts) (table : List Txn) → GivesWith restartReply (restartStep (allParts turn counts table queue items writes snapshots values stamps classes places outbox) size me start journal block) block (r .reply) (allParts (ifMade (r .reply .number) (r .turn) turn) (ifMade (r .reply .number) (r .counts) counts) (ifMade (r .reply .number) (replicate 6 closed) table) queue′ items′ writes′ snapshots′ values′ stamps′ classes′ places′ outbox′) block′
+
+abbrev pub RestartDid : List Txn → Turn → Counts → ℕ → ℕ → List ℤ → List ℕ → List ℕ → List ℤ → List ℤ → List ℤ → List ℕ → List ℕ → List ℕ → List ℕ → List ℕ → List ℕ → RestartReply → List Txn → Turn → Counts → List ℕ → List ℕ → List ℤ → List ℤ → List ℤ → List ℕ → List ℕ → List ℕ → List ℕ → List ℕ → Type 0
+RestartDid table turn counts size me start queue items writes snapshots values stamps classes places outbox journal block r table′ turn′ counts′ queue′ items′ writes′ snapshots′ values′ stamps′ classes′ places′ outbox′ block′ = GivesWith restartReply (called (λ (x : Memory). restartStep x size me start journal block) (allParts turn counts table queue items writes snapshots values stamps classes places outbox)) block (r) (allParts turn′ counts′ table′ queue′ items′ writes′ snapshots′ values′ stamps′ classes′ places′ outbox′) block′
+
+pub restart-not : (table : List Txn) (turn : Turn) (counts : Counts) (size : ℕ) (me : ℕ) (start : List ℤ) (queue : List ℕ) (items : List ℕ) (writes : List ℤ) (snapshots : List ℤ) (values : List ℤ) (stamps : List ℕ) (classes : List ℕ) (places : List ℕ) (outbox : List ℕ) (journal : List ℕ) (block : List ℕ) → (length table ≡ 6 → ⊥) → RestartDid table turn counts size me start queue items writes snapshots values stamps classes places outbox journal block (record { number = 1; count = 0 }) table turn counts queue items writes snapshots values stamps classes places outbox block
+restart-not table turn counts size me start queue items writes snapshots values stamps classes places outbox journal block other = rw (called-other (λ (x : Memory). restartStep x size me start journal block) (allParts turn counts table queue items writes snapshots values stamps classes places outbox) other) ((refl, refl), refl)

@@ -1,0 +1,42 @@
+-- What each call says by value (`On`), what it says of the lent parts (`Did`), and the way from the one to the other. Written by `scripts/walks`. Assumes nothing.
+use Prim.Native.Nat.{ℕ}
+use mathlib.Core.Path.{_≡_, refl}
+use mathlib.Core.Bool.{false}
+use mathlib.Core.List.{List}
+use lib.IntN.{ℤ}
+use lib.ListN.{length, replicate}
+use Rattle.memory.specs.declared.Counts.{Counts}
+use Rattle.memory.specs.declared.Turn.{Turn}
+use Rattle.memory.specs.declared.Txn.{Txn}
+use Rattle.memory.specs.Memory.{Memory}
+use Rattle.memory.specs.Rows.{endRows}
+use Rattle.engine.specs.Moves.{sendStep, deliverStep, workStep}
+use Rattle.call_reply.specs.Parts.{sendParts, deliverParts, workParts}
+use Rattle.call_reply.specs.Replies.{number, workReply, Gives, GivesWith}
+use Rattle.call_reply.specs.declared.WorkReply.{WorkReply}
+use Rattle.call_reply.specs.declared.Sent.{Sent}
+use Rattle.call_reply.specs.declared.Worked.{Worked}
+use Rattle.call_reply.specs.Called.{called, withBlock}
+use Rattle.call_work.specs.Writesets.{endedMarks}
+use Rattle.call_reply.proofs.CalledLaws.{called-other}
+
+abbrev pub SendOn : List Txn → Turn → Counts → List ℕ → List ℕ → List ℤ → List ℕ → List ℕ → Sent → List ℕ → List ℕ → List ℕ → Type 0
+SendOn rows turn counts queue items writes outbox block r queue′ outbox′ block′ = (m : Memory) → GivesWith number (sendStep (sendParts m turn counts rows queue items writes outbox) block) block (r .number) (sendParts m (r .turn) counts (r .rows) queue′ items writes outbox′) block′
+
+abbrev pub SendDid : List Txn → Turn → Counts → List ℕ → List ℕ → List ℤ → List ℕ → List ℕ → ℕ → List Txn → Turn → List ℕ → List ℕ → List ℕ → Type 0
+SendDid table turn counts queue items writes outbox block r table′ turn′ queue′ outbox′ block′ = (m : Memory) → GivesWith number (called (λ (x : Memory). sendStep x block) (sendParts m turn counts table queue items writes outbox)) block (r) (sendParts m turn′ counts table′ queue′ items writes outbox′) block′
+
+pub send-not : (table : List Txn) (turn : Turn) (counts : Counts) (queue : List ℕ) (items : List ℕ) (writes : List ℤ) (outbox : List ℕ) (block : List ℕ) → (length table ≡ 6 → ⊥) → SendDid table turn counts queue items writes outbox block (1) table turn queue outbox block
+send-not table turn counts queue items writes outbox block other = λ m. rw (called-other (λ (x : Memory). sendStep x block) (sendParts m turn counts table queue items writes outbox) other) ((refl, refl), refl)
+
+abbrev pub DeliverOn : Turn → Counts → List ℕ → List ℕ → List ℕ → ℕ → List ℕ → Type 0
+DeliverOn turn counts places outbox bytes r places′ = (m : Memory) → Gives number (deliverStep (deliverParts m turn counts places outbox) bytes) r (deliverParts m turn counts places′ outbox)
+
+abbrev pub WorkOn : List Txn → Turn → Counts → List ℕ → List ℕ → List ℤ → List ℕ → List ℕ → List ℕ → Worked → List ℕ → List ℤ → List ℕ → List ℕ → List ℕ → Type 0
+WorkOn rows turn counts queue items values stamps places block r queue′ values′ stamps′ places′ block′ = (m : Memory) → GivesWith workReply (withBlock block workStep (workParts m turn counts rows queue items values stamps places)) block (r .reply) (workParts m (r .turn) (r .counts) (endRows (r .ended) rows) queue′ items values′ stamps′ places′) block′ × (r .ended ≡ endedMarks block (workParts m turn counts rows queue items values stamps places))
+
+abbrev pub WorkDid : List Txn → Turn → Counts → List ℕ → List ℕ → List ℤ → List ℕ → List ℕ → List ℕ → WorkReply → List Txn → Turn → Counts → List ℕ → List ℤ → List ℕ → List ℕ → List ℕ → Type 0
+WorkDid table turn counts queue items values stamps places block r table′ turn′ counts′ queue′ values′ stamps′ places′ block′ = (m : Memory) → GivesWith workReply (called (λ (x : Memory). withBlock block workStep x) (workParts m turn counts table queue items values stamps places)) block (r) (workParts m turn′ counts′ table′ queue′ items values′ stamps′ places′) block′
+
+pub work-not : (table : List Txn) (turn : Turn) (counts : Counts) (queue : List ℕ) (items : List ℕ) (values : List ℤ) (stamps : List ℕ) (places : List ℕ) (block : List ℕ) → (length table ≡ 6 → ⊥) → WorkDid table turn counts queue items values stamps places block (record { number = 1; sender = 0; moved = false; count = 0; ticket = 0; aborted = replicate 6 0; append = false }) table turn counts queue values stamps places block
+work-not table turn counts queue items values stamps places block other = λ m. rw (called-other (λ (x : Memory). withBlock block workStep x) (workParts m turn counts table queue items values stamps places) other) ((refl, refl), refl)

@@ -1,0 +1,79 @@
+-- How each return of a send or a work meets what the call says, from what the call by value says and the tests that led there. Assumes nothing.
+--     …-kept     refused: what is held stays
+--     …-did      accepted: what was written to table, turn and counts where they lie is what the step says
+use Prim.Native.Nat.{ℕ}
+use mathlib.Core.Path.{_≡_, refl, sym, ap, _∙_}
+use mathlib.Core.List.{List, map}
+use lib.Dec.{eqb}
+use lib.IntN.{ℤ}
+use lib.ListN.{length, getD}
+use Rattle.memory.specs.declared.Counts.{Counts}
+use Rattle.memory.specs.declared.Turn.{Turn}
+use Rattle.memory.specs.declared.Txn.{Txn}
+use Rattle.memory.specs.Memory.{Memory}
+use Rattle.memory.specs.Rows.{endRows}
+use Rattle.engine.specs.Calls.{Outcome, outcome}
+use Rattle.engine.specs.Calls.Answer.{refused}
+use Rattle.engine.specs.Moves.{sendRow, sendRefusal, sendNow, sendStep, blockAtTurn, workRefusal, passNext, commitWriteset, workStep}
+use Rattle.engine.proofs.Tests.{cond-by, unless-by}
+use Rattle.call_reply.specs.declared.Sent.{Sent}
+use Rattle.call_reply.specs.declared.WorkReply.{WorkReply}
+use Rattle.call_reply.specs.declared.Worked.{Worked}
+use Rattle.call_reply.specs.Parts.{sendParts, workParts}
+use Rattle.call_reply.specs.Replies.{number, workReply, GivesWith, GivesBlock}
+use Rattle.call_reply.specs.Called.{called, withBlock}
+use Rattle.call_reply.proofs.CalledLaws.{called-six}
+use Rattle.host_table.specs.Table.{loaded}
+use Rattle.host_table.proofs.TableLaws.{loaded-six}
+use Rattle.replica_turn.proofs.Facts.{SendOn, SendDid, WorkOn, WorkDid}
+
+-- ---- send
+module _ (table : List Txn) (turn : Turn) (counts : Counts) (queue items : List ℕ) (writes : List ℤ) (outbox block : List ℕ) (r : Sent) (queue′ outbox′ block′ : List ℕ) (six : length table ≡ 6)
+    (said : SendOn (loaded table) turn counts queue items writes outbox block r queue′ outbox′ block′) where
+  module _ (m : Memory) where
+    abbrev send-before : Memory
+    send-before = sendParts m turn counts table queue items writes outbox
+
+    abbrev SendWay : ℕ → List Txn → Turn → Outcome → Type 0
+    SendWay n t h o = GivesBlock o block (r .number) (sendParts m (r .turn) counts (r .rows) queue′ items writes outbox′) block′ → GivesBlock o block n (sendParts m h counts t queue′ items writes outbox′) block′
+
+    send-way : (n : ℕ) (t : List Txn) (h : Turn) → SendWay n t h (sendStep send-before block) → GivesBlock (called (λ (x : Memory). sendStep x block) send-before) block n (sendParts m h counts t queue′ items writes outbox′) block′
+    send-way n t h way = rw (called-six (λ (x : Memory). sendStep x block) send-before six) (way ((rw (loaded-six table six) at said) m))
+
+  pub send-kept : (r .number ≡ 0 → ⊥) → SendDid table turn counts queue items writes outbox block (r .number) table turn queue′ outbox′ block′
+  unfolding sendStep sendNow
+  send-kept z = λ m. send-way m (r .number) table turn (unless-by (SendWay m (r .number) table turn) (sendRefusal (send-before m) block) (send-before m) (λ e g. absurd (z (g .0 .0)))
+      (λ e g. ((g .0 .0, ap (λ (x : Memory). sendParts m turn counts table (x .txns .queue) items writes (x .blocks .outbox)) (g .0 .1)), g .1)))
+
+  pub send-did : r .number ≡ 0 → SendDid table turn counts queue items writes outbox block 0 (map sendRow table) (r .turn) queue′ outbox′ block′
+  unfolding sendStep sendNow
+  send-did z = λ m. send-way m 0 (map sendRow table) (r .turn) (unless-by (SendWay m 0 (map sendRow table) (r .turn)) (sendRefusal (send-before m) block) (send-before m)
+      (λ e g. ((refl, ap (λ (x : Memory). sendParts m (x .turn) counts (map sendRow table) (x .txns .queue) items writes (x .blocks .outbox)) (g .0 .1)), g .1)) (λ e g. absurd (e (sym (g .0 .0) ∙ z))))
+
+-- ---- work
+module _ (table : List Txn) (turn : Turn) (counts : Counts) (queue items : List ℕ) (values : List ℤ) (stamps places block : List ℕ) (r : Worked) (queue′ : List ℕ) (values′ : List ℤ) (stamps′ places′ block′ : List ℕ) (six : length table ≡ 6)
+    (said : WorkOn (loaded table) turn counts queue items values stamps places block r queue′ values′ stamps′ places′ block′) where
+  module _ (m : Memory) where
+    abbrev work-before : Memory
+    work-before = workParts m turn counts table queue items values stamps places
+
+    abbrev WorkWay : List Txn → Turn → Counts → Outcome → Type 0
+    WorkWay t h c o = GivesWith workReply o block (r .reply) (workParts m (r .turn) (r .counts) (endRows (r .ended) table) queue′ items values′ stamps′ places′) block′ → GivesWith workReply o block (r .reply) (workParts m h c t queue′ items values′ stamps′ places′) block′
+
+    work-way : (t : List Txn) (h : Turn) (c : Counts) → WorkWay t h c (withBlock block workStep work-before)
+        → GivesWith workReply (called (λ (x : Memory). withBlock block workStep x) work-before) block (r .reply) (workParts m h c t queue′ items values′ stamps′ places′) block′
+    work-way t h c way = rw (called-six (λ (x : Memory). withBlock block workStep x) work-before six) (way ((rw (loaded-six table six) at said) m .0))
+
+    -- by the ends of a work
+    work-by : (P : Outcome → Type 0) → ((o : Outcome) → number o ≡ 0 → P o) → ((n : ℕ) → P (outcome (refused n) work-before)) → P (withBlock block workStep work-before)
+    unfolding withBlock workStep passNext commitWriteset
+    work-by P done kept = cond-by P (eqb (length block) 512)
+        (λ y. unless-by P (workRefusal work-before) work-before (λ e. cond-by P (eqb (getD (blockAtTurn work-before) 0 0) 1) (λ k. done _ refl) (λ k. done _ refl)) (λ e. kept _)) (λ y. kept 1)
+
+  pub work-kept : (r .reply .number ≡ 0 → ⊥) → WorkDid table turn counts queue items values stamps places block (r .reply) table turn counts queue′ values′ stamps′ places′ block′
+  work-kept z = λ m. work-way m table turn counts (work-by m (WorkWay m table turn counts)
+      (λ o e g. absurd (z (ap (λ (x : WorkReply). x .number) (g .0 .0) ∙ e)))
+      (λ n g. ((g .0 .0, ap (λ (x : Memory). workParts m turn counts table (x .txns .queue) items (x .store .values) (x .store .stamps) (x .blocks .places)) (g .0 .1)), g .1)))
+
+  pub work-did : r .reply .number ≡ 0 → WorkDid table turn counts queue items values stamps places block (r .reply) (endRows (r .ended) table) (r .turn) (r .counts) queue′ values′ stamps′ places′ block′
+  work-did z = λ m. work-way m (endRows (r .ended) table) (r .turn) (r .counts) (λ g. g)

@@ -1,0 +1,124 @@
+// The calls that move the turn, as a host makes them: send, deliver, work.
+// The table is lent as a slice of records, turn and counts behind references. Each call copies what it needs of the lent parts, makes the call by value, and writes what changed where it
+// lies. Its contract: what the call gives is what the engine's step gives, on every memory with the lent parts.
+ghost use Rattle.memory.specs.Memory.{Memory};
+ghost use Rattle.engine.specs.Moves.{sendStep, deliverStep, workStep};
+ghost use Rattle.call_reply.specs.Parts.{sendParts, deliverParts, workParts};
+ghost use Rattle.call_reply.specs.Replies.{number, workReply, Gives, GivesWith, GivesBlock};
+ghost use Rattle.call_reply.specs.Called.{called, withBlock};
+use call_deliver::deliver;
+use call_reply::WorkReply;
+use call_reply::replies::no_work;
+use call_send::send;
+use call_work::work;
+use host_table::copy_counts;
+use host_table::copy_turn;
+use host_table::end_rows;
+use host_table::load;
+use host_table::mark_rows;
+use host_table::set_counts;
+use host_table::set_turn;
+use memory::Counts;
+use memory::Turn;
+use memory::Txn;
+
+#[no_mangle]
+pub extern "C" fn stemline_send(
+    table: &mut [Txn],
+    turn: &mut Turn,
+    counts: &Counts,
+    queue: &mut [u32],
+    items: &[u8],
+    writes: &[i32],
+    outbox: &mut [u8],
+    block: &mut [u8],
+) -> u8
+    ensures { λ r. ⌜ ((m : Memory) → GivesBlock
+        (called (λ x. sendStep x (now (block .entry)))
+        (sendParts m (now (turn .entry)) (now (counts .entry)) (now (table .entry)) (now (queue .entry)) (now (items .entry)) (now (writes .entry)) (now (outbox .entry))))
+        (now (block .entry))
+        r
+        (sendParts m (now (turn .exit)) (now (counts .entry)) (now (table .exit)) (now (queue .exit)) (now (items .entry)) (now (writes .entry)) (now (outbox .exit)))
+        (now (block .exit))) ⌝ }
+{
+    if table.len() != 6 {
+        return 1;
+    }
+    let rows = load(table);
+    let cursor = copy_turn(turn);
+    let before = copy_counts(counts);
+    let done = send(rows, cursor, before, queue, items, writes, outbox, block);
+    if done.number != 0 {
+        return done.number;
+    }
+    mark_rows(table);
+    set_turn(turn, done.turn);
+    0
+}
+
+#[no_mangle]
+pub extern "C" fn stemline_deliver(
+    turn: &Turn,
+    counts: &Counts,
+    places: &mut [u8],
+    outbox: &[u8],
+    bytes: &[u8],
+) -> u8
+    ensures { λ r. ⌜ ((m : Memory) → Gives number
+        (deliverStep
+        (deliverParts m (now (turn .entry)) (now (counts .entry)) (now (places .entry)) (now (outbox .entry)))
+        (now (bytes .entry)))
+        r
+        (deliverParts m (now (turn .entry)) (now (counts .entry)) (now (places .exit)) (now (outbox .entry)))) ⌝ }
+{
+    let cursor = copy_turn(turn);
+    let before = copy_counts(counts);
+    deliver(cursor, before, places, outbox, bytes)
+}
+
+#[no_mangle]
+pub extern "C" fn stemline_work(
+    table: &mut [Txn],
+    turn: &mut Turn,
+    counts: &mut Counts,
+    queue: &mut [u32],
+    items: &[u8],
+    values: &mut [i32],
+    stamps: &mut [u32],
+    places: &mut [u8],
+    block: &mut [u8],
+) -> WorkReply
+    ensures { λ r. ⌜ ((m : Memory) → GivesWith workReply
+        (called (withBlock (now (block .entry)) workStep)
+        (workParts m (now (turn .entry)) (now (counts .entry)) (now (table .entry)) (now (queue .entry)) (now (items .entry)) (now (values .entry)) (now (stamps .entry)) (now (places .entry))))
+        (now (block .entry))
+        r
+        (workParts m (now (turn .exit)) (now (counts .exit)) (now (table .exit)) (now (queue .exit)) (now (items .entry)) (now (values .exit)) (now (stamps .exit)) (now (places .exit)))
+        (now (block .exit))) ⌝ }
+{
+    if table.len() != 6 {
+        return no_work(1);
+    }
+    let rows = load(table);
+    let cursor = copy_turn(turn);
+    let before = copy_counts(counts);
+    let done = work(
+        rows,
+        cursor,
+        before,
+        queue,
+        items,
+        values,
+        stamps,
+        places,
+        block,
+    );
+    let reply = done.reply;
+    if reply.number != 0 {
+        return reply;
+    }
+    end_rows(table, done.ended);
+    set_turn(turn, done.turn);
+    set_counts(counts, done.counts);
+    reply
+}
