@@ -1,9 +1,10 @@
-//! The stored input and output of the program `replay`: the model writes the same. And the list that
-//! `scripts/story` plays.
+//! The stored input and output of the program `replay`, and the stored sends: the model writes the same.
+//! And the list that `scripts/story` plays.
 
 use std::collections::BTreeMap;
 use std::path::Path;
 
+use model::block::{self, Record, ENTRIES};
 use model::replay::{self, Replay, PLACES};
 use model::workload;
 
@@ -15,22 +16,18 @@ fn file(name: &str) -> Vec<u8> {
     std::fs::read(&path).unwrap_or_else(|error| panic!("{}: {error}", path.display()))
 }
 
-fn stored(name: &str) -> Vec<u8> {
-    file(&format!("crates/replay/{name}"))
-}
-
 /// That a stored file has this text. A difference is named by its first line.
-fn check(file: &str, text: &[u8]) {
-    let stored = stored(file);
+fn check(name: &str, text: &[u8]) {
+    let stored = file(name);
     let lines = |text: &[u8]| -> Vec<String> {
         let lines = text.split(|&byte| byte == b'\n');
         lines.map(|line| line.escape_ascii().to_string()).collect()
     };
     let (found, due) = (lines(&stored), lines(text));
     for (at, (found, due)) in found.iter().zip(&due).enumerate() {
-        assert_eq!(found, due, "{file}, line {}", at + 1);
+        assert_eq!(found, due, "{name}, line {}", at + 1);
     }
-    assert_eq!(found.len(), due.len(), "{file}: number of lines");
+    assert_eq!(found.len(), due.len(), "{name}: number of lines");
 }
 
 fn output(input: &[u8]) -> Vec<u8> {
@@ -41,12 +38,41 @@ fn output(input: &[u8]) -> Vec<u8> {
 
 #[test]
 fn stored_input() {
-    check("stdin", &workload::calls());
+    check("crates/replay/stdin", &workload::calls());
 }
 
 #[test]
 fn stored_output() {
-    check("stdout", &output(&stored("stdin")));
+    check(
+        "crates/replay/stdout",
+        &output(&file("crates/replay/stdin")),
+    );
+}
+
+/// Replica 0 of two sends none to six full writesets, with both ends of the range in each, then six to one
+/// that are not full.
+#[test]
+fn stored_sends() {
+    let input = file("examples/sends.calls");
+    check("examples/sends.out", &output(&input));
+    let mut replay = Replay::default();
+    for line in input.split(|&byte| byte == b'\n') {
+        replay.answer(line);
+    }
+    let sent = (0..replay.sent()).map(|i| block::decode(replay.block(i).unwrap()).unwrap());
+    let own = sent.filter(|message| message.sender == 0);
+    let own: Vec<Vec<Record>> = own.map(|message| message.records).collect();
+    let counts: Vec<usize> = own.iter().map(Vec::len).collect();
+    assert_eq!(counts, [0, 1, 2, 3, 4, 5, 6, 6, 5, 4, 3, 2, 1]);
+    for Record { entries, .. } in own[..7].iter().flatten() {
+        assert_eq!(entries.len(), ENTRIES);
+        for end in [i32::MIN, i32::MAX] {
+            assert!(entries.iter().any(|entry| entry.value == end));
+        }
+    }
+    for Record { entries, .. } in own[7..].iter().flatten() {
+        assert!(entries.len() < ENTRIES);
+    }
 }
 
 /// What the answers of a list amount to.

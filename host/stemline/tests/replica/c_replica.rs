@@ -31,10 +31,17 @@ fn compare(program: &Path, list: &str, due: &str) {
         assert_eq!(found, due, "{line}");
     }
     assert_eq!(printed.lines().count(), due.lines().count());
+    assert!(printed == due, "the lines' ends differ");
+}
+
+/// The same by the calls over lent parts, each with every length off by one.
+fn lent(name: &str) -> PathBuf {
+    let source = include_str!("../c/lent.c");
+    build(name, &[("lent.c", "cc", "-std=c99", source)])
 }
 
 /// The list that is stored for the program `replay`, without the lines that are no calls: the calls at a
-/// struct, and those over lent parts, each with every length off by one.
+/// struct, and those over lent parts.
 #[test]
 fn the_stored_list() {
     let list = model::workload::calls();
@@ -49,9 +56,17 @@ fn the_stored_list() {
     }
     assert!(due.lines().count() > 30_000);
     compare(&replay("stored"), &calls, &due);
-    let lent = include_str!("../c/lent.c");
-    let lent = build("lent", &[("lent.c", "cc", "-std=c99", lent)]);
-    compare(&lent, &calls, &due);
+    compare(&lent("lent"), &calls, &due);
+}
+
+/// The stored sends, byte for byte: into bytes of any content at a struct, into such that are not zero
+/// over lent parts.
+#[test]
+fn the_stored_sends() {
+    let calls = include_str!("../../../../examples/sends.calls");
+    let due = include_str!("../../../../examples/sends.out");
+    compare(&replay("sends"), calls, due);
+    compare(&lent("lent_sends"), calls, due);
 }
 
 /// Lines for the C program, and what it must print.
