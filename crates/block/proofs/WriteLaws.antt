@@ -5,20 +5,18 @@ use mathlib.Core.Path.{_≡_, refl, sym, ap, _∙_}
 use native.Mathlib.Nat.{not-suc-le-zero, le-of-suc-le-suc, sub-zero, zero-sub, suc-sub-suc}
 use native.Mathlib.Numerals.{add-one}
 use native.Mathlib.Omega.{arith}
-use borrow.Author.Tests.{eq-eqb, le-leb}
 use borrow.Rule.Slice.PartMut.{putMid}
 use lib.IntN.{ℤ, pos}
-use lib.ListN.{length, getD, take, drop, replicate, length-append, length-drop, length-replicate, drop-of-length-le}
-use lib.Seq.{sets, sets-eq, take-at, drop-at, drop-drop, take-length}
+use lib.ListN.{length, getD, take, drop, replicate, length-append, length-drop, drop-of-length-le}
+use lib.Seq.{sets, sets-eq, take-at, drop-at, drop-drop}
 use mir.Syntax.{w32}
 use mir.Val.{ofZ}
 use Rattle.block.specs.declared.Entry.{Entry}
-use Rattle.block.specs.declared.Header.{Header}
-use Rattle.block.specs.Bytes.{entryBytes, entriesBytes, recordBytes, recordsBytes, headerBytes}
+use Rattle.block.specs.Bytes.{entryBytes, entriesBytes, recordBytes, recordsBytes}
 use Rattle.block.specs.Check.{firstCheck, secondCheck, checkBytes}
 use Rattle.block.specs.Message.{Record}
 use Rattle.block.specs.Numbers.{bytesOf, valueBytes}
-use Rattle.block.specs.Writing.{written, entriesFrom, recordFrom, headerStep, recordStep}
+use Rattle.block.specs.Writing.{entriesFrom}
 use Rattle.block.proofs.BlockLaws.{length-entryBytes}
 use Rattle.block.proofs.CheckLaws.{firstCheck-small, secondCheck-small}
 use Rattle.block.proofs.NumberLaws.{length-bytesOf}
@@ -56,7 +54,7 @@ module _ {l₀ : List ℕ} {a : ℕ} {p l : List ℕ} (f : Filled l₀ a p l) wh
 -- ---- numbers
 
 -- a byte as a number of four: three zeros behind it
-byte-number : (x : ℕ) → x < 256 → bytesOf 4 x ≡ x ∷ 0 ∷ 0 ∷ 0 ∷ []
+pub byte-number : (x : ℕ) → x < 256 → bytesOf 4 x ≡ x ∷ 0 ∷ 0 ∷ 0 ∷ []
 unfolding bytesOf
 byte-number x h =
     let a : x % 256 ≡ x = omega arith in
@@ -83,13 +81,6 @@ entry-put l xs ys e h k p q =
     filled-all (filled-part f 4 ys (ap length q ∙ length-bytesOf 4 _)) (omega arith)
     ∙ ap (λ (z : List ℕ). z ++ ys) (p ∙ byte-number (e .item) k)
     ∙ ap (λ (z : List ℕ). (e .item ∷ 0 ∷ 0 ∷ 0 ∷ []) ++ z) q
-
-pub header-put : (l ys zs : List ℕ) (h : Header) → length l ≡ 16 → ys ≡ bytesOf 4 (h .slot) → zs ≡ replicate 8 0
-    → putMid 8 8 (putMid 4 4 (sets l 0 (h .kind ∷ h .sender ∷ h .replicas ∷ h .count ∷ [])) ys) zs ≡ headerBytes h
-unfolding headerBytes
-header-put l ys zs h n q z =
-    let f = filled-sets (filled-none l) (h .kind ∷ h .sender ∷ h .replicas ∷ h .count ∷ []) (omega arith) in
-    rw (← q, ← z) (filled-all (filled-part (filled-part f 4 ys (ap length q ∙ length-bytesOf 4 _)) 8 zs (ap length z)) (omega arith))
 
 -- ---- the entries of a record
 
@@ -130,31 +121,7 @@ module _ (l₀ : List ℕ) (is : List ℕ) (vs : List ℤ) where
       let a : 8 * (e + 1) ≡ 8 * e + 8 = omega arith in
       rw (k, a, add-one e, entries-next is vs e h g, ← q, ← y) (filled-part f 8 ys (ap length y ∙ length-entryBytes _))
 
-  -- zeros behind the last, up to the end of l
-  pub entries-end : (l ys : List ℕ) → length l₀ ≡ 64 → length l ≡ 64 → length is ≤ 8 → length vs ≡ length is
-      → Filled l₀ (8 * length is) (entriesTo is vs (length is)) l → ys ≡ replicate (length l - 8 * length is) 0
-      → putMid (8 * length is) (length l - 8 * length is) l ys ≡ entriesBytes (entriesFrom is vs) ++ replicate (64 - 8 * length is) 0
-  entries-end l ys h k m n f y =
-      let e : entriesTo is vs (length is) ≡ entriesBytes (entriesFrom is vs) = rw (take-length is, ← n, take-length vs) in
-      rw (← k, ← y, ← e) (filled-all (filled-part f (length l - 8 * length is) ys (ap length y ∙ length-replicate _ 0)) (omega arith))
-
-  pub record-put : (t : ℕ) (ts ns es : List ℕ) → length l₀ ≡ 72 → length is ≤ 8 → length vs ≡ length is → ts ≡ bytesOf 4 t → ns ≡ bytesOf 4 (length is)
-      → length es ≡ 64 → es ≡ entriesBytes (entriesFrom is vs) ++ replicate (64 - 8 * length is) 0
-      → putMid 8 64 (putMid 4 4 (putMid 0 4 l₀ ts) ns) es ≡ recordBytes (recordFrom t is vs)
-  unfolding recordBytes
-  record-put t ts ns es h k n q r m y =
-      let f = filled-part (filled-part (filled-none l₀) 4 ts (ap length q ∙ length-bytesOf 4 _)) 4 ns (ap length r ∙ length-bytesOf 4 _) in
-      filled-all (filled-part f 64 es m) (omega arith)
-      ∙ append-assoc ts ns es
-      ∙ ap (λ (z : List ℕ). ts ++ (z ++ es)) (r ∙ byte-number (length is) (omega arith))
-      ∙ rw (length-entries is vs n, ← y, ← q)
-
 -- ---- the records of a block
-
-pub record-done : (part : List ℕ) (t : ℕ) (is : List ℕ) (vs : List ℤ) → length part ≡ 72 → length is ≤ 8 → length vs ≡ length is
-    → recordStep part t is vs ≡ written 0 (recordBytes (recordFrom t is vs))
-unfolding recordStep
-record-done part t is vs h k e = rw (eq-eqb _ 72 h, le-leb _ 8 k, eq-eqb _ _ e)
 
 pub records-append : (rs : List Record) (r : Record) → recordsBytes (rs ++ (r ∷ [])) ≡ recordsBytes rs ++ recordBytes r
 unfolding recordsBytes
@@ -178,13 +145,9 @@ check-put l f s h p q =
     (sets-eq (firstCheck l % 256 ∷ firstCheck l / 256 ∷ secondCheck l % 256 ∷ secondCheck l / 256 ∷ []) l 508 (omega arith)
     ∙ rw (drop-of-length-le l {i = 512} (omega arith), append-nil) (ap (λ (r : List ℕ). take 508 l ++ r) (check-bytes l)))
 
--- ---- a whole block: zeros, and the header in the first of them
+-- ---- a whole block: zeros
 
 pub drop-zeros : (k n : ℕ) → drop {A = ℕ} k (replicate n 0) ≡ replicate (n - k) 0
 drop-zeros zero n = rw (sub-zero n)
 drop-zeros (suc k) zero = rw (zero-sub (suc k))
 drop-zeros (suc k) (suc n) = drop-zeros k n ∙ rw (suc-sub-suc n k)
-
-pub header-done : (part : List ℕ) (h : Header) → length part ≡ 16 → headerStep part h ≡ written 0 (headerBytes h)
-unfolding headerStep
-header-done part h e = rw (eq-eqb _ 16 e)

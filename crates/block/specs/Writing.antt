@@ -1,15 +1,13 @@
 -- What the writers answer and leave in the bytes lent to them.
 use Prim.Native.Nat.{ℕ}
-use mathlib.Core.Bool.{Bool, cond, _&&_}
+use mathlib.Core.Bool.{Bool, cond}
 use mathlib.Core.List.{List, [], _∷_, _++_}
-use lib.Dec.{eqb, leb}
+use lib.Dec.{eqb}
 use lib.IntN.{ℤ}
 use lib.ListN.{length, take}
 use Rattle.block.specs.declared.Entry.{Entry}
-use Rattle.block.specs.declared.Header.{Header}
 use Rattle.block.specs.Check.{checkBytes}
 use Rattle.block.specs.Message.{Record}
-use Rattle.block.specs.Bytes.{recordBytes, headerBytes}
 
 -- the number answered, and the lent bytes after the call
 pub record Written : Type 0 where
@@ -23,10 +21,6 @@ written n l = record { number = n; bytes = l }
 abbrev pub writeWhere : Bool → List ℕ → List ℕ → Written
 writeWhere right new old = cond right (written 0 new) (written 1 old)
 
--- 16 bytes of header
-unfoldable pub headerStep : List ℕ → Header → Written
-headerStep part h = writeWhere (eqb (length part) 16) (headerBytes h) part
-
 -- an entry for each item and the value beside it
 unfoldable pub entriesFrom : List ℕ → List ℤ → List Entry
 entriesFrom [] vs = []
@@ -35,13 +29,6 @@ entriesFrom (i ∷ is) (v ∷ vs) = record { item = i; value = v } ∷ entriesFr
 
 abbrev pub recordFrom : ℕ → List ℕ → List ℤ → Record
 recordFrom t is vs = record { ticket = t; entries = entriesFrom is vs }
-
--- 72 bytes of record, of at most 8 items and as many values
-unfoldable pub recordStep : List ℕ → ℕ → List ℕ → List ℤ → Written
-recordStep part t is vs =
-    writeWhere (eqb (length part) 72 && (leb (length is) 8 && eqb (length vs) (length is)))
-    (recordBytes (recordFrom t is vs))
-    part
 
 -- a block with its check
 unfoldable pub checkedStep : List ℕ → Written

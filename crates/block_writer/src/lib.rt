@@ -1,12 +1,12 @@
-// Writing a block's header and its records, each into its own bytes.
+// Writing a block's header and its records, each straight into its own bytes; what is zero in a fresh block is left.
 ghost use mathlib.Core.Path.{_≡_};
-ghost use Prim.Native.Nat.{_*_, _-_, _≤_};
+ghost use Prim.Native.Nat.{_*_, _≤_};
 ghost use mathlib.Core.List.{_++_};
-ghost use lib.ListN.{length, replicate};
+ghost use lib.ListN.{length, drop};
 ghost use Rattle.block.specs.Numbers.{bytesOf};
 ghost use Rattle.block.specs.Bytes.{entryBytes, entriesBytes};
-ghost use Rattle.block.specs.Writing.{written, entriesFrom, headerStep, recordStep};
-use block::Entry;
+ghost use Rattle.block.specs.Writing.{written, entriesFrom};
+ghost use Rattle.block_writer.specs.Writing.{headerStep, recordStep};
 use block::Header;
 use block::to_bits;
 
@@ -21,48 +21,30 @@ fn put_number(part: &mut [u8], x: u32)
     part[3] = (x / 16777216 % 256) as u8;
 }
 
-// Zeros.
-fn clear(part: &mut [u8])
-    ensures { λ _. ⌜ now (part .exit) ≡ replicate (length (now (part .entry))) 0 ⌝ }
-{
-    let mut i: usize = 0;
-    while i < part.len() {
-        part[i] = 0;
-        i += 1;
-    }
-}
-
 // One entry, in 8 bytes: the item as a number has the three zeros behind it.
-fn put_entry(part: &mut [u8], entry: Entry)
+fn put_entry(part: &mut [u8], item: u8, value: i32)
     requires { ⌜ length (now part) ≡ 8 ⌝ }
-    ensures { λ _. ⌜ now (part .exit) ≡ entryBytes entry ⌝ }
+    ensures { λ _. ⌜ now (part .exit) ≡ entryBytes (record { item = item; value = value }) ⌝ }
 {
-    put_number(&mut part[0..4], entry.item as u32);
-    put_number(&mut part[4..8], to_bits(entry.value));
+    put_number(&mut part[0..4], item as u32);
+    put_number(&mut part[4..8], to_bits(value));
 }
 
-// At most eight entries, in 64 bytes, and zeros after them.
+// At most eight entries, each from its row into its 8 bytes.
 fn put_entries(part: &mut [u8], items: &[u8], values: &[i32])
     requires { ⌜ (length (now part) ≡ 64) × (length (now items) ≤ 8) × (length (now values) ≡ length (now items)) ⌝ }
-    ensures { λ _. ⌜ now (part .exit) ≡ entriesBytes (entriesFrom (now (items .entry)) (now (values .entry))) ++ replicate (64 - 8 * length (now (items .entry))) 0 ⌝ }
+    ensures { λ _. ⌜ now (part .exit)
+        ≡ entriesBytes (entriesFrom (now (items .entry)) (now (values .entry))) ++ drop (8 * length (now (items .entry))) (now (part .entry)) ⌝ }
 {
-    let n = items.len();
     let mut e: usize = 0;
-    while e < n {
+    while e < items.len() {
         let at = 8 * e;
-        put_entry(
-            &mut part[at..at + 8],
-            Entry {
-                item: items[e],
-                value: values[e],
-            },
-        );
+        put_entry(&mut part[at..at + 8], items[e], values[e]);
         e += 1;
     }
-    clear(&mut part[8 * n..]);
 }
 
-// A header, into the block's first 16 bytes; 1 for another length.
+// A header, into the first 8 of the block's first 16 bytes; 1 for another length.
 pub fn write_header(part: &mut [u8], header: Header) -> u8
     ensures { λ r. ⌜ written r (now (part .exit)) ≡ headerStep (now (part .entry)) header ⌝ }
 {
@@ -74,11 +56,10 @@ pub fn write_header(part: &mut [u8], header: Header) -> u8
     part[2] = header.replicas;
     part[3] = header.count;
     put_number(&mut part[4..8], header.slot);
-    clear(&mut part[8..16]);
     0
 }
 
-// A record, into its 72 bytes of a block: a ticket, at most 8 items, and the value of each. 1 where a length is wrong.
+// A record, into its 72 bytes of a block: a ticket, at most 8 items, and the value of each; unused entries stay. 1 where a length is wrong.
 pub fn write_record(part: &mut [u8], ticket: u32, items: &[u8], values: &[i32]) -> u8
     ensures { λ r. ⌜ written r (now (part .exit)) ≡ recordStep (now (part .entry)) ticket (now (items .entry)) (now (values .entry)) ⌝ }
 {

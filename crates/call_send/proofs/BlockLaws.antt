@@ -16,10 +16,14 @@ use lib.Seq.{slice, length-slice, length-take-le, take-suc, take-at, take-all, d
 use Rattle.block.specs.Bytes.{recordBytes, recordsBytes, headerFor, headerBytes, bodyBytes, blockOf}
 use Rattle.block.specs.Check.{checkBytes}
 use Rattle.block.specs.Message.{Message}
-use Rattle.block.specs.Writing.{Written, written, headerStep, recordStep, checkedStep}
+use Rattle.block.specs.declared.Header.{Header}
+use Rattle.block.specs.Writing.{Written, written, checkedStep}
+use Rattle.block.proofs.BlockLaws.{length-headerBytes}
 use Rattle.block.proofs.CheckLaws.{check-take}
 use Rattle.block.proofs.ListLaws.{lent-slice}
-use Rattle.block.proofs.WriteLaws.{Filled, filled-part, record-done, records-append, drop-zeros, header-done}
+use Rattle.block.proofs.WriteLaws.{Filled, filled-part, records-append, drop-zeros}
+use Rattle.block_writer.specs.Writing.{headerStep, recordStep}
+use Rattle.block_writer.proofs.WriterLaws.{header-fresh, record-fresh}
 use Rattle.memory.specs.declared.Txn.{Txn}
 use Rattle.memory.specs.Memory.{Memory}
 use Rattle.memory.specs.Rows.{closed, rowOf, rowAt, writeCount, indexFrom, indexOf}
@@ -93,14 +97,14 @@ module _ (table : List Txn) (six : length table ≡ 6) where
 
 module _ (table : List Txn) (is : List ℕ) (vs : List ℤ) (long : (length is ≡ 48) × (length vs ≡ 48)) where
   -- the record writer's call for a ticket writes its writeset: row r, of n writes
-  pub writeset-written : (t r n a : ℕ) (part ys : List ℕ) → r ≡ rowOf t table → n ≡ writeCount (rowAt table r) → 8 * r + n ≤ 48 → length part ≡ 72
+  pub writeset-written : (t r n a : ℕ) (part ys : List ℕ) → r ≡ rowOf t table → n ≡ writeCount (rowAt table r) → 8 * r + n ≤ 48 → part ≡ replicate 72 0
       → written a ys ≡ recordStep part t (take (8 * r + n - 8 * r) (drop (8 * r) is)) (take (8 * r + n - 8 * r) (drop (8 * r) vs))
       → ys ≡ recordBytes (writesetIn table is vs t)
   unfolding writesetOf
-  writeset-written t r n a part ys row count fits h q =
+  writeset-written t r n a part ys row count fits zeros q =
       let i = length-slice (8 * r) (8 * r + n) is (omega arith) in
       let v = length-slice (8 * r) (8 * r + n) vs (omega arith) in
-      let d = record-done part t (slice (8 * r) (8 * r + n) is) (slice (8 * r) (8 * r + n) vs) h (omega arith) (v ∙ sym i) in
+      let d = record-fresh part t (slice (8 * r) (8 * r + n) is) (slice (8 * r) (8 * r + n) vs) zeros (omega arith) (v ∙ sym i) in
       rw (← row, ← count) (ap (λ (w : Written). w .bytes) (rw (lent-slice (8 * r) (8 * r + n) is (omega arith), lent-slice (8 * r) (8 * r + n) vs (omega arith)) at q ∙ d))
 
 -- the block with the first j of them
@@ -111,6 +115,17 @@ module _ (l₀ : List ℕ) (table : List Txn) (q is : List ℕ) (vs : List ℤ) 
   pub writesets-none : length l₀ ≡ 512 → Filled l₀ 16 (blockTo l₀ table q is vs 0) l₀
   unfolding recordsBytes
   writesets-none h = rw (append-nil (take 16 l₀)) (record { size = length-take-le 16 l₀ (omega arith); is = sym (take-append-drop 16 l₀) })
+
+  -- the part of ticket j is zeros still
+  pub writesets-fresh : (j : ℕ) (p l : List ℕ) → drop 16 l₀ ≡ replicate 496 0 → j < 6 → Filled l₀ (16 + 72 * j) p l
+      → take (16 + 72 * j + 72 - (16 + 72 * j)) (drop (16 + 72 * j) l) ≡ replicate 72 0
+  writesets-fresh j p l z h f =
+      let k : 16 + 72 * j + 72 - (16 + 72 * j) ≡ 72 = omega arith in
+      let n : 496 - 72 * j ≡ 72 + (424 - 72 * j) = omega arith in
+      let d : drop (16 + 72 * j) l ≡ replicate 72 0 ++ replicate (424 - 72 * j) 0 =
+      rw (f .is, drop-at p (drop (16 + 72 * j) l₀) (16 + 72 * j) (f .size), ← drop-drop (72 * j) 16 l₀, z, drop-zeros (72 * j) 496, n)
+      (sym (replicate-append-replicate 72 (424 - 72 * j) 0)) in
+      rw (k, d) (take-at (replicate 72 0) (replicate (424 - 72 * j) 0) 72 refl)
 
   -- a turn of the loop: the writeset of ticket j, on its part
   pub writesets-put : (j : ℕ) (l ys : List ℕ) → j < length q → length ys ≡ 16 + 72 * j + 72 - (16 + 72 * j)
@@ -130,6 +145,14 @@ module _ (l₀ : List ℕ) (table : List Txn) (q is : List ℕ) (vs : List ℤ) 
 
 -- ---- a whole block
 
+-- z zeros: the header into their first 16, and zeros behind it
+module _ (z : ℕ) (l hs : List ℕ) (whole : z ≡ 512) (zeros : l ≡ replicate z 0) where
+  pub header-written : (a : ℕ) (h : Header) → written a hs ≡ headerStep (take 16 l) h → hs ≡ headerBytes h
+  header-written a h q = ap (λ (w : Written). w .bytes) (q ∙ header-fresh (take 16 l) h (rw (zeros, whole)))
+
+  pub zeros-behind : length hs ≡ 16 → drop 16 (putMid 0 16 l hs) ≡ replicate 496 0
+  zeros-behind s = drop-at hs (drop 16 l) 16 s ∙ rw (zeros, whole)
+
 module _ (m : Message) (n : ℕ) (count : n ≡ length (m .records)) (few : n ≤ 6) where
   -- z zeros, then the header in their first 16, then the records: the body, and the check's four bytes still zero
   body-put : (z : ℕ) (l hs b : List ℕ) → z ≡ 512 → l ≡ replicate z 0 → length hs ≡ 16 → hs ≡ headerBytes (headerFor m)
@@ -142,14 +165,13 @@ module _ (m : Message) (n : ℕ) (count : n ≡ length (m .records)) (few : n �
       sym (drop-drop (72 * n) 16 (putMid 0 16 l hs)) ∙ rw (drop-at hs (drop 16 l) 16 s, drop-drop (72 * n) 16 l, q, drop-zeros (16 + 72 * n) z, k) (sym (replicate-append-replicate (492 - 72 * n) 4 0)) in
       r ∙ rw (d, take-at hs (drop 16 l) 16 s, ← count, ← p) (simp append-assoc)
 
-  -- and the check into those: l, hs, b and c are what clearing, `write_header`, `put_writesets` and `write_check` leave, a and r two answers
-  block-put : (z a r : ℕ) (l part hs b c : List ℕ) → z ≡ 512 → l ≡ replicate z 0 → length part ≡ 16 → length hs ≡ length part
-      → written a hs ≡ headerStep part (headerFor m)
+  -- and the check into those: l, hs, b and c are what clearing, `write_header`, `put_writesets` and `write_check` leave, r is an answer
+  block-put : (z r : ℕ) (l hs b c : List ℕ) → z ≡ 512 → l ≡ replicate z 0 → hs ≡ headerBytes (headerFor m)
       → b ≡ take 16 (putMid 0 16 l hs) ++ (recordsBytes (m .records) ++ drop (16 + 72 * n) (putMid 0 16 l hs))
       → length b ≡ 512 → written r c ≡ checkedStep b → c ≡ blockOf m
   unfolding checkedStep blockOf
-  block-put z a r l part hs b c e q s t p u w y =
-      let f = body-put z l hs b e q (t ∙ s) (ap (λ (x : Written). x .bytes) (p ∙ header-done part (headerFor m) s)) u in
+  block-put z r l hs b c e q p u w y =
+      let f = body-put z l hs b e q (ap length p ∙ length-headerBytes (headerFor m)) p u in
       let g : length (bodyBytes m) ≡ 508 = omega (arith, ap length f, length-append (bodyBytes m) (replicate 4 0)) in
       let x : take 508 b ≡ bodyBytes m = ap (take 508) f ∙ take-at (bodyBytes m) (replicate 4 0) 508 g in
       let d : checkedStep b ≡ written 0 (bodyBytes m ++ checkBytes (bodyBytes m)) = rw (eq-eqb _ 512 w, ← check-take b (omega arith), x) in
@@ -168,9 +190,7 @@ module _ (m : Memory) (n : ℕ) (end : n ≡ indexOf 0 (m .txns .queue)) where
   unfolding headerFor messageFor
   header-is = rw (length-map, ← length-waiting (m .txns .queue) n end)
 
-  pub message-put : n ≤ 6 → (z a r : ℕ) (l part hs b c : List ℕ) → z ≡ 512 → l ≡ replicate z 0 → length part ≡ 16 → length hs ≡ length part
-      → written a hs ≡ headerStep part (headerWith (m .turn) (m .counts) n)
+  pub message-put : n ≤ 6 → (z r : ℕ) (l hs b c : List ℕ) → z ≡ 512 → l ≡ replicate z 0 → hs ≡ headerBytes (headerWith (m .turn) (m .counts) n)
       → b ≡ take 16 (putMid 0 16 l hs) ++ (recordsBytes (map (writesetIn (m .txns .table) (m .txns .items) (m .txns .writes)) (take n (m .txns .queue))) ++ drop (16 + 72 * n) (putMid 0 16 l hs))
       → length b ≡ 512 → written r c ≡ checkedStep b → c ≡ blockOf (messageFor m)
-  message-put few z a r l part hs b c e q s t p u w y =
-      block-put (messageFor m) n count-is few z a r l part hs b c e q s t (rw header-is p) (rw records-are u) w y
+  message-put few z r l hs b c e q p u w y = block-put (messageFor m) n count-is few z r l hs b c e q (rw header-is p) (rw records-are u) w y

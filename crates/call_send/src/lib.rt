@@ -4,10 +4,9 @@ ghost use mathlib.Core.Bool.{_&&_};
 ghost use mathlib.Core.List.{List, _++_, map};
 ghost use Prim.Native.Nat.{ℕ, _+_, _*_, _≤_};
 ghost use lib.Dec.{eqb};
-ghost use lib.ListN.{length, take, drop};
+ghost use lib.ListN.{length, take, drop, replicate};
 ghost use Rattle.block.specs.Bytes.{recordBytes, recordsBytes, blockOf};
 ghost use Rattle.memory.specs.Memory.{Memory};
-ghost use Rattle.memory.specs.Rows.{rowAt, writeCount};
 ghost use Rattle.engine.specs.Moves.{sendRow, messageFor, sendLent, sendRefusal, sendStep};
 ghost use Rattle.call_reply.specs.Parts.{sendParts};
 ghost use Rattle.call_reply.specs.Replies.{GivesBlock};
@@ -16,6 +15,7 @@ use block::Header;
 use block_check::write_check;
 use block_writer::write_header;
 use block_writer::write_record;
+use call_client::rows::row_at;
 use call_reply::Sent;
 use call_reply::blocks::copy_bytes;
 use memory::Counts;
@@ -66,29 +66,19 @@ fn refusal(fits: bool, turn: Turn, counts: Counts) -> u8
     0
 }
 
-// How many writes the row has; none where there is no row.
-fn writes_at(rows: [Txn; 6], row: usize) -> usize
-    ensures { λ r. ⌜ r ≡ writeCount (rowAt rows row) ⌝ }
-{
-    if 6 <= row {
-        return 0;
-    }
-    let t = rows[row];
-    write_count(t.writes)
-}
-
-// A ticket's writeset, into its 72 bytes of the block.
+// A ticket's writeset, from its row straight into its 72 bytes of a fresh block.
 fn put_writeset(part: &mut [u8], ticket: u32, rows: [Txn; 6], items: &[u8], writes: &[i32])
-    requires { ⌜ (length (now part) ≡ 72) × (length (now items) ≡ 48) × (length (now writes) ≡ 48) ⌝ }
+    requires { ⌜ (now part ≡ replicate 72 0) × (length (now items) ≡ 48) × (length (now writes) ≡ 48) ⌝ }
     ensures { λ _. ⌜ now (part .exit) ≡ recordBytes (writesetIn rows (now (items .entry)) (now (writes .entry)) ticket) ⌝ }
 {
     let row = row_of(rows, ticket);
+    let t = row_at(rows, row);
     let from = 8 * row;
-    let to = from + writes_at(rows, row);
+    let to = from + write_count(t.writes);
     write_record(&mut *part, ticket, &items[from..to], &writes[from..to]);
 }
 
-// The writesets of the first `count` tickets.
+// The writesets of the first `count` tickets, into a block that is zeros behind its header.
 fn put_writesets(
     block: &mut [u8],
     count: usize,
@@ -98,6 +88,7 @@ fn put_writesets(
     writes: &[i32],
 )
     requires { ⌜ (length (now block) ≡ 512)
+        × (drop 16 (now block) ≡ replicate 496 0)
         × (count ≤ 6)
         × (length (now queue) ≡ 6)
         × (length (now items) ≡ 48)

@@ -1,26 +1,26 @@
 -- `put_entries` meets its contract. The loop's invariant: the part starts with the bytes of the first e entries, and the
--- rest is as it was; the zeros go behind the last. Assumes nothing.
-use Prim.Native.Nat.{ℕ, _-_, _*_, _≤_}
-use mathlib.Core.Path.{_≡_, refl, ap, _∙_}
+-- rest is as it was. Assumes nothing.
+use Prim.Native.Nat.{_-_, _*_, _≤_}
+use mathlib.Core.Path.{_≡_, refl, _∙_}
 use native.Mathlib.Omega.{arith}
 use borrow.Author.Needs.{needs}
-use lib.ListN.{length, replicate}
+use lib.ListN.{length}
 use mir.Facts.{toZ-ofZ}
-use Rattle.block.proofs.WriteLaws.{Filled, entriesTo, entries-none, entries-put, entries-end}
+use Rattle.block.proofs.WriteLaws.{Filled, entriesTo, entries-none, entries-put}
+use Rattle.block_writer.proofs.WriterLaws.{entries-over}
 use Rattle.block_writer.proofs.put_entries.Statement.{statement}
 use Rattle.block_writer.proofs.put_entries.Tie as tie
 
 abbrev Inv-loop : tie.InvT-loop
-Inv-loop part₀ items values n e₀ part e =
-    (e ≤ n) × (n ≡ length items) × (length part ≡ length part₀) × Filled part₀ (8 * e) (entriesTo items values e) part
+Inv-loop part₀ items values e₀ part e = (e ≤ length items) × (length part ≡ length part₀) × Filled part₀ (8 * e) (entriesTo items values e) part
 
 abbrev μ-loop : tie.MeasureT-loop
-μ-loop part₀ items values n e₀ part e = n - e
+μ-loop part₀ items values e₀ part e = length items - e
 
 loop-holds : tie.Need-loop-holds Inv-loop μ-loop
 loop-holds c =
     let a = c .before .before .args in
-    (omega arith, refl, refl, entries-none (a .part .now) (a .items .now) (a .values .now))
+    (omega arith, refl, entries-none (a .part .now) (a .items .now) (a .values .now))
 
 mul-at : tie.Need-mul-at Inv-loop μ-loop
 mul-at c = omega arith
@@ -37,14 +37,14 @@ part-put-entry-start c = omega arith
 part-put-entry-end : tie.Need-part-put-entry-end Inv-loop μ-loop
 part-put-entry-end c = omega arith
 
-shared-slice-read-t15 : tie.Need-shared-slice-read-t15 Inv-loop μ-loop
-shared-slice-read-t15 c = omega arith
+shared-slice-read-put-entry : tie.Need-shared-slice-read-put-entry Inv-loop μ-loop
+shared-slice-read-put-entry c = omega arith
 
-mul-t16 : tie.Need-mul-t16 Inv-loop μ-loop
-mul-t16 c = omega arith
+mul-put-entry : tie.Need-mul-put-entry Inv-loop μ-loop
+mul-put-entry c = omega arith
 
-shared-slice-copy-out-t18 : tie.Need-shared-slice-copy-out-t18 Inv-loop μ-loop
-shared-slice-copy-out-t18 c = omega arith
+shared-slice-copy-out-put-entry : tie.Need-shared-slice-copy-out-put-entry Inv-loop μ-loop
+shared-slice-copy-out-put-entry c = omega arith
 
 put-entry-requires : tie.Need-put-entry-requires Inv-loop μ-loop
 put-entry-requires c κs = search needs
@@ -61,39 +61,20 @@ loop-again c =
     let b = p .before .before .before .before .before in
     let a = b .before .before .before .args in (
       omega arith,
-      refl,
-      c .before .part .given .1 ∙ b .loop .inv .2,
+      c .before .part .given .1 ∙ b .loop .inv .1,
       entries-put (a .part .now) (a .items .now) (a .values .now) (b .loop .e) _ (b .loop .part) (p .put-entry .last .0)
-          (omega arith) (omega arith) (b .loop .inv .3) (p .put-entry .ensures) (toZ-ofZ (record { sfits = p .before .t18 .given })),
+          (omega arith) (omega arith) (b .loop .inv .2) (p .put-entry .ensures) (toZ-ofZ (record { sfits = p .before .put-entry-arg2 .given })),
     )
 
-mul-clear : tie.Need-mul-clear Inv-loop μ-loop
-mul-clear c = omega arith
-
-sub-clear : tie.Need-sub-clear Inv-loop μ-loop
-sub-clear c = omega arith
-
-part-clear-start : tie.Need-part-clear-start Inv-loop μ-loop
-part-clear-start c = omega arith
-
-part-clear-end : tie.Need-part-clear-end Inv-loop μ-loop
-part-clear-end c = omega arith
-
-clear-requires : tie.Need-clear-requires Inv-loop μ-loop
-clear-requires c κs = tt
-
 same-length : tie.Need-same-length Inv-loop μ-loop
-same-length c = c .before .part2 .given .1 ∙ c .before .before .before .before .before .loop .inv .2
+same-length c = c .before .loop .inv .1
 
 returns : tie.Need-returns Inv-loop μ-loop
 returns c =
-    let p = c .before .before in
-    let b = p .before .before .before in
+    let b = c .before in
     let a = b .before .before .before .args in
     let e : b .loop .e ≡ length (a .items .now) = omega arith in
-    entries-end (a .part .now) (a .items .now) (a .values .now) (b .loop .part) (p .clear .last .0)
-    (omega arith) (omega arith) (omega arith) (omega arith) (rw e at (b .loop .inv .3))
-    (p .clear .ensures ∙ ap (λ (k : ℕ). replicate k 0) (p .before .clear-arg .given .2))
+    entries-over (a .part .now) (a .items .now) (a .values .now) (omega arith) (b .loop .part) (rw e at (b .loop .inv .2))
 
 pub put-entries-spec : {M : Type 1} → statement M
 put-entries-spec =
@@ -107,17 +88,12 @@ put-entries-spec =
     sub-put-entry
     part-put-entry-start
     part-put-entry-end
-    shared-slice-read-t15
-    mul-t16
-    shared-slice-copy-out-t18
+    shared-slice-read-put-entry
+    mul-put-entry
+    shared-slice-copy-out-put-entry
     put-entry-requires
     add-e
     loop-less
     loop-again
-    mul-clear
-    sub-clear
-    part-clear-start
-    part-clear-end
-    clear-requires
     same-length
     returns)

@@ -4,7 +4,7 @@ use native.Mathlib.Omega.{arith}
 use borrow.Author.Needs.{needs}
 use mir.Facts.{toZ-ofZ}
 use mir.Syntax.{w32}
-use mir.Val.{SFits, ofZ}
+use mir.Val.{ofZ}
 use Rattle.block.specs.Numbers.{bytesOf}
 use Rattle.block.proofs.WriteLaws.{entry-put}
 use Rattle.block_writer.proofs.put_entry.Statement.{statement}
@@ -18,9 +18,6 @@ part-put-number-start c = search needs
 
 part-put-number-end : tie.Need-part-put-number-end
 part-put-number-end c = search needs
-
-cast-put-number : tie.Need-cast-put-number
-cast-put-number c = search needs
 
 put-number-requires : tie.Need-put-number-requires
 put-number-requires c κs = search needs
@@ -46,13 +43,12 @@ same-length c = search needs
 returns : tie.Need-returns
 returns c =
     let n = c .before .before in
-    let t = n .before .before in
-    let m = t .before .before .before .before in
-    let a = m .before .before .before .before in
-    let f : SFits w32 (a .args .entry .value) = record { sfits = t .struct-told .given .1 .0 .1 } in
-    entry-put (a .args .part .now) (m .put-number .last .0) (n .put-number2 .last .0) (a .args .entry) (a .pre) (omega (arith, t .struct-told .given .0 .1))
+    let m = n .before .before .before .before .before in
+    let s = m .before .before .before in
+    let a = s .args in
+    entry-put (a .part .now) (m .put-number .last .0) (n .put-number2 .last .0) (record { item = a .item; value = a .value }) (s .pre) (omega (arith, s .fits .item))
     (m .put-number .ensures)
-    (n .put-number2 .ensures ∙ ap (bytesOf 4) (n .before .to-bits .ensures ∙ ap (ofZ w32) (toZ-ofZ f)))
+    (n .put-number2 .ensures ∙ ap (bytesOf 4) (n .before .to-bits .ensures ∙ ap (ofZ w32) (toZ-ofZ (s .fits .value))))
 
 pub put-entry-spec : {M : Type 1} → statement M
 put-entry-spec =
@@ -61,7 +57,6 @@ put-entry-spec =
     sub-put-number
     part-put-number-start
     part-put-number-end
-    cast-put-number
     put-number-requires
     sub-put-number-2
     part-put-number-start-2

@@ -1,12 +1,11 @@
--- `write_header` meets its contract: four stores, the slot's part and the zeros' part, in this order, are all of it. Assumes nothing.
-use Prim.Native.Nat.{ℕ}
-use mathlib.Core.Path.{ap, _∙_}
+-- `write_header` meets its contract: four stores and the slot's part, in this order. Assumes nothing.
+use mathlib.Core.Path.{_∙_}
 use native.Mathlib.Omega.{arith}
 use borrow.Author.Tests.{eq-eqb, ne-eqb}
 use borrow.Author.Needs.{needs}
-use lib.ListN.{replicate, length-set}
-use Rattle.block.specs.Writing.{headerStep}
-use Rattle.block.proofs.WriteLaws.{header-put}
+use lib.ListN.{length-set}
+use Rattle.block_writer.specs.Writing.{headerStep}
+use Rattle.block_writer.proofs.WriterLaws.{header-over}
 use Rattle.block_writer.proofs.write_header.Statement.{statement}
 use Rattle.block_writer.proofs.write_header.Tie as tie
 
@@ -38,31 +37,16 @@ part-put-number-end c = simp length-set (omega arith)
 put-number-requires : tie.Need-put-number-requires
 put-number-requires c κs = search needs
 
-sub-clear : tie.Need-sub-clear
-sub-clear c = search needs
-
-part-clear-start : tie.Need-part-clear-start
-part-clear-start c = search needs
-
-part-clear-end : tie.Need-part-clear-end
-part-clear-end c = omega (arith, simp length-set at (c .before .part .given .1))
-
-clear-requires : tie.Need-clear-requires
-clear-requires c κs = search needs
-
 same-length : tie.Need-same-length
-same-length c = c .before .part2 .given .1 ∙ c .before .before .before .before .before .part .given .1 ∙ simp length-set
+same-length c = c .before .part .given .1 ∙ simp length-set
 
 returns-2 : tie.Need-returns-2
 unfolding headerStep
 returns-2 c =
-    let z = c .before .before in
-    let n = z .before .before .before .before in
+    let n = c .before .before in
     let a = n .before .before .before .before .args in
     let h = n .before .before .if1 .left in
-    let zeros = z .clear .ensures ∙ ap (λ (k : ℕ). replicate k 0) (z .before .clear-arg .given .2) in
-    let e = header-put (a .part .now) (n .put-number .last .0) (z .clear .last .0) (a .header) h (n .put-number .ensures) zeros in
-    rw (eq-eqb _ 16 h, ← e)
+    rw (eq-eqb _ 16 h, ← header-over (a .part .now) (n .put-number .last .0) (a .header) h (n .put-number .ensures))
 
 pub write-header-spec : {M : Type 1} → statement M
 write-header-spec =
@@ -77,9 +61,5 @@ write-header-spec =
     part-put-number-start
     part-put-number-end
     put-number-requires
-    sub-clear
-    part-clear-start
-    part-clear-end
-    clear-requires
     same-length
     returns-2)

@@ -1,10 +1,9 @@
--- `write_record` meets its contract: the ticket's part, the count's part and the entries' part, in this order, are all of it.
--- Assumes nothing.
+-- `write_record` meets its contract: the ticket's part, the count's part and the entries' part, in this order. Assumes nothing.
 use mathlib.Core.Path.{_∙_}
 use borrow.Author.Tests.{eq-eqb, ne-eqb, le-leb, lt-leb}
 use borrow.Author.Needs.{needs}
-use Rattle.block.specs.Writing.{recordStep}
-use Rattle.block.proofs.WriteLaws.{record-put}
+use Rattle.block_writer.specs.Writing.{recordStep}
+use Rattle.block_writer.proofs.WriterLaws.{record-over}
 use Rattle.block_writer.proofs.write_record.Statement.{statement}
 use Rattle.block_writer.proofs.write_record.Tie as tie
 
@@ -73,8 +72,8 @@ returns-4 c =
     let h = b .before .before .if1 .left in
     let l = b .before .if2 .left in
     let k = b .if3 .left in
-    let e = record-put (a .part .now) (a .items .now) (a .values .now) (a .ticket) (n .put-number .last .0) (m .put-number2 .last .0) (z .put-entries .last .0)
-    h l k (n .put-number .ensures) (m .put-number2 .ensures) (c .before .part3 .given .0 ∙ z .before .put-entries-arg .given .2) (z .put-entries .ensures) in
+    let e = record-over (a .part .now) (a .items .now) (a .values .now) k (a .ticket) (n .put-number .last .0) (m .put-number2 .last .0) (z .put-entries .last .0)
+    h l (n .put-number .ensures) (m .put-number2 .ensures) (c .before .part3 .given .0 ∙ z .before .put-entries-arg .given .2) (z .put-entries .ensures) in
     rw (eq-eqb _ 72 h, le-leb _ 8 l, eq-eqb _ _ k, ← e)
 
 pub write-record-spec : {M : Type 1} → statement M

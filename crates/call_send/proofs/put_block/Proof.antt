@@ -1,12 +1,12 @@
 -- `put_block` meets its contract: what the four calls leave, one after the other, is the message's block (`message-put`).
 use Prim.Native.Nat.{_≤_}
-use mathlib.Core.Path.{refl, _∙_}
+use mathlib.Core.Path.{_≡_, refl, _∙_}
 use native.Mathlib.Omega.{arith}
 use lib.ListN.{replicate}
 use Rattle.memory.proofs.RowLaws.{index-within}
 use Rattle.call_reply.specs.Parts.{sendParts}
 use Rattle.call_reply.proofs.BlockLaws.{copied}
-use Rattle.call_send.proofs.BlockLaws.{message-put}
+use Rattle.call_send.proofs.BlockLaws.{header-written, zeros-behind, message-put}
 use borrow.Author.Needs.{needs}
 use Rattle.call_send.proofs.put_block.Statement.{statement}
 use Rattle.call_send.proofs.put_block.Tie as tie
@@ -43,13 +43,25 @@ header-for-requires c κs = search needs
 write-header-requires : tie.Need-write-header-requires
 write-header-requires c κs = search needs
 
+-- the lent block is zeros first
+zeros : (c : tie.After-copy-bytes) → c .copy-bytes .last .1 .0 ≡ replicate 512 0
+zeros c = let s = c .before .before .before .before .before .before .before in c .copy-bytes .ensures ∙ copied (s .args .block .now) (replicate 512 0) (s .pre .0)
+
 put-writesets-requires : tie.Need-put-writesets-requires
 put-writesets-requires c κs =
     let b = c .before .before in
-    let z = b .before .before .before .before .before .before in
+    let h = b .before in
+    let g = h .before .before in
+    let z = g .before .before .before in
     let e = z .before .before .before in
-    let s = e .before .before .before .before in
-    (b .block2 .given .1 ∙ z .copy-bytes .kept .1 .0 ∙ s .pre .0, omega (arith, few e), s .pre .1, s .pre .2, s .pre .3)
+    let s = e .before .before .before .before in (
+      b .block2 .given .1 ∙ z .copy-bytes .kept .1 .0 ∙ s .pre .0,
+      zeros-behind 512 (z .copy-bytes .last .1 .0) (h .write-header .last .0) refl (zeros z) (b .block2 .given .0 ∙ g .write-header-arg .given .2),
+      omega (arith, few e),
+      s .pre .1,
+      s .pre .2,
+      s .pre .3,
+    )
 
 write-check-requires : tie.Need-write-check-requires
 write-check-requires c κs = search needs
@@ -70,9 +82,9 @@ returns c = λ m.
     let s = e .before .before .before .before in
     let a = s .args in
     message-put (sendParts m (a .turn) (a .counts) (a .rows) (a .queue .now) (a .items .now) (a .writes .now) (m .blocks .outbox))
-    (e .queue-end .result) (e .queue-end .ensures) (few e) 512 (h .write-header .result) (w .write-check .result)
-    (z .copy-bytes .last .1 .0) _ (h .write-header .last .0) (p .put-writesets .last .0) (w .write-check .last .0)
-    refl (z .copy-bytes .ensures ∙ copied (a .block .now) (replicate 512 0) (s .pre .0)) (g .write-header-arg .given .2) (b .block2 .given .0) (rw (f .header-for .ensures) at (h .write-header .ensures))
+    (e .queue-end .result) (e .queue-end .ensures) (few e) 512 (w .write-check .result)
+    (z .copy-bytes .last .1 .0) (h .write-header .last .0) (p .put-writesets .last .0) (w .write-check .last .0)
+    refl (zeros z) (header-written 512 (z .copy-bytes .last .1 .0) (h .write-header .last .0) refl (zeros z) (h .write-header .result) _ (rw (f .header-for .ensures) at (h .write-header .ensures)))
     (p .put-writesets .ensures) (p .put-writesets .kept .0 ∙ b .block2 .given .1 ∙ z .copy-bytes .kept .1 .0 ∙ s .pre .0) (w .write-check .ensures)
 
 pub put-block-spec : {M : Type 1} → statement M

@@ -5,7 +5,7 @@ use mathlib.Core.Path.{_≡_, _∙_}
 use native.Mathlib.Omega.{arith}
 use lib.ListN.{length}
 use Rattle.block.proofs.WriteLaws.{Filled}
-use Rattle.call_send.proofs.BlockLaws.{blockTo, writesets-none, writesets-put, writesets-end}
+use Rattle.call_send.proofs.BlockLaws.{blockTo, writesets-none, writesets-fresh, writesets-put, writesets-end}
 use Rattle.call_send.proofs.put_writesets.Statement.{statement}
 use Rattle.call_send.proofs.put_writesets.Tie as tie
 
@@ -47,8 +47,14 @@ shared-slice-read-put-writeset c = omega arith
 
 put-writeset-requires : tie.Need-put-writeset-requires Inv-loop μ-loop
 put-writeset-requires c κs =
-    let s = c .before .before .before .before .before .before .before in
-    (omega (arith, c .before .put-writeset-arg .given .2), s .pre .3, s .pre .4)
+    let b = c .before .before .before in
+    let s = b .before .before .before .before in
+    let a = s .args in (
+      writesets-fresh (a .block .now) (a .rows) (a .queue .now) (a .items .now) (a .writes .now) (b .loop .j)
+          (blockTo (a .block .now) (a .rows) (a .queue .now) (a .items .now) (a .writes .now) (b .loop .j)) (b .loop .block) (s .pre .1) (omega arith) (b .loop .inv .2),
+      s .pre .4,
+      s .pre .5,
+    )
 
 add-j : tie.Need-add-j Inv-loop μ-loop
 add-j c = omega arith

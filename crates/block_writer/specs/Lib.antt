@@ -1,0 +1,2 @@
+-- What the writers of header and record leave.
+pub mod Writing
