@@ -29,6 +29,9 @@
  * - With c blocks committed, a cut leaves at most (own + n - c % n) % n + 1 blocks
  *   behind them, those up to the next own slot. A file with more is damaged or of a
  *   group of another n: do not cut it. Nothing else tells another's journal.
+ * - A journal from before the check of 32-bit sums is of no use: its first block
+ *   fails the check, so that a restart finds it empty. All replicas of a group
+ *   change together, each with an empty journal.
  * - Where the disk fails, hand nothing out and call nothing more. After a failed
  *   fsync a block may be readable, count as written, and not be on the disk: first
  *   cut the file to its length at the last good fsync, then restart. A restart does

@@ -42,7 +42,7 @@ unfolding headerBytes
 length-headerBytes h = simp (length-append, length-bytesOf)
 
 module _ (m : Message) (f : MessageFacts m) where
-  pub length-bodyBytes : length (bodyBytes m) ≡ 508
+  pub length-bodyBytes : length (bodyBytes m) ≡ 504
   unfolding bodyBytes
   length-bodyBytes = simp (length-append, length-headerBytes, length-recordsBytes (m .records) (f .records), length-replicate) (omega arith)
 
@@ -78,13 +78,15 @@ bytes-recordsBytes (r ∷ rs) h =
     let b = both _ _ h in
     bytes-append (bytes-recordBytes r (record-facts r (b .left))) (bytes-recordsBytes rs (b .right))
 
-pub bytes-blockOf : (m : Message) → MessageFacts m → AllBytes (blockOf m)
-unfolding blockOf bodyBytes headerBytes headerFor
-bytes-blockOf m f =
+pub bytes-bodyBytes : (m : Message) → MessageFacts m → AllBytes (bodyBytes m)
+unfolding bodyBytes headerBytes headerFor
+bytes-bodyBytes m f =
     let s = sender-small m f in
     bytes-append
-    (bytes-append
     (bytes-cons (omega arith) (bytes-cons (omega arith) (bytes-cons (omega arith) (bytes-cons (omega arith)
     (bytes-append (bytes-bytesOf 4 (m .slot)) (bytes-zeros 8))))))
-    (bytes-append (bytes-recordsBytes (m .records) (f .records)) (bytes-zeros (492 - 72 * length (m .records)))))
-    (bytes-checkBytes _)
+    (bytes-append (bytes-recordsBytes (m .records) (f .records)) (bytes-zeros (488 - 72 * length (m .records))))
+
+pub bytes-blockOf : (m : Message) → MessageFacts m → AllBytes (blockOf m)
+unfolding blockOf
+bytes-blockOf m f = bytes-append (bytes-bodyBytes m f) (bytes-checkBytes _)

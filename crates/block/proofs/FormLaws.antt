@@ -344,12 +344,12 @@ unfolding wellFormed
 form-length b h = rw (ne-eqb (length b) 512 h)
 
 module _ (b : List ℕ) (full : length b ≡ 512) where
-  form-is : wellFormed b ≡ (headerFits b && restFits (getD b 0 0) (getD b 3 0) (lent 16 508 b))
+  form-is : wellFormed b ≡ (headerFits b && restFits (getD b 0 0) (getD b 3 0) (lent 16 504 b))
   unfolding wellFormed valid messageOf padded headerFits
-  form-is = rw (eq-eqb (length b) 512 full, length-recordsOf, lent-slice 16 508 b (omega arith), and-block)
+  form-is = rw (eq-eqb (length b) 512 full, length-recordsOf, lent-slice 16 504 b (omega arith), and-block)
 
   pub form-header : headerFits b ≡ false → wellFormed b ≡ false
   form-header e = rw (form-is, e)
 
-  pub form-rest : headerFits b ≡ true → wellFormed b ≡ restFits (getD b 0 0) (getD b 3 0) (lent 16 508 b)
+  pub form-rest : headerFits b ≡ true → wellFormed b ≡ restFits (getD b 0 0) (getD b 3 0) (lent 16 504 b)
   form-rest e = rw (form-is, e)

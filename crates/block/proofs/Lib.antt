@@ -13,6 +13,7 @@ pub mod FormLaws
 pub mod WriteLaws
 pub mod RoundTrip
 pub mod Reading
+pub mod TwoWords
 pub mod OneBit
 pub mod Theorems
 pub mod Worked

@@ -27,22 +27,22 @@ take-four (p ∷ q ∷ []) h = absurd (omega arith)
 take-four (p ∷ []) h = absurd (omega arith)
 take-four [] h = absurd (omega arith)
 
-body-whole : (b : List ℕ) → length b ≡ 512 → AllBytes b → MessageFacts (messageOf b) → padded b ≡ true → bodyBytes (messageOf b) ≡ take 508 b
+body-whole : (b : List ℕ) → length b ≡ 512 → AllBytes b → MessageFacts (messageOf b) → padded b ≡ true → bodyBytes (messageOf b) ≡ take 504 b
 unfolding bodyBytes headerBytes headerFor messageOf padded
 body-whole b long f m z =
     let n = getD b 3 0 in
-    let middle = slice 16 508 b in
-    let size : length middle ≡ 492 = length-slice 16 508 b (omega arith) in
+    let middle = slice 16 504 b in
+    let size : length middle ≡ 488 = length-slice 16 504 b (omega arith) in
     let count = length-recordsOf n middle in
     let c = both _ _ z in
     let zeros = allZero-zeros 8 (slice 8 16 b) (length-slice 8 16 b (omega arith)) (c .left) in
-    let records = records-whole n middle (bytes-slice 16 508 f) (omega arith) (m .records) (c .right) in
+    let records = records-whole n middle (bytes-slice 16 504 f) (omega arith) (m .records) (c .right) in
     let slot = bytesOf-numberFrom 4 (slice 4 8 b) (bytes-slice 4 8 f) (length-slice 4 8 b (omega arith)) in
     rw (count, slot, rw size at records)
-    (sym (slice-split 0 4 508 b (omega arith) (omega arith)
+    (sym (slice-split 0 4 504 b (omega arith) (omega arith)
     ∙ ap₂ _++_ (take-four b (omega arith))
-    (slice-split 4 8 508 b (omega arith) (omega arith)
-    ∙ ap (λ (k : List ℕ). slice 4 8 b ++ k) (slice-split 8 16 508 b (omega arith) (omega arith) ∙ ap (λ (k : List ℕ). k ++ middle) (sym zeros))
+    (slice-split 4 8 504 b (omega arith) (omega arith)
+    ∙ ap (λ (k : List ℕ). slice 4 8 b ++ k) (slice-split 8 16 504 b (omega arith) (omega arith) ∙ ap (λ (k : List ℕ). k ++ middle) (sym zeros))
     ∙ sym (append-assoc (slice 4 8 b) (replicate 8 0) middle))))
 
 block-whole : (b : List ℕ) → AllBytes b → Taken b → MessageFacts (messageOf b) → padded b ≡ true → blockOf (messageOf b) ≡ b
@@ -75,8 +75,8 @@ module _ (b : List ℕ) (long : length b ≡ 512) (m : MessageFacts (messageOf b
   unfolding messageOf
   record-found =
       let c = m .kinds .count in
-      record-at (getD b 3 0) j (slice 16 508 b) noRecord (omega (arith, length-recordsOf (getD b 3 0) (slice 16 508 b)))
-      ∙ ap recordOf (part-in b 16 508 (72 * j) 72 (16 + 72 * j) (88 + 72 * j) refl (omega arith) (omega arith))
+      record-at (getD b 3 0) j (slice 16 504 b) noRecord (omega (arith, length-recordsOf (getD b 3 0) (slice 16 504 b)))
+      ∙ ap recordOf (part-in b 16 504 (72 * j) 72 (16 + 72 * j) (88 + 72 * j) refl (omega arith) (omega arith))
 
   pub record-read : recordAt b j ≡ headOf (getD (messageOf b .records) j noRecord)
   unfolding recordAt recordOf
@@ -95,7 +95,7 @@ module _ (b : List ℕ) (long : length b ≡ 512) (m : MessageFacts (messageOf b
 
 values-fit : (b : List ℕ) → AllBytes b → allValuesFit (messageOf b .records) ≡ true
 unfolding messageOf
-values-fit b f = records-signed (getD b 3 0) (slice 16 508 b) (bytes-slice 16 508 f)
+values-fit b f = records-signed (getD b 3 0) (slice 16 504 b) (bytes-slice 16 504 f)
 
 pub reading : (b : List ℕ) → Accepted b → Reading b
 reading b a =

@@ -19,7 +19,7 @@ use Rattle.block.proofs.NumberLaws.{numberFrom-bytesOf, length-valueByt
 use Rattle.block.proofs.CheckLaws.{check-matches}
 use Rattle.block.proofs.AnswerLaws.{not-refused}
 use Rattle.block.proofs.MessageLaws.{RecordFacts, record-facts, MessageFacts, message-facts}
-use Rattle.block.proofs.BlockLaws.{length-entryBytes, length-recordBytes, length-recordsBytes, length-bodyBytes, length-blockOf, bytes-blockOf}
+use Rattle.block.proofs.BlockLaws.{length-entryBytes, length-recordBytes, length-recordsBytes, length-bodyBytes, length-blockOf, bytes-bodyBytes, bytes-blockOf}
 
 pub zeros-allZero : (n : ℕ) → allZero (replicate n 0) ≡ true
 unfolding allZero
@@ -102,10 +102,10 @@ records-padded (r ∷ rs) n h =
 -- ---- the block
 
 module _ (m : Message) (f : MessageFacts m) where
-  middle-back : slice 16 508 (blockOf m) ≡ recordsBytes (m .records) ++ replicate (492 - 72 * length (m .records)) 0
+  middle-back : slice 16 504 (blockOf m) ≡ recordsBytes (m .records) ++ replicate (488 - 72 * length (m .records)) 0
   unfolding blockOf bodyBytes headerBytes bytesOf
   middle-back =
-      take-at (recordsBytes (m .records) ++ replicate (492 - 72 * length (m .records)) 0) (checkBytes (bodyBytes m)) 492
+      take-at (recordsBytes (m .records) ++ replicate (488 - 72 * length (m .records)) 0) (checkBytes (bodyBytes m)) 488
       (simp (length-append, length-recordsBytes (m .records) (f .records), length-replicate) (omega arith))
 
   message-back : allValuesFit (m .records) ≡ true → messageOf (blockOf m) ≡ m
@@ -118,16 +118,16 @@ module _ (m : Message) (f : MessageFacts m) where
     records = records i;
   }
     where
-      records : recordsOf (length (m .records)) (slice 16 508 (blockOf m)) ≡ m .records
-      records = rw middle-back (records-back (m .records) (replicate (492 - 72 * length (m .records)) 0) (f .records) v)
+      records : recordsOf (length (m .records)) (slice 16 504 (blockOf m)) ≡ m .records
+      records = rw middle-back (records-back (m .records) (replicate (488 - 72 * length (m .records)) 0) (f .records) v)
 
   padded-back : padded (blockOf m) ≡ true
   unfolding padded blockOf bodyBytes headerBytes headerFor bytesOf allZero
-  padded-back = ap (recordsPadded (length (m .records))) middle-back ∙ records-padded (m .records) (492 - 72 * length (m .records)) (f .records)
+  padded-back = ap (recordsPadded (length (m .records))) middle-back ∙ records-padded (m .records) (488 - 72 * length (m .records)) (f .records)
 
   check-back : checkMatches (blockOf m) ≡ true
   unfolding blockOf
-  check-back = check-matches (bodyBytes m) (length-bodyBytes m f)
+  check-back = check-matches (bodyBytes m) (bytes-bodyBytes m f) (length-bodyBytes m f)
 
 pub round-trip : (m : Message) → Sendable m → RoundTrip m
 unfolding wellFormed

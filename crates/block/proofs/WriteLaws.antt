@@ -18,7 +18,6 @@ use Rattle.block.specs.Message.{Record}
 use Rattle.block.specs.Numbers.{bytesOf, valueBytes}
 use Rattle.block.specs.Writing.{entriesFrom}
 use Rattle.block.proofs.BlockLaws.{length-entryBytes}
-use Rattle.block.proofs.CheckLaws.{firstCheck-small, secondCheck-small}
 use Rattle.block.proofs.NumberLaws.{length-bytesOf}
 
 -- ---- a list filled from the front: l is p, of a elements, and then what l₀ has from index a on
@@ -61,15 +60,20 @@ byte-number x h =
     let z : x / 256 ≡ 0 = omega arith in
     rw (a, z)
 
--- the four stores of a number's bytes
-pub number-put : (l : List ℕ) (x : ℕ) → length l ≡ 4
-    → sets l 0 (x % 256 ∷ x / 256 % 256 ∷ x / 65536 % 256 ∷ x / 16777216 % 256 ∷ []) ≡ bytesOf 4 x
+-- a number's four bytes, as the code works them out
+number-bytes : (x : ℕ) → (x % 256 ∷ x / 256 % 256 ∷ x / 65536 % 256 ∷ x / 16777216 % 256 ∷ []) ≡ bytesOf 4 x
 unfolding bytesOf
-number-put l x h =
+number-bytes x =
     let e : x / 65536 ≡ x / 256 / 256 = omega arith in
     let d : x / 16777216 ≡ x / 256 / 256 / 256 = omega arith in
-    let vs : List ℕ = x % 256 ∷ x / 256 % 256 ∷ x / 256 / 256 % 256 ∷ x / 256 / 256 / 256 % 256 ∷ [] in
-    rw (e, d) (filled-all (filled-sets (filled-none l) vs (omega arith)) (omega arith))
+    rw (e, d)
+
+-- the four stores of them
+pub number-put : (l : List ℕ) (x : ℕ) → length l ≡ 4
+    → sets l 0 (x % 256 ∷ x / 256 % 256 ∷ x / 65536 % 256 ∷ x / 16777216 % 256 ∷ []) ≡ bytesOf 4 x
+number-put l x h =
+    let vs : List ℕ = x % 256 ∷ x / 256 % 256 ∷ x / 65536 % 256 ∷ x / 16777216 % 256 ∷ [] in
+    filled-all (filled-sets (filled-none l) vs (omega arith)) (omega arith) ∙ number-bytes x
 
 -- ---- the parts of a block, from any l of their length
 
@@ -130,20 +134,16 @@ records-append (s ∷ rs) r = rw (records-append rs r) (sym (append-assoc (recor
 
 -- ---- the check
 
-check-bytes : (l : List ℕ) → (firstCheck l % 256 ∷ firstCheck l / 256 ∷ secondCheck l % 256 ∷ secondCheck l / 256 ∷ []) ≡ checkBytes l
-unfolding checkBytes bytesOf
-check-bytes l =
-    let e : firstCheck l / 256 % 256 ≡ firstCheck l / 256 = omega (arith, firstCheck-small l) in
-    let d : secondCheck l / 256 % 256 ≡ secondCheck l / 256 = omega (arith, secondCheck-small l) in
-    rw (e, d)
-
--- the four stores of the check, whose numbers are f and s
+-- the eight stores of the check, whose numbers are f and s
 pub check-put : (l : List ℕ) (f s : ℕ) → length l ≡ 512 → f ≡ firstCheck l → s ≡ secondCheck l
-    → sets l 508 (f % 256 ∷ f / 256 ∷ s % 256 ∷ s / 256 ∷ []) ≡ take 508 l ++ checkBytes l
+    → sets l 504
+    (f % 256 ∷ f / 256 % 256 ∷ f / 65536 % 256 ∷ f / 16777216 % 256 ∷ s % 256 ∷ s / 256 % 256 ∷ s / 65536 % 256 ∷ s / 16777216 % 256 ∷ [])
+    ≡ take 504 l ++ checkBytes l
+unfolding checkBytes
 check-put l f s h p q =
-    rw (p, q)
-    (sets-eq (firstCheck l % 256 ∷ firstCheck l / 256 ∷ secondCheck l % 256 ∷ secondCheck l / 256 ∷ []) l 508 (omega arith)
-    ∙ rw (drop-of-length-le l {i = 512} (omega arith), append-nil) (ap (λ (r : List ℕ). take 508 l ++ r) (check-bytes l)))
+    rw (← p, ← q, ← number-bytes f, ← number-bytes s)
+    (sets-eq (f % 256 ∷ f / 256 % 256 ∷ f / 65536 % 256 ∷ f / 16777216 % 256 ∷ s % 256 ∷ s / 256 % 256 ∷ s / 65536 % 256 ∷ s / 16777216 % 256 ∷ []) l 504 (omega arith)
+    ∙ rw (drop-of-length-le l {i = 512} (omega arith), append-nil))
 
 -- ---- a whole block: zeros
 

@@ -1,4 +1,4 @@
--- The block of a message: 16 bytes of header, 72 for each record, zeros up to byte 508, four of check.
+-- The block of a message: 16 bytes of header, 72 for each record, zeros up to byte 504, eight of check.
 use Prim.Native.Nat.{ℕ, _*_, _-_}
 use mathlib.Core.List.{List, [], _∷_, _++_}
 use lib.ListN.{length, replicate}
@@ -40,9 +40,9 @@ headerFor m = record {
 unfoldable pub headerBytes : Header → List ℕ
 headerBytes h = (h .kind ∷ h .sender ∷ h .replicas ∷ h .count ∷ []) ++ (bytesOf 4 (h .slot) ++ replicate 8 0)
 
--- bytes 0 to 507
+-- bytes 0 to 503
 unfoldable pub bodyBytes : Message → List ℕ
-bodyBytes m = headerBytes (headerFor m) ++ (recordsBytes (m .records) ++ replicate (492 - 72 * length (m .records)) 0)
+bodyBytes m = headerBytes (headerFor m) ++ (recordsBytes (m .records) ++ replicate (488 - 72 * length (m .records)) 0)
 
 unfoldable pub blockOf : Message → List ℕ
 blockOf m = bodyBytes m ++ checkBytes (bodyBytes m)

@@ -1,5 +1,5 @@
--- Document 01's check: two sums over the 16-bit words of a block's first 508 bytes.
-use Prim.Native.Nat.{ℕ, zero, suc, _+_, _*_, _-_, _%_}
+-- The check of document 02, Req 04: two whole sums over the 16-bit words of a block's first 504 bytes.
+use Prim.Native.Nat.{ℕ, zero, suc, _+_, _*_, _-_}
 use mathlib.Core.Bool.{Bool, _&&_}
 use mathlib.Core.List.{List, _++_}
 use lib.Dec.{eqb}
@@ -16,24 +16,25 @@ unfoldable pub sumTo : List ℕ → ℕ → ℕ
 sumTo b zero = 0
 sumTo b (suc k) = sumTo b k + word b k
 
--- the sum of (254 − i)·w(i) over the first k words
+-- the sum of (252 − i)·w(i) over the first k words
 unfoldable pub weightedTo : List ℕ → ℕ → ℕ
 weightedTo b zero = 0
-weightedTo b (suc k) = weightedTo b k + (254 - k) * word b k
+weightedTo b (suc k) = weightedTo b k + (252 - k) * word b k
 
+-- no modulus: of bytes both are below 2^32 (`Theorems.fits`)
 unfoldable pub firstCheck : List ℕ → ℕ
-firstCheck b = sumTo b 254 % 65535
+firstCheck b = sumTo b 252
 
 unfoldable pub secondCheck : List ℕ → ℕ
-secondCheck b = weightedTo b 254 % 65535
+secondCheck b = weightedTo b 252
 
--- the four bytes at 508 to 511
+-- the eight bytes at 504 to 511
 unfoldable pub checkBytes : List ℕ → List ℕ
-checkBytes b = bytesOf 2 (firstCheck b) ++ bytesOf 2 (secondCheck b)
+checkBytes b = bytesOf 4 (firstCheck b) ++ bytesOf 4 (secondCheck b)
 
--- a block's last four bytes are the check of those before
+-- a block's last eight bytes are the check of those before
 unfoldable pub checkMatches : List ℕ → Bool
 checkMatches b =
     eqb (length b) 512
-    && eqb (firstCheck b) (numberFrom (slice 508 510 b))
-    && eqb (secondCheck b) (numberFrom (slice 510 512 b))
+    && eqb (firstCheck b) (numberFrom (slice 504 508 b))
+    && eqb (secondCheck b) (numberFrom (slice 508 512 b))

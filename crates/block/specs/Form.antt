@@ -31,7 +31,7 @@ messageOf b = record {
   sender = getD b 1 0;
   replicas = getD b 2 0;
   slot = numberFrom (slice 4 8 b);
-  records = recordsOf (getD b 3 0) (slice 16 508 b);
+  records = recordsOf (getD b 3 0) (slice 16 504 b);
 }
 
 -- ---- the unused bytes are zero
@@ -54,9 +54,9 @@ unfoldable pub recordsPadded : ℕ → List ℕ → Bool
 recordsPadded zero l = allZero l
 recordsPadded (suc n) l = recordPadded (take 72 l) && recordsPadded n (drop 72 l)
 
--- bytes 8 to 15, and what the records leave up to byte 507
+-- bytes 8 to 15, and what the records leave up to byte 503
 unfoldable pub padded : List ℕ → Bool
-padded b = allZero (slice 8 16 b) && recordsPadded (getD b 3 0) (slice 16 508 b)
+padded b = allZero (slice 8 16 b) && recordsPadded (getD b 3 0) (slice 16 504 b)
 
 -- document 01's *well formed*: all but the check
 unfoldable pub wellFormed : List ℕ → Bool

@@ -1,5 +1,5 @@
 -- What is proved of blocks, beside the functions' contracts. `proofs/Theorems.antt` has the proof.
-use Prim.Native.Nat.{ℕ, _+_, _-_, _/_, _%_, _^_, _<_}
+use Prim.Native.Nat.{ℕ, _+_, _-_, _/_, _%_, _^_, _≤_, _<_}
 use mathlib.Core.Path.{_≡_}
 use mathlib.Core.Bool.{true, cond}
 use mathlib.Core.List.{List, []}
@@ -8,7 +8,7 @@ use lib.IntN.{pos}
 use lib.ListN.{length, getD, set}
 use Rattle.block.specs.declared.Entry.{Entry}
 use Rattle.block.specs.declared.RecordHead.{RecordHead}
-use Rattle.block.specs.Check.{checkMatches}
+use Rattle.block.specs.Check.{word, firstCheck, secondCheck, checkMatches}
 use Rattle.block.specs.Message.{Record, Message, valid, allValuesFit}
 use Rattle.block.specs.Bytes.{blockOf, headerFor}
 use Rattle.block.specs.Form.{messageOf, wellFormed}
@@ -27,6 +27,13 @@ pub record Sendable (m : Message) : Type 0 where
 pub record Accepted (b : List ℕ) : Type 0 where
   pub bytes : AreBytes b
   pub taken : blockRefusal b ≡ 0
+
+-- c is not b, but 512 bytes that differ from it in no words but i and j, which may be one; the words of the check count
+pub record TwoWordsChanged (b c : List ℕ) (i j : ℕ) : Type 0 where
+  pub bytes : AreBytes c
+  pub long : length c ≡ 512
+  pub elsewhere : (k : ℕ) → (k ≡ i → ⊥) → (k ≡ j → ⊥) → word c k ≡ word b k
+  pub changed : c ≡ b → ⊥
 
 -- a byte with bit t changed
 unfoldable pub flipped : ℕ → ℕ → ℕ
@@ -64,9 +71,13 @@ pub record Reading (b : List ℕ) : Type 0 where
       → entryAt b j e ≡ getD (getD (messageOf b .records) j noRecord .entries) e noEntry
 
 pub record Theorems : Type 0 where
+  -- the sums of any bytes fit 32 bits: 252 words of 65,535, and weights whose sum is 31,878
+  pub fits : (b : List ℕ) → AreBytes b → (firstCheck b ≤ 16_514_820) × (secondCheck b ≤ 2_089_124_730)
   pub round-trip : (m : Message) → Sendable m → RoundTrip m
   pub reading : (b : List ℕ) → Accepted b → Reading b
   -- two accepted blocks of one message are one block
   pub only : (b c : List ℕ) → Accepted b → Accepted c → messageOf b ≡ messageOf c → b ≡ c
-  -- any one of the 4,096 bits changed: 14
+  -- any change confined to one or two of the 256 words: 14
+  pub two-words : (b c : List ℕ) (i j : ℕ) → Accepted b → TwoWordsChanged b c i j → blockRefusal c ≡ 14
+  -- so any one of the 4,096 bits changed: 14
   pub one-bit : (b : List ℕ) → Accepted b → (p t : ℕ) → p < 512 → t < 8 → blockRefusal (flipBit b p t) ≡ 14

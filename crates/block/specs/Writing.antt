@@ -32,4 +32,4 @@ recordFrom t is vs = record { ticket = t; entries = entriesFrom is vs }
 
 -- a block with its check
 unfoldable pub checkedStep : List ℕ → Written
-checkedStep block = writeWhere (eqb (length block) 512) (take 508 block ++ checkBytes block) block
+checkedStep block = writeWhere (eqb (length block) 512) (take 504 block ++ checkBytes block) block

@@ -1,15 +1,16 @@
-// The check: two sums over the 16-bit words of a block's first 508 bytes.
+// The check: two whole sums over the 16-bit words of a block's first 504 bytes.
 ghost use mathlib.Core.Path.{_≡_};
-ghost use Prim.Native.Nat.{_+_, _*_, _%_, _≤_, _<_};
+ghost use Prim.Native.Nat.{_+_, _*_, _≤_, _<_};
 ghost use lib.ListN.{length};
 ghost use Rattle.block.specs.Check.{word as wordOf, firstCheck, secondCheck, checkMatches};
 ghost use Rattle.block.specs.Writing.{written, checkedStep};
+use block::number;
 use block::number16;
 
-// The check: two 16-bit numbers.
+// The check: two 32-bit numbers.
 struct Check {
-    first: u16,
-    second: u16,
+    first: u32,
+    second: u32,
 }
 
 // Document 01's w(i): the 16-bit word at byte 2·i.
@@ -21,22 +22,11 @@ fn word(bytes: &[u8], i: usize) -> u16
     number16(bytes[at], bytes[at + 1])
 }
 
-// The remainder. The branch is for the compiler alone: without it the writers add up one word at a time.
-fn reduced(x: u32) -> u16
-    ensures { λ r. ⌜ r ≡ x % 65535 ⌝ }
-{
-    if x < 65535 {
-        x as u16
-    } else {
-        (x % 65535) as u16
-    }
-}
-
-// The sums run over all words and are reduced once: both stay below 2^32. Four words a turn, and no product: a to d sum every
-// fourth word, e to h sum those sums. Four times the latter give each word its weight, but for 2 and 1 too little in a and b
-// and 1 too much in d. The compiler makes one addition of each four.
+// The two sums over 252 words; both stay below 2^32. Four words a turn, and no product: a to d sum every fourth word, e to h sum
+// those sums. Four times the latter give each word its weight, but for 1, 2 and 3 too much in b, c and d. The compiler makes
+// one addition of each four.
 fn sums(bytes: &[u8]) -> Check
-    requires { ⌜ 508 ≤ length (now bytes) ⌝ }
+    requires { ⌜ 504 ≤ length (now bytes) ⌝ }
     ensures { λ r. ⌜ (r .first ≡ firstCheck (now (bytes .entry))) × (r .second ≡ secondCheck (now (bytes .entry))) ⌝ }
 {
     let mut a: u32 = 0;
@@ -59,17 +49,16 @@ fn sums(bytes: &[u8]) -> Check
         h += d;
         i += 4;
     }
-    let y = word(bytes, 252) as u32;
-    let z = word(bytes, 253) as u32;
-    let first = a + b + c + d + y + z;
-    let second = 4 * (e + f + g + h) + 2 * a + b - d + 2 * y + z;
-    Check {
-        first: reduced(first),
-        second: reduced(second),
+    let first = a + b + c + d;
+    // Nothing but zeros. The branch is for the compiler alone: without it the writers add up one word at a time.
+    if first == 0 {
+        return Check { first, second: 0 };
     }
+    let second = 4 * (e + f + g + h) - (b + 2 * c + 3 * d);
+    Check { first, second }
 }
 
-// Whether a block's last four bytes are the check of those before.
+// Whether a block's last eight bytes are the check of those before.
 pub fn check_matches(block: &[u8]) -> bool
     ensures { λ r. ⌜ r ≡ checkMatches (now (block .entry)) ⌝ }
 {
@@ -77,13 +66,13 @@ pub fn check_matches(block: &[u8]) -> bool
         return false;
     }
     let s = sums(block);
-    if s.first != word(block, 254) {
+    if s.first != number(block[504], block[505], block[506], block[507]) {
         return false;
     }
-    s.second == word(block, 255)
+    s.second == number(block[508], block[509], block[510], block[511])
 }
 
-// The check, into a block's last four bytes; 1 for another length.
+// The check, into a block's last eight bytes; 1 for another length.
 pub fn write_check(block: &mut [u8]) -> u8
     ensures { λ r. ⌜ written r (now (block .exit)) ≡ checkedStep (now (block .entry)) ⌝ }
 {
@@ -91,9 +80,13 @@ pub fn write_check(block: &mut [u8]) -> u8
         return 1;
     }
     let s = sums(&*block);
-    block[508] = (s.first % 256) as u8;
-    block[509] = (s.first / 256) as u8;
-    block[510] = (s.second % 256) as u8;
-    block[511] = (s.second / 256) as u8;
+    block[504] = (s.first % 256) as u8;
+    block[505] = (s.first / 256 % 256) as u8;
+    block[506] = (s.first / 65536 % 256) as u8;
+    block[507] = (s.first / 16777216 % 256) as u8;
+    block[508] = (s.second % 256) as u8;
+    block[509] = (s.second / 256 % 256) as u8;
+    block[510] = (s.second / 65536 % 256) as u8;
+    block[511] = (s.second / 16777216 % 256) as u8;
     0
 }

@@ -107,7 +107,7 @@ fn record_fits(part: &[u8]) -> bool
 
 // The first `count` of six records, and the zeros after them up to the check.
 fn records_fit(body: &[u8], count: usize) -> bool
-    requires { ⌜ (length (now body) ≡ 492) × (count ≤ 6) ⌝ }
+    requires { ⌜ (length (now body) ≡ 488) × (count ≤ 6) ⌝ }
     ensures { λ r. ⌜ r ≡ (recordsFit (recordsOf count (now (body .entry))) && recordsPadded count (now (body .entry))) ⌝ }
 {
     let mut j: usize = 0;
@@ -123,7 +123,7 @@ fn records_fit(body: &[u8], count: usize) -> bool
 
 // Whether none of the records from `from` on has the ticket.
 fn ticket_absent(body: &[u8], ticket: u32, from: usize, count: usize) -> bool
-    requires { ⌜ (length (now body) ≡ 492) × (count ≤ 6) × (from ≤ count) ⌝ }
+    requires { ⌜ (length (now body) ≡ 488) × (count ≤ 6) × (from ≤ count) ⌝ }
     ensures { λ r. ⌜ r ≡ ticketAbsent ticket (recordsOf (count - from) (drop (72 * from) (now (body .entry)))) ⌝ }
 {
     let mut i = from;
@@ -137,7 +137,7 @@ fn ticket_absent(body: &[u8], ticket: u32, from: usize, count: usize) -> bool
 }
 
 fn tickets_differ(body: &[u8], count: usize) -> bool
-    requires { ⌜ (length (now body) ≡ 492) × (count ≤ 6) ⌝ }
+    requires { ⌜ (length (now body) ≡ 488) × (count ≤ 6) ⌝ }
     ensures { λ r. ⌜ r ≡ ticketsDiffer (recordsOf count (now (body .entry))) ⌝ }
 {
     let mut j: usize = 0;
@@ -188,16 +188,16 @@ pub fn well_formed(block: &[u8]) -> bool
     let count = block[3];
     match count {
         0 => match kind {
-            1 => zero(&block[16..508]),
+            1 => zero(&block[16..504]),
             _ => false,
         },
         1..=6 => match kind {
             2 => {
                 let n = count as usize;
-                if !records_fit(&block[16..508], n) {
+                if !records_fit(&block[16..504], n) {
                     return false;
                 }
-                tickets_differ(&block[16..508], n)
+                tickets_differ(&block[16..504], n)
             }
             _ => false,
         },

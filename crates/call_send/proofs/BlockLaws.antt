@@ -154,15 +154,15 @@ module _ (z : ℕ) (l hs : List ℕ) (whole : z ≡ 512) (zeros : l ≡ replicat
   zeros-behind s = drop-at hs (drop 16 l) 16 s ∙ rw (zeros, whole)
 
 module _ (m : Message) (n : ℕ) (count : n ≡ length (m .records)) (few : n ≤ 6) where
-  -- z zeros, then the header in their first 16, then the records: the body, and the check's four bytes still zero
+  -- z zeros, then the header in their first 16, then the records: the body, and the check's eight bytes still zero
   body-put : (z : ℕ) (l hs b : List ℕ) → z ≡ 512 → l ≡ replicate z 0 → length hs ≡ 16 → hs ≡ headerBytes (headerFor m)
       → b ≡ take 16 (putMid 0 16 l hs) ++ (recordsBytes (m .records) ++ drop (16 + 72 * n) (putMid 0 16 l hs))
-      → b ≡ bodyBytes m ++ replicate 4 0
+      → b ≡ bodyBytes m ++ replicate 8 0
   unfolding bodyBytes
   body-put z l hs b e q s p r =
-      let k : z - (16 + 72 * n) ≡ 492 - 72 * n + 4 = omega arith in
-      let d : drop (16 + 72 * n) (putMid 0 16 l hs) ≡ replicate (492 - 72 * n) 0 ++ replicate 4 0 =
-      sym (drop-drop (72 * n) 16 (putMid 0 16 l hs)) ∙ rw (drop-at hs (drop 16 l) 16 s, drop-drop (72 * n) 16 l, q, drop-zeros (16 + 72 * n) z, k) (sym (replicate-append-replicate (492 - 72 * n) 4 0)) in
+      let k : z - (16 + 72 * n) ≡ 488 - 72 * n + 8 = omega arith in
+      let d : drop (16 + 72 * n) (putMid 0 16 l hs) ≡ replicate (488 - 72 * n) 0 ++ replicate 8 0 =
+      sym (drop-drop (72 * n) 16 (putMid 0 16 l hs)) ∙ rw (drop-at hs (drop 16 l) 16 s, drop-drop (72 * n) 16 l, q, drop-zeros (16 + 72 * n) z, k) (sym (replicate-append-replicate (488 - 72 * n) 8 0)) in
       r ∙ rw (d, take-at hs (drop 16 l) 16 s, ← count, ← p) (simp append-assoc)
 
   -- and the check into those: l, hs, b and c are what clearing, `write_header`, `put_writesets` and `write_check` leave, r is an answer
@@ -172,8 +172,8 @@ module _ (m : Message) (n : ℕ) (count : n ≡ length (m .records)) (few : n �
   unfolding checkedStep blockOf
   block-put z r l hs b c e q p u w y =
       let f = body-put z l hs b e q (ap length p ∙ length-headerBytes (headerFor m)) p u in
-      let g : length (bodyBytes m) ≡ 508 = omega (arith, ap length f, length-append (bodyBytes m) (replicate 4 0)) in
-      let x : take 508 b ≡ bodyBytes m = ap (take 508) f ∙ take-at (bodyBytes m) (replicate 4 0) 508 g in
+      let g : length (bodyBytes m) ≡ 504 = omega (arith, ap length f, length-append (bodyBytes m) (replicate 8 0)) in
+      let x : take 504 b ≡ bodyBytes m = ap (take 504) f ∙ take-at (bodyBytes m) (replicate 8 0) 504 g in
       let d : checkedStep b ≡ written 0 (bodyBytes m ++ checkBytes (bodyBytes m)) = rw (eq-eqb _ 512 w, ← check-take b (omega arith), x) in
       ap (λ (v : Written). v .bytes) (y ∙ d)
 

@@ -35,27 +35,27 @@ unfolding valid
 kind-fits m h = both _ _ h .left
 
 -- record j's ticket, read from the block
-ticket-read : (b : List ℕ) (j : ℕ) → length b ≡ 512 → j < 6 → recordOf (take 72 (drop (72 * j) (slice 16 508 b))) .ticket ≡ recordAt b j .ticket
+ticket-read : (b : List ℕ) (j : ℕ) → length b ≡ 512 → j < 6 → recordOf (take 72 (drop (72 * j) (slice 16 504 b))) .ticket ≡ recordAt b j .ticket
 unfolding recordOf recordAt
 ticket-read b j long h =
     rw (
       eq-eqb (length b) 512 long,
       lt-ltb j 6 h,
-      take-take 4 72 (drop (72 * j) (slice 16 508 b)) (omega arith),
-      part-in b 16 508 (72 * j) 4 (16 + 72 * j) (20 + 72 * j) refl (omega arith) (omega arith),
+      take-take 4 72 (drop (72 * j) (slice 16 504 b)) (omega arith),
+      part-in b 16 504 (72 * j) 4 (16 + 72 * j) (20 + 72 * j) refl (omega arith) (omega arith),
     )
 
 -- and how many entries it has
-writes-read : (b : List ℕ) (j : ℕ) → length b ≡ 512 → j < 6 → length (recordOf (take 72 (drop (72 * j) (slice 16 508 b))) .entries) ≡ recordAt b j .writes
+writes-read : (b : List ℕ) (j : ℕ) → length b ≡ 512 → j < 6 → length (recordOf (take 72 (drop (72 * j) (slice 16 504 b))) .entries) ≡ recordAt b j .writes
 unfolding recordOf recordAt
 writes-read b j long h =
     rw (
       eq-eqb (length b) 512 long,
       lt-ltb j 6 h,
       length-entriesOf,
-      getD-take 72 (drop (72 * j) (slice 16 508 b)) 4 0 (omega arith),
+      getD-take 72 (drop (72 * j) (slice 16 504 b)) 4 0 (omega arith),
       getD-drop,
-    ) (getD-slice b 0 16 508 (72 * j + 4) (20 + 72 * j) (omega arith) (omega arith))
+    ) (getD-slice b 0 16 504 (72 * j + 4) (20 + 72 * j) (omega arith) (omega arith))
 
 pub record TakenBlock (b : List ℕ) : Type 0 where
   pub replicas : 2 ≤ headerOf b .replicas
@@ -74,7 +74,7 @@ taken-block b e =
     let t = is-taken b e in
     let v = is-formed b (t .forms) .fields in
     let f = message-facts (messageOf b) v in
-    let l = slice 16 508 b in
+    let l = slice 16 504 b in
     let n = length-recordsOf (getD b 3 0) l in
     let k = kind-counted (getD b 0 0) (getD b 3 0) (rw n at (kind-fits (messageOf b) v)) in
     record {

@@ -89,12 +89,12 @@ module _ (m : Memory) (six : length (m .txns .queue) ≡ 6) where
   line = waiting (m .txns .queue)
 
   abbrev rest : List ℕ
-  rest = replicate (492 - 72 * length (map (writesetOf (m .txns)) line)) 0
+  rest = replicate (488 - 72 * length (map (writesetOf (m .txns)) line)) 0
 
-  middle : slice 16 508 (blockOf (messageFor m)) ≡ recordsBytes (map (writesetOf (m .txns)) line) ++ rest
+  middle : slice 16 504 (blockOf (messageFor m)) ≡ recordsBytes (map (writesetOf (m .txns)) line) ++ rest
   unfolding blockOf bodyBytes headerBytes bytesOf messageFor
   middle =
-      take-at (recordsBytes (map (writesetOf (m .txns)) line) ++ rest) (checkBytes (bodyBytes (messageFor m))) 492
+      take-at (recordsBytes (map (writesetOf (m .txns)) line) ++ rest) (checkBytes (bodyBytes (messageFor m))) 488
       (simp (length-append, length-writesets (m .txns) line, length-map, length-replicate) (omega (arith, length-waiting (m .txns .queue))))
 
   pub count-sent : getD (blockOf (messageFor m)) 3 0 ≡ length (waiting (m .txns .queue))
@@ -108,7 +108,7 @@ module _ (m : Memory) (six : length (m .txns .queue) ≡ 6) where
       rw (
         eq-eqb (length (blockOf (messageFor m))) 512 (length-outbox m six),
         lt-ltb j 6 (omega (arith, length-waiting (m .txns .queue))),
-        ← part-in (blockOf (messageFor m)) 16 508 (72 * j) 4 (16 + 72 * j) (20 + 72 * j) refl (omega arith) (omega (arith, length-waiting (m .txns .queue))),
+        ← part-in (blockOf (messageFor m)) 16 504 (72 * j) 4 (16 + 72 * j) (20 + 72 * j) refl (omega arith) (omega (arith, length-waiting (m .txns .queue))),
         middle,
         ticket-bytes (m .txns) line rest j h,
         waiting-at (m .txns .queue) j h,

@@ -9,8 +9,8 @@
 //! | 4–7 | slot |
 //! | 8–15 | zero |
 //! | 16 + 72·j | record j, 0 to 5 |
-//! | 448–507 | zero |
-//! | 508–511 | the check: two 16-bit numbers |
+//! | 448–503 | zero |
+//! | 504–511 | the check: two 32-bit numbers |
 //!
 //! A record: ticket (4 bytes), number of writes (1), zero (3), eight entries of 8 bytes.
 //! An entry: item (1 byte), zero (3), value (4). Unused entries and records are zero.
@@ -18,7 +18,7 @@
 /// Bytes of a block.
 pub const BLOCK: usize = 512;
 /// Bytes that the check is taken over: all before it.
-pub const CHECKED: usize = 508;
+pub const CHECKED: usize = 504;
 /// Bytes before the first record.
 pub const HEADER: usize = 16;
 /// Bytes of a record.
@@ -176,34 +176,34 @@ pub fn read(bytes: &[u8]) -> Result<Header, u8> {
     Ok(header(block))
 }
 
-/// The check: with w(i) the 16-bit word at byte 2·i, i from 0 to 253, the sum of w(i) and the sum
-/// of (254 − i)·w(i), both modulo 65,535.
-pub fn check(bytes: &[u8; CHECKED]) -> (u16, u16) {
-    // Both whole sums fit 32 bits: at most 254·65,535 and 254·255/2·65,535.
+/// The check: with w(i) the 16-bit word at byte 2·i, i from 0 to 251, the sum of w(i) and the sum
+/// of (252 − i)·w(i), both whole.
+pub fn check(bytes: &[u8; CHECKED]) -> (u32, u32) {
+    // Both fit 32 bits: at most 252·65,535 and 252·253/2·65,535.
     let mut first = 0u32;
     let mut second = 0u32;
     let (words, _) = bytes.as_chunks();
     for (i, &word) in words.iter().enumerate() {
         let word = u32::from(u16::from_le_bytes(word));
         first += word;
-        second += (254 - i as u32) * word;
+        second += (252 - i as u32) * word;
     }
-    ((first % 65_535) as u16, (second % 65_535) as u16)
+    (first, second)
 }
 
-/// Whether the last four bytes are the check of the others.
+/// Whether the last eight bytes are the check of the others.
 pub fn check_matches(block: &[u8; BLOCK]) -> bool {
     let (bytes, stored) = block.split_first_chunk().unwrap();
     let (first, second) = check(bytes);
-    stored[..2] == first.to_le_bytes() && stored[2..] == second.to_le_bytes()
+    stored[..4] == first.to_le_bytes() && stored[4..] == second.to_le_bytes()
 }
 
-/// Puts the check of the first 508 bytes behind them.
+/// Puts the check of the first 504 bytes behind them.
 pub fn put_check(block: &mut [u8; BLOCK]) {
     let (bytes, stored) = block.split_first_chunk_mut().unwrap();
     let (first, second) = check(bytes);
-    stored[..2].copy_from_slice(&first.to_le_bytes());
-    stored[2..].copy_from_slice(&second.to_le_bytes());
+    stored[..4].copy_from_slice(&first.to_le_bytes());
+    stored[4..].copy_from_slice(&second.to_le_bytes());
 }
 
 /// Whether the block is well formed. The check is not looked at.

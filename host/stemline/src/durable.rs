@@ -65,6 +65,10 @@ impl Durable {
     /// A block says the size of its group and nothing else of it: the journal of another replica, or of
     /// a group with other values to start with, is taken up as if it were this one's. The host sees to
     /// that, for instance by the file's name.
+    ///
+    /// A file from before the check of 32-bit sums has no good block. With more than `own + 1` blocks it
+    /// is such an error, with fewer it is cut off as torn: all replicas of a group change together, each
+    /// with a new file.
     pub fn open(
         path: impl AsRef<Path>,
         n: u32,

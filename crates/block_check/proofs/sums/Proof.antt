@@ -3,8 +3,8 @@ use Prim.Native.Nat.{_+_, _*_, _-_, _%_, _≤_}
 use mathlib.Core.Path.{_≡_, refl}
 use native.Mathlib.Omega.{arith}
 use borrow.Author.Needs.{needs}
-use Rattle.block.specs.Check.{sumTo, weightedTo}
-use Rattle.block.proofs.CheckLaws.{sum-next, weighted-turn, weighted-last, sums-end}
+use Rattle.block.specs.Check.{sumTo, weightedTo, firstCheck, secondCheck}
+use Rattle.block.proofs.CheckLaws.{sum-next, weighted-turn, weighted-last, zeros-second}
 use Rattle.block_check.proofs.sums.Statement.{statement}
 use Rattle.block_check.proofs.sums.Tie as tie
 
@@ -14,7 +14,7 @@ Inv-loop bytes a₀ b₀ c₀ d₀ e₀ f₀ g₀ h₀ i₀ a b c d e f g h i =
     × (a ≤ 16384 * i) × (b ≤ 16384 * i) × (c ≤ 16384 * i) × (d ≤ 16384 * i)
     × (e ≤ 1032192 * i) × (f ≤ 1032192 * i) × (g ≤ 1032192 * i) × (h ≤ 1032192 * i)
     × (a + b + c + d ≡ sumTo bytes i)
-    × (4 * (e + f + g + h) + (254 - i) * (a + b + c + d) ≡ weightedTo bytes i + (b + 2 * c + 3 * d))
+    × (4 * (e + f + g + h) + (252 - i) * (a + b + c + d) ≡ weightedTo bytes i + (b + 2 * c + 3 * d))
 
 abbrev μ-loop : tie.MeasureT-loop
 μ-loop bytes a₀ b₀ c₀ d₀ e₀ f₀ g₀ h₀ i₀ a b c d e f g h i = 252 - i
@@ -110,22 +110,17 @@ loop-again c =
       turn,
     )
 
-word-requires-5 : tie.Need-word-requires-5 Inv-loop μ-loop
-word-requires-5 c κs = search needs
+-- the first sum is whole
+first : (l : tie.At-loop Inv-loop μ-loop) → l .loop .i ≡ 252
+    → l .loop .a + l .loop .b + l .loop .c + l .loop .d ≡ firstCheck (l .before .before .args .bytes .now)
+unfolding firstCheck
+first l e = rw e at (l .loop .inv .10)
 
-cast-y : tie.Need-cast-y Inv-loop μ-loop
-cast-y c = search needs
-
-word-requires-6 : tie.Need-word-requires-6 Inv-loop μ-loop
-word-requires-6 c κs = search needs
-
-cast-z : tie.Need-cast-z Inv-loop μ-loop
-cast-z c = search needs
-
--- the second sum without its last two words
+-- four times the sums of sums have what b, c and d have too much
 last : (l : tie.At-loop Inv-loop μ-loop) → l .loop .i ≡ 252
-    → 4 * (l .loop .e + l .loop .f + l .loop .g + l .loop .h) + 2 * l .loop .a + l .loop .b ≡ weightedTo (l .before .before .args .bytes .now) 252 + l .loop .d
-last l e = weighted-last (l .before .before .args .bytes .now) _ _ _ _ _ _ _ _ (rw e at (l .loop .inv .11))
+    → 4 * (l .loop .e + l .loop .f + l .loop .g + l .loop .h)
+    ≡ secondCheck (l .before .before .args .bytes .now) + (l .loop .b + 2 * l .loop .c + 3 * l .loop .d)
+last l e = weighted-last (l .before .before .args .bytes .now) (l .loop .a) _ _ _ _ _ _ _ (rw e at (l .loop .inv .11))
 
 add-first : tie.Need-add-first Inv-loop μ-loop
 add-first c = search needs
@@ -136,11 +131,11 @@ add-first-2 c = search needs
 add-first-3 : tie.Need-add-first-3 Inv-loop μ-loop
 add-first-3 c = search needs
 
-add-first-4 : tie.Need-add-first-4 Inv-loop μ-loop
-add-first-4 c = search needs
-
-add-first-5 : tie.Need-add-first-5 Inv-loop μ-loop
-add-first-5 c = search needs
+returns : tie.Need-returns Inv-loop μ-loop
+returns c =
+    let l = c .before .before in
+    let e = first l (omega arith) in
+    (e, zeros-second (l .before .before .args .bytes .now) (omega arith))
 
 add-second : tie.Need-add-second Inv-loop μ-loop
 add-second c = search needs
@@ -160,35 +155,20 @@ mul-second-2 c = search needs
 add-second-4 : tie.Need-add-second-4 Inv-loop μ-loop
 add-second-4 c = search needs
 
+mul-second-3 : tie.Need-mul-second-3 Inv-loop μ-loop
+mul-second-3 c = search needs
+
 add-second-5 : tie.Need-add-second-5 Inv-loop μ-loop
 add-second-5 c = search needs
 
 sub-second : tie.Need-sub-second Inv-loop μ-loop
-sub-second c = omega (arith, last (c .before .before .before) (omega arith))
+sub-second c = omega (arith, last (c .before .before) (omega arith))
 
-mul-second-3 : tie.Need-mul-second-3 Inv-loop μ-loop
-mul-second-3 c = search needs
-
-add-second-6 : tie.Need-add-second-6 Inv-loop μ-loop
-add-second-6 c = search needs
-
-add-second-7 : tie.Need-add-second-7 Inv-loop μ-loop
-add-second-7 c = search needs
-
-reduced-requires : tie.Need-reduced-requires Inv-loop μ-loop
-reduced-requires c κs = search needs
-
-reduced-requires-2 : tie.Need-reduced-requires-2 Inv-loop μ-loop
-reduced-requires-2 c κs = search needs
-
-returns : tie.Need-returns Inv-loop μ-loop
-returns c =
-    let n = c .before .before in
-    let l = n .before .before .before in
+returns-2 : tie.Need-returns-2 Inv-loop μ-loop
+returns-2 c =
+    let l = c .before .before in
     let e : l .loop .i ≡ 252 = omega arith in
-    rw (c .before .reduced .ensures, c .reduced2 .ensures)
-    (sums-end (l .before .before .args .bytes .now) _ _ (rw e at (l .loop .inv .10)) (omega (arith, last l e))
-    (n .before .word5 .result) (n .word6 .result) (n .before .word5 .ensures) (n .word6 .ensures))
+    (first l e, omega (arith, last l e))
 
 pub sums-spec : {M : Type 1} → statement M
 sums-spec =
@@ -219,26 +199,17 @@ sums-spec =
     add-i
     loop-less
     loop-again
-    word-requires-5
-    cast-y
-    word-requires-6
-    cast-z
     add-first
     add-first-2
     add-first-3
-    add-first-4
-    add-first-5
+    returns
     add-second
     add-second-2
     add-second-3
     mul-second
     mul-second-2
     add-second-4
+    mul-second-3
     add-second-5
     sub-second
-    mul-second-3
-    add-second-6
-    add-second-7
-    reduced-requires
-    reduced-requires-2
-    returns)
+    returns-2)

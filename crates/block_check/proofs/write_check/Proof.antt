@@ -1,4 +1,4 @@
--- `write_check` meets its contract: four stores behind the 508 bytes. Assumes nothing.
+-- `write_check` meets its contract: eight stores behind the 504 bytes. Assumes nothing.
 use native.Mathlib.Omega.{arith}
 use borrow.Author.Tests.{eq-eqb, ne-eqb}
 use borrow.Author.Needs.{needs}
@@ -39,13 +39,37 @@ cast-block-4 c = search needs
 slice-write-block-4 : tie.Need-slice-write-block-4
 slice-write-block-4 c = simp length-set (omega arith)
 
+cast-block-5 : tie.Need-cast-block-5
+cast-block-5 c = search needs
+
+slice-write-block-5 : tie.Need-slice-write-block-5
+slice-write-block-5 c = simp length-set (omega arith)
+
+cast-block-6 : tie.Need-cast-block-6
+cast-block-6 c = search needs
+
+slice-write-block-6 : tie.Need-slice-write-block-6
+slice-write-block-6 c = simp length-set (omega arith)
+
+cast-block-7 : tie.Need-cast-block-7
+cast-block-7 c = search needs
+
+slice-write-block-7 : tie.Need-slice-write-block-7
+slice-write-block-7 c = simp length-set (omega arith)
+
+cast-block-8 : tie.Need-cast-block-8
+cast-block-8 c = search needs
+
+slice-write-block-8 : tie.Need-slice-write-block-8
+slice-write-block-8 c = simp length-set (omega arith)
+
 same-length : tie.Need-same-length
-same-length c = search needs
+same-length c = simp length-set
 
 returns-2 : tie.Need-returns-2
 unfolding checkedStep
 returns-2 c =
-    let s = c .before .before .before .before in
+    let s = c .before .before .before .before .before .before .before .before in
     let b = s .before .before in
     let h = b .if1 .left in
     rw (eq-eqb _ 512 h, ← check-put (b .before .before .args .block .now) _ _ h (s .sums .ensures .0) (s .sums .ensures .1))
@@ -64,5 +88,13 @@ write-check-spec =
     slice-write-block-3
     cast-block-4
     slice-write-block-4
+    cast-block-5
+    slice-write-block-5
+    cast-block-6
+    slice-write-block-6
+    cast-block-7
+    slice-write-block-7
+    cast-block-8
+    slice-write-block-8
     same-length
     returns-2)

@@ -30,7 +30,7 @@ shared-slice-read-count c = search needs
 -- past length and header, the rest decides
 past : (c : tie.After-shared-slice-known3)
     → let b = c .before .before .before .before .before .before .args .block .now in
-    wellFormed b ≡ restFits (getD b 0 0) (getD b 3 0) (lent 16 508 b)
+    wellFormed b ≡ restFits (getD b 0 0) (getD b 3 0) (lent 16 504 b)
 past c =
     let h = c .before .before in
     let e = h .before .before in

@@ -1,6 +1,8 @@
 //! The block by hand-worked bytes and by random messages.
 
 use super::*;
+use crate::drive::start_values;
+use crate::replica::Replica;
 use crate::samples::{self, Random};
 
 fn message(slot: u32, records: Vec<Record>) -> Message {
@@ -28,7 +30,7 @@ fn marked_next() {
     let message = message(0, vec![]);
     let mut expected = [0u8; BLOCK];
     expected[..8].copy_from_slice(&[1, 0, 2, 0, 0, 0, 0, 0]);
-    expected[508..].copy_from_slice(&[0x03, 0x00, 0xF8, 0x02]);
+    expected[504..].copy_from_slice(&[0x03, 0, 0, 0, 0xF2, 0x02, 0, 0]);
     assert_eq!(encode(&message), expected);
     assert_eq!(decode(&expected), Ok(message));
 }
@@ -40,7 +42,7 @@ fn marked_record() {
     expected[..8].copy_from_slice(&[2, 1, 2, 1, 1, 0, 0, 0]);
     expected[16..24].copy_from_slice(&[1, 0, 0, 0, 1, 0, 0, 0]);
     expected[24..32].copy_from_slice(&[5, 0, 0, 0, 40, 0, 0, 0]);
-    expected[508..].copy_from_slice(&[0x34, 0x02, 0x18, 0x2C]);
+    expected[504..].copy_from_slice(&[0x34, 0x02, 0, 0, 0xAE, 0x27, 0x02, 0]);
     assert_eq!(encode(&message), expected);
     assert_eq!(decode(&expected), Ok(message));
 }
@@ -62,7 +64,7 @@ fn every_byte_has_its_place() {
             assert_eq!(part[8 + 8 * e..][..8], expected);
         }
     }
-    assert_eq!(block[448..508], [0; 60]);
+    assert_eq!(block[448..504], [0; 56]);
 }
 
 #[test]
@@ -139,6 +141,128 @@ fn one_bit_is_refused() {
             block[bit / 8] ^= 1 << (bit % 8);
             assert_eq!(read(&block), Err(WRONG_CHECK), "bit {bit} of {message:?}");
         }
+    }
+}
+
+/// A word of a block.
+fn word_at(block: &[u8; BLOCK], i: usize) -> u16 {
+    u16::from_le_bytes([block[2 * i], block[2 * i + 1]])
+}
+
+fn set_word(block: &mut [u8; BLOCK], i: usize, word: u16) {
+    block[2 * i..][..2].copy_from_slice(&word.to_le_bytes());
+}
+
+/// Any change of one or two words, those of the check too: to any number, to the limits, and such
+/// that the two keep their sum.
+#[test]
+fn two_words_are_refused() {
+    let mut random = Random::new(4);
+    for round in 0..2_000 {
+        let good = encode(&samples::message(&mut random));
+        for _ in 0..200 {
+            let mut block = good;
+            let any = random.below(256);
+            let check = 252 + random.below(4);
+            let (i, j) = (random.below(256), random.pick(&[any, any, check]));
+            let by = random.bits() as u16;
+            let by = random.pick(&[1, 256, 0x8000, 0xFFFF, by]);
+            let (one, other) = (word_at(&good, i), word_at(&good, j));
+            let one = random.pick(&[0, 0xFFFF, one.wrapping_add(by)]);
+            let other = random.pick(&[other, 0, 0xFFFF, other.wrapping_sub(by)]);
+            set_word(&mut block, i, one);
+            set_word(&mut block, j, other);
+            if block != good {
+                assert_eq!(read(&block), Err(WRONG_CHECK), "round {round}: {i}, {j}");
+            }
+        }
+    }
+}
+
+/// One data word, and the word of the check that would hold its sum: the other sum does not fit.
+#[test]
+fn one_word_and_its_sum_are_refused() {
+    let mut random = Random::new(5);
+    for _ in 0..200 {
+        let good = encode(&samples::message(&mut random));
+        for i in 0..CHECKED / 2 {
+            let mut block = good;
+            let word = random.bits() as u16;
+            set_word(&mut block, i, word);
+            if block == good {
+                continue;
+            }
+            let mut mended = block;
+            put_check(&mut mended);
+            assert_ne!(read(&mended), Err(WRONG_CHECK));
+            for held in [CHECKED..CHECKED + 4, CHECKED + 4..BLOCK] {
+                let mut block = block;
+                block[held.clone()].copy_from_slice(&mended[held]);
+                assert_eq!(read(&block), Err(WRONG_CHECK), "word {i}");
+            }
+        }
+    }
+}
+
+/// The check of document 01, which document 02's Req 04 replaced: two sums modulo 65,535 over the
+/// first 508 bytes, in 16 bits each.
+fn check_before(block: &[u8; BLOCK]) -> [u8; 4] {
+    let words = || (0..254).map(|i| u32::from(word_at(block, i)));
+    let first = words().sum::<u32>() % 65_535;
+    let weighed = words().zip(1..).map(|(word, i)| (255 - i) * word);
+    let second = weighed.sum::<u32>() % 65_535;
+    let [low, high] = (first as u16).to_le_bytes();
+    let [lower, upper] = (second as u16).to_le_bytes();
+    [low, high, lower, upper]
+}
+
+/// The block of a message as it was before.
+fn encode_before(message: &Message) -> [u8; BLOCK] {
+    let mut block = encode(message);
+    block[CHECKED..].fill(0);
+    let stored = check_before(&block);
+    block[508..].copy_from_slice(&stored);
+    block
+}
+
+/// The fault of Req 04: zero words that arrive as words of all ones, any number of them. Whatever the
+/// block, the check of before took it.
+#[test]
+fn zeros_as_all_ones() {
+    let mut random = Random::new(6);
+    for round in 0..2_000 {
+        let message = samples::message(&mut random);
+        let (good, before) = (encode(&message), encode_before(&message));
+        let zeros: Vec<usize> = (0..252).filter(|&i| word_at(&good, i) == 0).collect();
+        let some = 1 + random.below(zeros.len());
+        for count in [1, 2, some, zeros.len()] {
+            let (mut now, mut then) = (good, before);
+            for _ in 0..count {
+                let word = zeros[random.below(zeros.len())];
+                set_word(&mut now, word, 0xFFFF);
+                set_word(&mut then, word, 0xFFFF);
+            }
+            assert_eq!(read(&now), Err(WRONG_CHECK), "round {round}, {count} words");
+            assert_eq!(
+                check_before(&then),
+                before[508..],
+                "round {round}, {count} words"
+            );
+        }
+    }
+}
+
+/// Journals start afresh: a restart reads one of before as empty.
+#[test]
+fn journals_of_before() {
+    let blocks = [message(0, vec![]), message(1, vec![record(1, &[(5, 40)])])];
+    let now = blocks.each_ref().map(encode).concat();
+    let before = blocks.each_ref().map(encode_before).concat();
+    assert_eq!(read(&before[..BLOCK]), Err(WRONG_CHECK));
+    for (journal, count) in [(now, 2), (before, 0)] {
+        let (replica, restarted) = Replica::restart(2, 0, &start_values(), &journal).unwrap();
+        assert_eq!((replica.report().turn, restarted.count), (count, count));
+        assert_eq!(restarted.gave_back(), count > 0);
     }
 }
 

@@ -29,8 +29,8 @@ fn marked_blocks() {
     let mut list = List::default();
     cases::all(&mut list);
     let sent = answers(&list, "S ");
-    assert!(sent[0].ends_with("0300f802"), "{}", sent[0]);
-    assert!(sent[1].ends_with("3402182c"), "{}", sent[1]);
+    assert!(sent[0].ends_with("03000000f2020000"), "{}", sent[0]);
+    assert!(sent[1].ends_with("34020000ae270200"), "{}", sent[1]);
 }
 
 /// What each read gives: of h and n in the first family, of n in the others.

@@ -10,7 +10,7 @@ use crate::common::{ask, block_of, make, pass_to, start_values, take};
 fn next_block() {
     let block = make(2, 0).send().unwrap();
     assert_eq!(block[..8], [1, 0, 2, 0, 0, 0, 0, 0]);
-    assert_eq!(block[508..], [0x03, 0x00, 0xF8, 0x02]);
+    assert_eq!(block[504..], [0x03, 0, 0, 0, 0xF2, 0x02, 0, 0]);
 }
 
 #[test]
@@ -20,7 +20,7 @@ fn block_of_one_record() {
     assert_eq!(ask(&mut replica, &[(5, 40)]), 1);
     let block = replica.send().unwrap();
     assert_eq!(block[..8], [2, 1, 2, 1, 1, 0, 0, 0]);
-    assert_eq!(block[508..], [0x34, 0x02, 0x18, 0x2C]);
+    assert_eq!(block[504..], [0x34, 0x02, 0, 0, 0xAE, 0x27, 0x02, 0]);
     assert_eq!(block, block_of(2, 1, &[(1, &[(5, 40)])]));
 }
 

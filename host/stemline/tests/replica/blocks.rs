@@ -98,7 +98,7 @@ fn marked_blocks() {
     let next = send(&mut pair[0]);
     let mut due = [0; BLOCK];
     due[..4].copy_from_slice(&[NEXT, 0, 2, 0]);
-    due[508..].copy_from_slice(&[0x03, 0x00, 0xF8, 0x02]);
+    due[504..].copy_from_slice(&[0x03, 0, 0, 0, 0xF2, 0x02, 0, 0]);
     assert_eq!(next, due);
     for both in &mut pair {
         assert_eq!(deliver(both, &next), 0);
@@ -109,7 +109,7 @@ fn marked_blocks() {
     let mut due = [0; BLOCK];
     due[..5].copy_from_slice(&[TO_COMMIT, 1, 2, 1, 1]);
     due[16..29].copy_from_slice(&[1, 0, 0, 0, 1, 0, 0, 0, 5, 0, 0, 0, 40]);
-    due[508..].copy_from_slice(&[0x34, 0x02, 0x18, 0x2C]);
+    due[504..].copy_from_slice(&[0x34, 0x02, 0, 0, 0xAE, 0x27, 0x02, 0]);
     assert_eq!(block, due);
 }
 
@@ -199,40 +199,70 @@ fn every_bit() {
 #[test]
 fn every_weight() {
     let with_check = |mut block: [u8; BLOCK], first: u32, second: u32| {
-        block[508..510].copy_from_slice(&(first as u16).to_le_bytes());
-        block[510..].copy_from_slice(&(second as u16).to_le_bytes());
+        block[504..508].copy_from_slice(&first.to_le_bytes());
+        block[508..].copy_from_slice(&second.to_le_bytes());
         decide(&block)
     };
-    for i in 0..254 {
+    for i in 0..252 {
         for bit in 0..16 {
             let mut block = [0; BLOCK];
             block[2 * i..][..2].copy_from_slice(&(1u16 << bit).to_le_bytes());
             let first = 1 << bit;
-            let second = ((254 - i as u32) << bit) % 65_535;
+            let second = (252 - i as u32) << bit;
             assert_eq!(with_check(block, first, second), FORM, "{i}, {bit}");
             assert_eq!(with_check(block, first, second + 1), CHECK, "{i}, {bit}");
             assert_eq!(with_check(block, first + 1, second), CHECK, "{i}, {bit}");
         }
     }
-    // The largest sums: both are 0. A number of 0 is stored as 0 and not as 65,535.
-    for block in [[0; BLOCK], [255; BLOCK]] {
-        assert_eq!(with_check(block, 0, 0), FORM);
-        assert_eq!(with_check(block, 65_535, 0), CHECK);
-        assert_eq!(with_check(block, 0, 65_535), CHECK);
+    // The smallest sums and the largest, whole: no other number of the same remainder.
+    for (byte, first, second) in [(0, 0, 0), (255, 16_514_820, 2_089_124_730)] {
+        let block = [byte; BLOCK];
+        assert_eq!(with_check(block, first, second), FORM);
+        for modulus in [65_535, 65_536] {
+            assert_eq!(with_check(block, first + modulus, second), CHECK);
+            assert_eq!(with_check(block, first, second + modulus), CHECK);
+        }
+    }
+    assert_eq!(with_check([255; BLOCK], 0, 0), CHECK);
+}
+
+/// Any two words, those of the check too, at a replica that takes the block as it was.
+#[test]
+fn every_two_words() {
+    let mut random = Random::new(2);
+    for round in 0..60 {
+        let block = block::encode(&samples::message(&mut random));
+        let mut both = taker(&block);
+        for i in 0..BLOCK / 2 {
+            let any = random.below(BLOCK / 2);
+            let check = 252 + random.below(4);
+            let mut changed = block;
+            // Down in one by as much as up in the other, to the limits, or to anything.
+            let by = random.bits() as u16;
+            let by = random.pick(&[1, 256, 0xFFFF, by]);
+            for (word, by) in [(i, by), (random.pick(&[any, check]), by.wrapping_neg())] {
+                let at = &mut changed[2 * word..][..2];
+                let now = u16::from_le_bytes([at[0], at[1]]).wrapping_add(by);
+                let any = random.bits() as u16;
+                at.copy_from_slice(&random.pick(&[now, now, 0, 0xFFFF, any]).to_le_bytes());
+            }
+            if changed != block {
+                let number = deliver(&mut both, &changed);
+                assert_eq!(number, CHECK, "round {round}, word {i}");
+            }
+        }
+        assert_eq!(deliver(&mut both, &block), 0);
     }
 }
 
-/// Words 0 and 65,535 are one to the check. A value in which one became the other is a good block's;
-/// in unused bytes the form refuses it.
+/// A word of zeros that arrives as all ones, in a value or where nothing is used.
 #[test]
 fn zero_word_as_all_ones() {
     let block = samples::block_of(2, 0, &[(1, &[(5, 7), (6, 8)])]);
-    let mut changed = block;
-    changed[30..32].fill(255);
-    assert_eq!(decide(&changed), 0);
-    for word in [4, 7, 11, 13, 20, 51, 52, 200, 224, 253] {
+    for word in [15, 4, 7, 11, 13, 20, 51, 52, 200, 224, 251, 253] {
         let mut changed = block;
+        assert_eq!(changed[2 * word..][..2], [0, 0]);
         changed[2 * word..][..2].fill(255);
-        assert_eq!(decide(&changed), FORM, "word {word}");
+        assert_eq!(decide(&changed), CHECK, "word {word}");
     }
 }

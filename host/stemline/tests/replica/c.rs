@@ -160,7 +160,7 @@ fn sanitizers_stop_a_program() {
                 stemline_replica_make(&r, 2, 0, start);
                 stemline_replica_send(&r, block);
                 memcpy(copy, block, what == 'b' ? (size_t)at : 0);
-                printf("%d %d\n", copy[STEMLINE_BLOCK - 1], (int)r.values[what == 'i' ? at : 0]);
+                printf("%d %d\n", copy[STEMLINE_BLOCK - 3], (int)r.values[what == 'i' ? at : 0]);
             }
             free(block);
             return 0;
