@@ -26,14 +26,14 @@ use Rattle.engine.specs.Classes.{hasClass, classFrom, classToCome, mustWait, ar
 use Rattle.engine.specs.Client.{beginRefusal, beginAt, beginRow, writeRefusal, rewriteAt, insertWrite, staleAt, writeRow, askRefusal, readOnlyAt, queueAt, askRow, reportOf, reportStep}
 use Rattle.engine.specs.Moves.{waiting, writesetOf, messageFor, sendRefusal, sendNow, sendStep, sameBytes, deliverRefusal, deliverNow, deliverStep, entriesFor, applied, stamped, shares, afterAborts, insertRising, hitTickets, without, workRefusal, passNext, commitWriteset, workStep}
 use Rattle.engine.specs.Step.{Call, step}
-use Rattle.engine.specs.Step.Call.{report, send, deliver}
+use Rattle.engine.specs.Step.Call.{write, report, send, deliver}
 use Rattle.engine.specs.Restart.{isGood, blocksFrom, firstBlocks, writesetsFrom, commitAll, commitBlocks, highestTicket, highestOwn, ownWritesets, lastOwn, restartedMemory, restartRefusal, restartStep}
 use Rattle.engine.proofs.Tests.{clash}
 use Rattle.protocol.specs.Lists.{Mem, any}
 use Rattle.protocol.specs.Observer.{sequence, applyAll}
 use Rattle.protocol.proofs.ListLaws.{any-true, any-false}
 use Rattle.agreement.specs.Group.{GroupCall, call, restart, argumentsOf, messageIn, heard, Disk, journalAfter, Group, CallAt, fresh, run, did, next, Comes, Calls, Lent, Premise}
-use Rattle.agreement_runs.specs.Worked.{zeros, story, forgery, outages, after, HeldBy, held, holding, storyValues, outageValues, WorkedRuns}
+use Rattle.agreement_runs.specs.Worked.{zeros, story, forgery, outages, after, HeldBy, held, holding, storyValues, outageValues, WorkedRuns, halfApplied, classes, classesValues}
 use Rattle.agreement.proofs.Theorem.{agreement}
 
 -- ---- the premise as a test
@@ -164,6 +164,11 @@ outages-computed : (allowed 3 zeros (fresh 3 zeros) outages ends ≡ true) × (h
 unfolding bytesOf numberFrom valueBytes valueOf word sumTo weightedTo firstCheck secondCheck checkBytes checkMatches ownerOf within kindFits entriesFit recordFits recordsFit ticketAbsent ticketsDiffer valid signed32 entryBytes entriesBytes recordBytes recordsBytes headerFor headerBytes bodyBytes blockOf entryOf entriesOf recordOf recordsOf messageOf allZero entriesPadded recordPadded recordsPadded padded wellFormed firstOf headerOf recordAt entryAt entriesFrom bump rowFrom rowOf freeRow indexFrom has holderFrom countBelow placeStart madeMemory beginRefusal beginAt beginRow writeRefusal rewriteAt insertWrite staleAt writeRow hasClass classFrom classToCome mustWait areClasses loadRefusal loadStep askRefusal readOnlyAt queueAt askRow reportOf waiting writesetOf messageFor sendRefusal sendNow sendStep sameBytes deliverRefusal deliverNow deliverStep entriesFor applied stamped shares afterAborts insertRising hitTickets without workRefusal passNext commitWriteset workStep step run any allowed isGood blocksFrom firstBlocks writesetsFrom commitAll commitBlocks highestTicket highestOwn ownWritesets lastOwn restartedMemory restartRefusal restartStep placesFit partsFit openCount messageIn blockRefusal heard reportStep
 outages-computed = (refl, refl, refl, refl)
 
+classes-computed : (allowed 3 zeros (fresh 3 zeros) classes [] ≡ true) × (step (after halfApplied .memories 1) (write 1 5 (pos 84)) .answer ≡ wrote)
+    × (step (after halfApplied .memories 2) (write 1 5 (pos 86)) .answer ≡ refused 7) × (held classes 0 ≡ holding classesValues 3) × (held classes 1 ≡ holding classesValues 3) × (held classes 2 ≡ holding classesValues 3)
+unfolding bytesOf numberFrom valueBytes valueOf word sumTo weightedTo firstCheck secondCheck checkBytes checkMatches ownerOf within kindFits entriesFit recordFits recordsFit ticketAbsent ticketsDiffer valid signed32 entryBytes entriesBytes recordBytes recordsBytes headerFor headerBytes bodyBytes blockOf entryOf entriesOf recordOf recordsOf messageOf allZero entriesPadded recordPadded recordsPadded padded wellFormed firstOf headerOf recordAt entryAt entriesFrom bump rowFrom rowOf freeRow indexFrom has holderFrom countBelow placeStart madeMemory beginRefusal beginAt beginRow writeRefusal rewriteAt insertWrite staleAt writeRow hasClass classFrom classToCome mustWait areClasses loadRefusal loadStep askRefusal readOnlyAt queueAt askRow reportOf waiting writesetOf messageFor sendRefusal sendNow sendStep sameBytes deliverRefusal deliverNow deliverStep entriesFor applied stamped shares afterAborts insertRising hitTickets without workRefusal passNext commitWriteset workStep step run any allowed
+classes-computed = (refl, refl, refl, refl, refl, refl)
+
 story-calls : Calls 3 story
 unfolding any signed32
 story-calls = calls-met 3 story refl
@@ -176,9 +181,14 @@ outage-calls : Calls 3 outages
 unfolding any signed32
 outage-calls = calls-met 3 outages refl
 
+classes-calls : Calls 3 classes
+unfolding any signed32
+classes-calls = calls-met 3 classes refl
+
 pub worked-runs : WorkedRuns
 worked-runs = record {
   story-runs = let c = story-computed in record { calls = story-calls; premise = premise-met 3 zeros story [] (c .0); replica-0 = c .1; replica-1 = c .2; replica-2 = c .3 };
   forgery-runs = let c = forgery-computed in record { calls = forgery-calls; premise = λ p. forged-apart p forgery-calls (c .0) (c .1); replica-0 = c .0; replica-1 = c .1 };
   outage-runs = let c = outages-computed in record { calls = outage-calls; premise = premise-met 3 zeros outages ends (c .0); replica-0 = c .1; replica-1 = c .2; replica-2 = c .3 };
+  classes-runs = let c = classes-computed in record { calls = classes-calls; premise = premise-met 3 zeros classes [] (c .0); free = c .1; waits = c .2; replica-0 = c .3; replica-1 = c .4; replica-2 = c .5 };
 }

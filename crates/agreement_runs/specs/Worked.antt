@@ -1,13 +1,14 @@
 -- Runs of a group of three: one that meets the premise, so that the theorem speaks of something; one with a forged block, so that the premise is seen to be
--- needed; and one with power cuts and restarts.
+-- needed; one with power cuts and restarts; and one with conflict classes.
 use Prim.Native.Nat.{ℕ}
 use mathlib.Core.Path.{_≡_}
 use mathlib.Core.List.{List, [], _∷_, _++_}
 use lib.IntN.{ℤ, pos}
 use lib.ListN.{replicate, set, take}
 use Rattle.block.specs.Bytes.{blockOf}
+use Rattle.engine.specs.Calls.Answer.{refused, wrote}
 use Rattle.engine.specs.Client.{reportOf}
-use Rattle.engine.specs.Step.{Call}
+use Rattle.engine.specs.Step.{Call, step}
 use Rattle.engine.specs.Step.Call.{begin, write, ask, send, deliver, work, load}
 use Rattle.agreement.specs.Group.{Group, call, restart, CallAt, fresh, run, Calls, Premise}
 
@@ -32,10 +33,10 @@ sending k = at k (send (replicate 512 0))
 abbrev pub taking : ℕ → List ℕ → List CallAt
 taking k block = at k (deliver block) ∷ at k work ∷ []
 
--- two stems on different letters, items 10 and 20, with one table of classes at replica 0, another at replica 1 and none at replica 2, which gets slot 1's block before slot 0's
+-- two stems on different letters, items 10 and 20: replica 2 gets slot 1's block before slot 0's
 abbrev pub differentItems : List CallAt
 differentItems =
-    at 0 (load (replicate 128 1)) ∷ at 1 (load (set (replicate 128 8) 10 2)) ∷ asking 0 1 10 (pos 80) ++ asking 1 1 20 (pos 70)
+    asking 0 1 10 (pos 80) ++ asking 1 1 20 (pos 70)
     ++ (sending 0 ∷ taking 0 (blockCommitting 0 0 1 10 (pos 80)))
     ++ taking 1 (blockCommitting 0 0 1 10 (pos 80))
     ++ (sending 1 ∷ taking 1 (blockCommitting 1 1 1 20 (pos 70)))
@@ -103,6 +104,34 @@ outages =
     ++ taking 2 second
     ++ (sending 2 ∷ taking 2 third)
 
+-- ---- and conflict classes
+
+-- slot 0: ticket 1 sets item 10, ticket 2 item 20
+abbrev pub twoWritesets : List ℕ
+twoWritesets = blockOf (record {
+  kind = 2;
+  sender = 0;
+  replicas = 3;
+  slot = 0;
+  records = record { ticket = 1; entries = record { item = 10; value = pos 80 } ∷ [] } ∷ record { ticket = 2; entries = record { item = 20; value = pos 70 } ∷ [] } ∷ [];
+})
+
+-- replica 1 has the n, item 5, in a class of its own, replica 2 has loaded no table; at both the first of the two writesets is applied
+abbrev pub halfApplied : List CallAt
+halfApplied =
+    at 1 (load (set (replicate 128 1) 5 2)) ∷ asking 0 1 10 (pos 80) ++ asking 0 2 20 (pos 70)
+    ++ (sending 0 ∷ taking 0 twoWritesets)
+    ++ (at 0 work ∷ at 1 begin ∷ at 2 begin ∷ taking 1 twoWritesets)
+    ++ taking 2 twoWritesets
+
+-- the n is set at both; the block is applied, and what replica 1 wrote is sent
+abbrev pub classes : List CallAt
+classes =
+    halfApplied
+    ++ (at 1 (write 1 5 (pos 84)) ∷ at 2 (write 1 5 (pos 86)) ∷ at 1 work ∷ at 2 work ∷ at 1 (ask 1) ∷ sending 1 ∷ taking 1 (blockCommitting 1 1 1 5 (pos 84)))
+    ++ taking 0 (blockCommitting 1 1 1 5 (pos 84))
+    ++ taking 2 (blockCommitting 1 1 1 5 (pos 84))
+
 -- ---- what the runs leave
 
 abbrev pub after : List CallAt → Group
@@ -121,6 +150,9 @@ holding values commits = record { values = values; commits = commits }
 
 abbrev pub storyValues : List ℤ
 storyValues = set (set (set zeros 10 (pos 80)) 20 (pos 70)) 5 (pos 84)
+
+abbrev pub classesValues : List ℤ
+classesValues = set (set (set zeros 10 (pos 80)) 20 (pos 70)) 5 (pos 84)
 
 abbrev pub outageValues : List ℤ
 outageValues = set (set zeros 10 (pos 80)) 20 (pos 71)
@@ -148,7 +180,18 @@ pub record OutageRun : Type 0 where
   pub replica-1 : held outages 1 ≡ holding outageValues 2
   pub replica-2 : held outages 2 ≡ holding outageValues 2
 
+-- with other tables at other replicas a write is taken here and waits there; the premise is met, and all three replicas commit the three writesets
+pub record ClassesRun : Type 0 where
+  pub calls : Calls 3 classes
+  pub premise : Premise 3 zeros classes
+  pub free : step (after halfApplied .memories 1) (write 1 5 (pos 84)) .answer ≡ wrote
+  pub waits : step (after halfApplied .memories 2) (write 1 5 (pos 86)) .answer ≡ refused 7
+  pub replica-0 : held classes 0 ≡ holding classesValues 3
+  pub replica-1 : held classes 1 ≡ holding classesValues 3
+  pub replica-2 : held classes 2 ≡ holding classesValues 3
+
 pub record WorkedRuns : Type 0 where
   pub story-runs : WorkedRun
   pub forgery-runs : ForgedRun
   pub outage-runs : OutageRun
+  pub classes-runs : ClassesRun

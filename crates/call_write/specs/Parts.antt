@@ -29,7 +29,7 @@ insertIn table items writes r item value =
     (insertAt (8 * r + p) (n - p) item items)
     (insertAt (8 * r + p) (n - p) value writes)
 
--- the write of an active transaction, of row r, while nothing is applied
+-- the write of an active transaction, of row r, that need not wait
 unfoldable pub writeActive : Memory → ℕ → ℕ → ℤ → Outcome
 writeActive m r item value =
     cond (isOwn m r item) (rewriteAt m r (ownIndex m r item) value)

@@ -4,7 +4,7 @@ use mathlib.Core.Path.{_≡_}
 use mathlib.Core.Bool.{cond, _||_}
 use mathlib.Core.List.{List, [], _∷_}
 use lib.Dec.{eqb}
-use lib.IntN.{ℤ}
+use lib.IntN.{ℤ, pos}
 use lib.ListN.{length, take, drop, set, replicate}
 use lib.Seq.{paste}
 use Rattle.memory.specs.declared.Counts.{Counts}
@@ -14,7 +14,7 @@ use Rattle.memory.specs.Rows.{closed}
 use Rattle.engine.specs.declared.Report.{Report}
 use Rattle.engine.specs.Calls.{Step, Answer, numberOf, Outcome}
 use Rattle.engine.specs.Calls.Answer.{refused, made, began, got, wrote, queued, readOnly, withdrew, reported, sent, kept, worked, loaded, restarted}
-use Rattle.engine.specs.Make.{makeStep}
+use Rattle.engine.specs.Make.{countsFor, makeStep}
 use Rattle.engine.specs.Classes.{loadStep}
 use Rattle.engine.specs.Client.{beginStep, readStep, writeStep, askStep, withdrawStep, reportStep}
 use Rattle.engine.specs.Moves.{sendStep, deliverStep, workStep}
@@ -35,6 +35,23 @@ use Rattle.replay_calls.specs.declared.Replica.{Replica}
 -- n places, of the six that the program has room for
 abbrev pub placesSize : ℕ → ℕ
 placesSize n = 512 * min n 6
+
+-- where none was made: a group of no replicas
+abbrev pub noReplica : Replica
+noReplica = record {
+  turn = record { slot = 0; sent = 0; applying = 0 };
+  counts = countsFor 0 0;
+  rows = replicate 6 closed;
+  queue = replicate 6 0;
+  items = replicate 48 0;
+  writes = replicate 48 (pos 0);
+  snapshots = replicate 768 (pos 0);
+  values = replicate 128 (pos 0);
+  stamps = replicate 128 0;
+  classes = replicate 128 0;
+  places = replicate 3072 0;
+  outbox = replicate 512 0;
+}
 
 -- the memory that a call is lent: of the bytes for places the first `size`
 abbrev pub memoryOf : ℕ → Replica → Memory

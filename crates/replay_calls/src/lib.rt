@@ -1,4 +1,6 @@
 // A call at a replica, by its letter. The replica goes in and out by value.
+ghost use mathlib.Core.Path.{_≡_};
+ghost use Rattle.replay_calls.specs.Effects.{noReplica};
 use memory::Counts;
 use memory::Turn;
 use memory::Txn;
@@ -38,7 +40,9 @@ pub struct Played {
 }
 
 // No replica.
-pub fn nobody() -> Replica {
+pub fn nobody() -> Replica
+    ensures { λ r. ⌜ r ≡ noReplica ⌝ }
+{
     Replica {
         turn: Turn {
             slot: 0,
