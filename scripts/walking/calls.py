@@ -42,7 +42,9 @@ class Call:
     @property
     def exported_by(self):
         """The crate that exports it."""
-        return "replica_make" if self.makes else "replica_turn" if self.name in ("send", "deliver", "work") else "replica_client"
+        if self.makes:
+            return "replica_make"
+        return {"write": "replica_write", "load": "replica_write", "send": "replica_turn", "deliver": "replica_turn", "work": "replica_turn"}.get(self.name, "replica_client")
 
     @property
     def crate(self):
@@ -114,8 +116,8 @@ class Call:
 
     @property
     def row_passed(self):
-        """Whether the call by value is passed the row's record; else it takes it from the six rows."""
-        return self.by_row is not None and not self.by_rows
+        """Whether the call by value is passed the row's record."""
+        return self.by_row is not None
 
     @property
     def makes(self):

@@ -69,7 +69,7 @@ class Facts:
         lead += [("turn", "Turn")] * call.turn_passed + [("counts", "Counts")] * call.counts_passed
         names = lead + self.passed + [("r", den(call.result))] + self.muts
         table = "rows" if call.by_rows else "table"
-        all_of = call.every + "(table : List Txn) → t ≡ rowAt table at → " * call.row_passed
+        all_of = call.every + "(table : List Txn) → " * (call.row_passed and not call.by_rows) + f"t ≡ rowAt {table} at → " * call.row_passed
         now = {"table": table}
         for field in FIELDS.get(call.result, []):
             if field == "row":
@@ -138,7 +138,7 @@ class Facts:
 
 # what the contract of a call by value says beside what it gives
 BESIDE = {
-    "write": "(6 ≤ at → r .row ≡ closed)",
+    "write": "(6 ≤ at → r .row ≡ t)",
     "make": "(r .turn ≡ turnZero) × (r .counts ≡ ifMade (r .number) (countsFor size me) (countsFor 0 0))",
 }
 

@@ -38,22 +38,20 @@ by-cases m false false true f a b c = refl
 by-cases m false false false true a b c = refl
 by-cases m false false false false a b c = refl
 
-module _ (m : Memory) (r item : ℕ) (value : ℤ) (lengths : writeLent m ≡ true) (low : item < 128) (there : r < 6)
-    (active : rowAt (m .txns .table) r .stage ≡ 0) (free : mustWait m item ≡ false) where
-  past : writeRefusal m r item ≡ lastThree (isOwn m r item) (heldByOther m r item) (isStale m r item) (isFull m r)
-  unfolding writeRefusal firstOf lastThree
-  past =
-      rw (
-        lengths,
-        lt-leb 128 item low,
-        lt-leb 6 r there,
-        active,
-        free,
-      )
+module _ (m : Memory) (r item : ℕ) (value : ℤ) (lengths : writeLent m ≡ true) (there : r < 6) (low : item < 128)
+    (active : rowAt (m .txns .table) r .stage ≡ 0) where
+  pub write-waits : mustWait m item ≡ true → writeRow m r item value ≡ outcome (refused 7) m
+  unfolding writeRow writeRefusal firstOf
+  write-waits waits = rw (lengths, lt-leb 128 item low, lt-leb 6 r there, active, waits)
 
-  pub write-active : writeRow m r item value ≡ writeActive m r item value
-  unfolding writeRow writeActive
-  write-active = rw past (by-cases m _ _ _ _ _ _ _)
+  module _ (free : mustWait m item ≡ false) where
+    past : writeRefusal m r item ≡ lastThree (isOwn m r item) (heldByOther m r item) (isStale m r item) (isFull m r)
+    unfolding writeRefusal firstOf lastThree
+    past = rw (lengths, lt-leb 128 item low, lt-leb 6 r there, active, free)
+
+    pub write-active : writeRow m r item value ≡ writeActive m r item value
+    unfolding writeRow writeActive
+    write-active = rw past (by-cases m _ _ _ _ _ _ _)
 
 -- what the lengths are where they fit
 pub fits-long : (i w s c p n : ℕ) → (eqb i 48 && eqb w 48 && (eqb s 128 && (eqb c 128 && eqb p n))) ≡ true → (i ≡ 48) × (w ≡ 48) × (s ≡ 128)
@@ -62,10 +60,6 @@ fits-long i w s c p n h =
     let b = both (eqb i 48) (eqb w 48) (a .left) in
     let d = both (eqb s 128) (eqb c 128 && eqb p n) (a .right) in
     (eqb-true i 48 (b .left), eqb-true w 48 (b .right), eqb-true s 128 (d .left))
-
--- what a refusal of `early_refusal` says
-pub write-refused : (n : ℕ) (m : Memory) (w o : Outcome) → (n ≡ 0 → ⊥) → w ≡ unless n m o → outcome (refused n) m ≡ w
-write-refused n m w o h e = rw (e, ne-eqb n 0 h)
 
 -- ---- at the row
 

@@ -10,15 +10,14 @@ ghost use lib.ListN.{length, set};
 ghost use Rattle.memory.specs.declared.Txn.{Txn};
 ghost use Rattle.memory.specs.Memory.{Memory, bump, withAborted};
 ghost use Rattle.memory.specs.Rows.{closed, rowAt, writeCount, isHeld, holderOf};
-ghost use Rattle.engine.specs.Calls.{unless};
-ghost use Rattle.engine.specs.Classes.{mustWait};
+ghost use Rattle.engine.specs.Calls.{outcome};
+ghost use Rattle.engine.specs.Calls.Answer.{refused};
 ghost use Rattle.engine.specs.Client.{writeLent, writeRow};
 ghost use Rattle.call_reply.specs.Parts.{writeParts};
 ghost use Rattle.call_reply.specs.Replies.{Gives, number};
 ghost use Rattle.call_write.specs.Parts.{inserted, insertIn, writeActive};
 use call_classes::must_wait;
 use call_client::rows::free;
-use call_client::rows::row_at;
 use call_reply::Changed;
 use memory::Counts;
 use memory::Held;
@@ -151,12 +150,11 @@ fn lengths_fit(
     places == 512 * replicas as usize
 }
 
-// The first of 1, 2, 3, 4 and 7 that a write is refused by, 0 where there is none: these come before the row's own writes are looked at. `fits` where what it is lent has its
-// lengths.
-fn early_refusal(fits: bool, at: usize, stage: u32, waits: bool, item: u32) -> u8
-    ensures { λ r. ⌜ ((m : Memory) (value : ℤ) → writeLent m ≡ fits → stage ≡ rowAt (m .txns .table) at .stage → waits ≡ mustWait m item →
-        writeRow m at item value ≡ unless r m (writeActive m at item value))
-        × (r ≡ 0 → (fits ≡ true) × (at < 6) × (item < 128)) ⌝ }
+// The first of 1, 2, 3 and 4 that a write is refused by, 0 where there is none. `fits` where what it is lent has its lengths.
+fn early_refusal(fits: bool, at: usize, stage: u32, item: u32) -> u8
+    ensures { λ r. ⌜ ((m : Memory) (value : ℤ) → writeLent m ≡ fits → stage ≡ rowAt (m .txns .table) at .stage → (r ≡ 0 → ⊥) →
+        writeRow m at item value ≡ outcome (refused r) m)
+        × (r ≡ 0 → (fits ≡ true) × (at < 6) × (item < 128) × (stage ≡ 0)) ⌝ }
 {
     if !fits {
         return 1;
@@ -170,15 +168,13 @@ fn early_refusal(fits: bool, at: usize, stage: u32, waits: bool, item: u32) -> u
     if stage != 0 {
         return 4;
     }
-    if waits {
-        return 7;
-    }
     0
 }
 
-// Records the value and locks the item. The rows are for the transaction's record and for the locks of others; past the last row the record is a free one.
+// Records the value and locks the item. `t` is the transaction's record, the rows are for the locks of others: they are looked at only where the item stands in somebody's writes.
 pub fn write(
     at: usize,
+    t: Txn,
     rows: [Txn; 6],
     turn: Turn,
     counts: Counts,
@@ -190,16 +186,15 @@ pub fn write(
     item: u32,
     value: i32,
 ) -> Changed
-    ensures { λ r. ⌜ ((m : Memory) →
+    ensures { λ r. ⌜ ((m : Memory) → t ≡ rowAt rows at →
         Gives number
         (writeRow
         (writeParts m turn counts rows (now (items .entry)) (now (writes .entry)) (now (stamps .entry)) (now (classes .entry)) (now (places .entry)))
         at item value)
         (r .number)
         (writeParts m turn (r .counts) (set rows at (r .row)) (now (items .exit)) (now (writes .exit)) (now (stamps .entry)) (now (classes .entry)) (now (places .entry))))
-        × (6 ≤ at → r .row ≡ closed) ⌝ }
+        × (6 ≤ at → r .row ≡ t) ⌝ }
 {
-    let t = row_at(rows, at);
     let fits = lengths_fit(
         items.len(),
         writes.len(),
@@ -208,10 +203,12 @@ pub fn write(
         places.len(),
         counts.replicas,
     );
-    let waits = must_wait(turn, counts, classes, places, item);
-    let number = early_refusal(fits, at, t.stage, waits, item);
+    let number = early_refusal(fits, at, t.stage, item);
     if number != 0 {
         return changed(number, t, counts);
+    }
+    if must_wait(turn, counts, classes, places, item) {
+        return changed(7, t, counts);
     }
     write_at(
         at,

@@ -90,8 +90,10 @@ pub fn write(replica: Replica, ticket: u32, item: u32, value: i32) -> Played
     let places = replica.places;
     let size = places_size(counts.replicas as u32);
     let at = row_of(rows, ticket);
+    let row = row_at(rows, at);
     let changed = call_write::write(
         at,
+        row,
         rows,
         turn,
         counts,

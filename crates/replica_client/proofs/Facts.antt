@@ -1,5 +1,5 @@
 -- What each call says by value (`On`), what it says of the lent parts (`Did`), and the way from the one to the other. Written by `scripts/walks`. Assumes nothing.
-use Prim.Native.Nat.{ℕ, _≤_}
+use Prim.Native.Nat.{ℕ}
 use mathlib.Core.Path.{_≡_, refl}
 use mathlib.Core.Bool.{false}
 use mathlib.Core.List.{List}
@@ -9,10 +9,9 @@ use Rattle.memory.specs.declared.Counts.{Counts}
 use Rattle.memory.specs.declared.Turn.{Turn}
 use Rattle.memory.specs.declared.Txn.{Txn}
 use Rattle.memory.specs.Memory.{Memory}
-use Rattle.memory.specs.Rows.{closed, rowOf, rowAt}
-use Rattle.engine.specs.Client.{beginRow, beginStep, readRow, readStep, writeRow, writeStep, askRow, askStep, withdrawRow, withdrawStep, reportStep}
-use Rattle.engine.specs.Classes.{loadStep}
-use Rattle.call_reply.specs.Parts.{beginParts, readParts, writeParts, askParts, withdrawParts, reportParts, loadParts}
+use Rattle.memory.specs.Rows.{rowOf, rowAt}
+use Rattle.engine.specs.Client.{beginRow, beginStep, readRow, readStep, askRow, askStep, withdrawRow, withdrawStep, reportStep}
+use Rattle.call_reply.specs.Parts.{beginParts, readParts, askParts, withdrawParts, reportParts}
 use Rattle.call_reply.specs.Replies.{noReport, number, beginReply, readReply, askReply, reportReply, Gives}
 use Rattle.call_reply.specs.declared.BeginReply.{BeginReply}
 use Rattle.call_reply.specs.declared.ReadReply.{ReadReply}
@@ -49,15 +48,6 @@ read-did table ticket items writes snapshots item r six said = λ m.
     let q = said m table refl in
     rw (called-six (λ (x : Memory). readStep x ticket item) (readParts m table items writes snapshots) six) q
 
-abbrev pub WriteOn : ℕ → List Txn → Turn → Counts → List ℕ → List ℤ → List ℕ → List ℕ → List ℕ → ℕ → ℤ → Changed → List ℕ → List ℤ → Type 0
-WriteOn at rows turn counts items writes stamps classes places item value r items′ writes′ = ((m : Memory) → Gives number (writeRow (writeParts m turn counts rows items writes stamps classes places) at item value) (r .number) (writeParts m turn (r .counts) (set rows at (r .row)) items′ writes′ stamps classes places)) × (6 ≤ at → r .row ≡ closed)
-
-abbrev pub WriteDid : List Txn → Turn → Counts → ℕ → List ℕ → List ℤ → List ℕ → List ℕ → List ℕ → ℕ → ℤ → ℕ → List Txn → Counts → List ℕ → List ℤ → Type 0
-WriteDid table turn counts ticket items writes stamps classes places item value r table′ counts′ items′ writes′ = (m : Memory) → Gives number (called (λ (x : Memory). writeStep x ticket item value) (writeParts m turn counts table items writes stamps classes places)) (r) (writeParts m turn counts′ table′ items′ writes′ stamps classes places)
-
-pub write-not : (table : List Txn) (turn : Turn) (counts : Counts) (ticket : ℕ) (items : List ℕ) (writes : List ℤ) (stamps : List ℕ) (classes : List ℕ) (places : List ℕ) (item : ℕ) (value : ℤ) → (length table ≡ 6 → ⊥) → WriteDid table turn counts ticket items writes stamps classes places item value (1) table counts items writes
-write-not table turn counts ticket items writes stamps classes places item value other = λ m. rw (called-other (λ (x : Memory). writeStep x ticket item value) (writeParts m turn counts table items writes stamps classes places) other) (refl, refl)
-
 abbrev pub AskOn : ℕ → Txn → Counts → List ℕ → Asked → List ℕ → Type 0
 AskOn at t counts queue r queue′ = (m : Memory) → (table : List Txn) → t ≡ rowAt table at → Gives askReply (askRow (askParts m counts table queue) at) (r .reply) (askParts m (r .counts) (set table at (r .row)) queue′)
 
@@ -89,6 +79,3 @@ pub report-did : (table : List Txn) (turn : Turn) (counts : Counts) (r : ReportR
 report-did table turn counts r six said = λ m.
     let q = (rw (loaded-six table six) at said) m in
     rw (called-six (λ (x : Memory). reportStep x) (reportParts m turn counts table) six) q
-
-abbrev pub LoadOn : Turn → List ℕ → List ℕ → ℕ → List ℕ → Type 0
-LoadOn turn classes given r classes′ = (m : Memory) → Gives number (loadStep (loadParts m turn classes) given) r (loadParts m turn classes′)

@@ -1,13 +1,11 @@
-// A client's calls, as a host makes them, and the load of document 02.
+// A client's calls but the write, as a host makes them.
 // The table is lent as a slice of records, turn and counts behind references. Each call copies what it needs of the lent parts, makes the call by value, and writes what changed where it
 // lies. Its contract: what the call gives is what the engine's step gives, on every memory with the lent parts.
 ghost use Rattle.memory.specs.Memory.{Memory};
-ghost use Rattle.engine.specs.Client.{beginStep, readStep, writeStep, askStep, withdrawStep, reportStep};
-ghost use Rattle.engine.specs.Classes.{loadStep};
-ghost use Rattle.call_reply.specs.Parts.{beginParts, readParts, writeParts, askParts, withdrawParts, reportParts, loadParts};
+ghost use Rattle.engine.specs.Client.{beginStep, readStep, askStep, withdrawStep, reportStep};
+ghost use Rattle.call_reply.specs.Parts.{beginParts, readParts, askParts, withdrawParts, reportParts};
 ghost use Rattle.call_reply.specs.Replies.{number, beginReply, readReply, askReply, reportReply, Gives};
 ghost use Rattle.call_reply.specs.Called.{called};
-use call_classes::load_classes;
 use call_client::ask;
 use call_client::begin;
 use call_client::read;
@@ -21,7 +19,6 @@ use call_reply::replies::no_ask;
 use call_reply::replies::no_begin;
 use call_reply::replies::no_read;
 use call_reply::replies::no_report;
-use call_write::write;
 use host_table::copy_counts;
 use host_table::copy_turn;
 use host_table::end;
@@ -30,7 +27,6 @@ use host_table::load;
 use host_table::put;
 use host_table::row;
 use host_table::scan;
-use host_table::set_aborted;
 use host_table::set_read_only;
 use host_table::set_stage;
 use host_table::set_tickets;
@@ -89,58 +85,6 @@ pub extern "C" fn stemline_read(
     let at = find(table, ticket);
     let t = row(table, at);
     read(at, t, items, writes, snapshots, item)
-}
-
-#[no_mangle]
-pub extern "C" fn stemline_write(
-    table: &mut [Txn],
-    turn: &Turn,
-    counts: &mut Counts,
-    ticket: u32,
-    items: &mut [u8],
-    writes: &mut [i32],
-    stamps: &[u32],
-    classes: &[u8],
-    places: &[u8],
-    item: u32,
-    value: i32,
-) -> u8
-    ensures { λ r. ⌜ ((m : Memory) → Gives number
-        (called (λ x. writeStep x ticket item value)
-        (writeParts m (now (turn .entry)) (now (counts .entry)) (now (table .entry)) (now (items .entry)) (now (writes .entry)) (now (stamps .entry)) (now (classes .entry)) (now (places .entry))))
-        r
-        (writeParts m (now (turn .entry)) (now (counts .exit)) (now (table .exit)) (now (items .exit)) (now (writes .exit)) (now (stamps .entry)) (now (classes .entry)) (now (places .entry)))) ⌝ }
-{
-    if table.len() != 6 {
-        return 1;
-    }
-    let at = find(table, ticket);
-    let rows = load(table);
-    let cursor = copy_turn(turn);
-    let before = copy_counts(counts);
-    let done = write(
-        at,
-        rows,
-        cursor,
-        before,
-        items,
-        writes,
-        stamps,
-        classes,
-        places,
-        item,
-        value,
-    );
-    if done.number == 9 {
-        end(table, at);
-        set_aborted(counts, done.counts.aborted);
-        return 9;
-    }
-    if done.number != 0 {
-        return done.number;
-    }
-    put(table, at, done.row);
-    0
 }
 
 #[no_mangle]
@@ -214,17 +158,4 @@ pub extern "C" fn stemline_report(table: &[Txn], turn: &Turn, counts: &Counts) -
     let cursor = copy_turn(turn);
     let before = copy_counts(counts);
     report(rows, cursor, before)
-}
-
-#[no_mangle]
-pub extern "C" fn stemline_load(turn: &Turn, classes: &mut [u8], given: &[u8]) -> u8
-    ensures { λ r. ⌜ ((m : Memory) → Gives number
-        (loadStep
-        (loadParts m (now (turn .entry)) (now (classes .entry)))
-        (now (given .entry)))
-        r
-        (loadParts m (now (turn .entry)) (now (classes .exit)))) ⌝ }
-{
-    let cursor = copy_turn(turn);
-    load_classes(cursor, classes, given)
 }

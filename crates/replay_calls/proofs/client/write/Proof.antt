@@ -11,6 +11,12 @@ use Rattle.replay_calls.proofs.EffectLaws.{plays-bare, bare-effect, bar
 use Rattle.replay_calls.proofs.client.write.Statement.{statement}
 use Rattle.replay_calls.proofs.client.write.Tie as tie
 
+items-long : (c : tie.Start) → length (c .args .replica .items) ≡ 48
+items-long c = search needs
+
+writes-long : (c : tie.Start) → length (c .args .replica .writes) ≡ 48
+writes-long c = search needs
+
 stamps-long : (c : tie.Start) → length (c .args .replica .stamps) ≡ 128
 stamps-long c = search needs
 
@@ -29,25 +35,28 @@ places-size-requires c κs = search needs
 row-of-requires : tie.Need-row-of-requires
 row-of-requires c κs = search needs
 
+row-at-requires : tie.Need-row-at-requires
+row-at-requires c κs = search needs
+
 slice-aggregate-write : tie.Need-slice-aggregate-write
-slice-aggregate-write c = search needs
+slice-aggregate-write c = sym (items-long (c .before .before .before .before .before .before .before .before .before .before .before .before .before))
 
 slice-aggregate-write-2 : tie.Need-slice-aggregate-write-2
-slice-aggregate-write-2 c = search needs
+slice-aggregate-write-2 c = sym (writes-long (c .before .before .before .before .before .before .before .before .before .before .before .before .before .before))
 
 slice-aggregate-write-3 : tie.Need-slice-aggregate-write-3
-slice-aggregate-write-3 c = sym (stamps-long (c .before .before .before .before .before .before .before .before .before .before .before .before .before .before))
+slice-aggregate-write-3 c = sym (stamps-long (c .before .before .before .before .before .before .before .before .before .before .before .before .before .before .before))
 
 slice-aggregate-write-4 : tie.Need-slice-aggregate-write-4
-slice-aggregate-write-4 c = sym (classes-long (c .before .before .before .before .before .before .before .before .before .before .before .before .before .before .before))
+slice-aggregate-write-4 c = sym (classes-long (c .before .before .before .before .before .before .before .before .before .before .before .before .before .before .before .before))
 
 array-share-prefix-places : tie.Need-array-share-prefix-places
-array-share-prefix-places c = omega (arith, c .before .before .before .before .before .places-size .ensures .1, places-long (c .before .before .before .before .before .before .before .before .before .before .before .before .before .before .before))
+array-share-prefix-places c = omega (arith, c .before .before .before .before .before .before .places-size .ensures .1, places-long (c .before .before .before .before .before .before .before .before .before .before .before .before .before .before .before .before))
 
 slice-aggregate-write-5 : tie.Need-slice-aggregate-write-5
 slice-aggregate-write-5 c =
-    let z = c .before .before .before .before .before .before in
-    sym (length-take-le (z .places-size .result) (c .before .before .before .before .before .before .before .before .before .before .before .before .before .before .before .before .args .replica .places) (omega (arith, z .places-size .ensures .1, places-long (c .before .before .before .before .before .before .before .before .before .before .before .before .before .before .before .before))))
+    let z = c .before .before .before .before .before .before .before in
+    sym (length-take-le (z .places-size .result) (c .before .before .before .before .before .before .before .before .before .before .before .before .before .before .before .before .before .args .replica .places) (omega (arith, z .places-size .ensures .1, places-long (c .before .before .before .before .before .before .before .before .before .before .before .before .before .before .before .before .before))))
 
 write-requires : tie.Need-write-requires
 write-requires c κs = search needs
@@ -61,12 +70,13 @@ bare-requires c κs = search needs
 returns : tie.Need-returns
 returns c =
     let w = c .before .before .before .before .before .before in
-    let r = w .before .before .before .before .before .before in
+    let h = w .before .before .before .before .before .before in
+    let r = h .before in
     let z = r .before in
     let s = z .before .before .before .before .before .before .before .before .before .before in
     let a = s .args in
     let size = z .places-size .result in
-    let g = rw (toZ-ofZ (s .fits .value)) at (w .write .ensures .0 (memoryOf size (a .replica))) in
+    let g = rw (toZ-ofZ (s .fits .value)) at (w .write .ensures .0 (memoryOf size (a .replica)) (h .row-at .ensures)) in
     rw (← z .places-size .ensures .0)
     (λ lent.
     plays-bare
@@ -81,6 +91,7 @@ write-spec =
     cast-places-size
     places-size-requires
     row-of-requires
+    row-at-requires
     slice-aggregate-write
     slice-aggregate-write-2
     slice-aggregate-write-3

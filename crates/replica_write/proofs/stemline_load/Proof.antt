@@ -43,7 +43,7 @@ use Rattle.host_table.proofs.Steps.Held.{cell}
 use Rattle.host_table.proofs.Rows.{R, vals, tells, makes, copies, lawful}
 use Rattle.host_table.proofs.Cursor as U
 use Rattle.host_table.proofs.Handed.{handed, goes-handed}
-use Rattle.replica_client.proofs.Facts.{LoadOn}
+use Rattle.replica_write.proofs.Facts.{LoadOn}
 use Rattle.host_table.proofs.copy_turn.Symbol as copy-def
 use Rattle.host_table.proofs.copy_turn.Symbol.{name as #copy}
 use Rattle.host_table.proofs.copy_turn.Met as copy-thm
@@ -52,10 +52,10 @@ use Rattle.call_classes.proofs.load_classes.Symbol as call-def
 use Rattle.call_classes.proofs.load_classes.Symbol.{name as #call}
 use Rattle.call_classes.proofs.load_classes.Met as call-thm
 use Rattle.host_table.proofs.Callees.{CopyOut, to-copy-out, asks-copy-out, gives-copy-out}
-use Rattle.replica_client.proofs.stemline_load.Key.{name as #own}
-use Rattle.replica_client.proofs.stemline_load as own
-use Rattle.replica_client.proofs.stemline_load.Statement as stated
-use Rattle.replica_client.proofs.stemline_load.Code as code
+use Rattle.replica_write.proofs.stemline_load.Key.{name as #own}
+use Rattle.replica_write.proofs.stemline_load as own
+use Rattle.replica_write.proofs.stemline_load.Statement as stated
+use Rattle.replica_write.proofs.stemline_load.Code as code
 
 abbrev stayed : Stays (own.ended .signature .params) (own.ended .kept)
 stayed = (handed _ _, (handed _ _, (handed _ _, tt)))

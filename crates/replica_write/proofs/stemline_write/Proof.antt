@@ -47,7 +47,7 @@ use Rattle.memory.specs.declared.Counts.{Counts}
 use Rattle.memory.specs.declared.Turn.{Turn}
 use Rattle.memory.specs.declared.Txn.{Txn}
 use Rattle.memory.specs.Memory.{withAborted}
-use Rattle.memory.specs.Rows.{closed, rowOf}
+use Rattle.memory.specs.Rows.{closed, rowOf, rowAt}
 use Rattle.memory.proofs.Counts as Q
 use Rattle.memory.proofs.Counts.Laws as Q′
 use Rattle.memory.proofs.Txn as T
@@ -59,8 +59,8 @@ use Rattle.host_table.proofs.Rows.{R, vals, tells, makes, copies, lawful}
 use Rattle.host_table.proofs.Cursor as U
 use Rattle.host_table.proofs.Numbers as N
 use Rattle.host_table.proofs.Handed.{handed, goes-handed}
-use Rattle.replica_client.proofs.Facts.{WriteOn, WriteDid, write-not}
-use Rattle.replica_client.proofs.Ways.{write-stale, write-kept, write-did}
+use Rattle.replica_write.proofs.Facts.{WriteOn, WriteDid, write-not}
+use Rattle.replica_write.proofs.Ways.{write-stale, write-kept, write-did}
 use Rattle.call_reply.specs.declared.Changed.{Changed}
 use Rattle.call_reply.proofs.Changed as D
 use Rattle.call_reply.proofs.Changed.Laws as D′
@@ -70,6 +70,9 @@ use Rattle.host_table.proofs.load.Met as load-thm
 use Rattle.host_table.proofs.find.Symbol as find-def
 use Rattle.host_table.proofs.find.Symbol.{name as #find}
 use Rattle.host_table.proofs.find.Met as find-thm
+use Rattle.host_table.proofs.row.Symbol as row-def
+use Rattle.host_table.proofs.row.Symbol.{name as #row}
+use Rattle.host_table.proofs.row.Met as row-thm
 use Rattle.host_table.proofs.put.Symbol as put-def
 use Rattle.host_table.proofs.put.Symbol.{name as #put}
 use Rattle.host_table.proofs.put.Met as put-thm
@@ -89,11 +92,11 @@ use Rattle.call_write.proofs.write as call
 use Rattle.call_write.proofs.write.Symbol as call-def
 use Rattle.call_write.proofs.write.Symbol.{name as #call}
 use Rattle.call_write.proofs.write.Met as call-thm
-use Rattle.host_table.proofs.Callees.{CopyOut, End, Find, Load, Put, StoreOne, to-copy-out, asks-copy-out, gives-copy-out, to-end, asks-end, gives-end, to-find, asks-find, gives-find, to-load, asks-load, gives-load, to-put, asks-put, gives-put, to-store-one, asks-store-one, gives-store-one}
-use Rattle.replica_client.proofs.stemline_write.Key.{name as #own}
-use Rattle.replica_client.proofs.stemline_write as own
-use Rattle.replica_client.proofs.stemline_write.Statement as stated
-use Rattle.replica_client.proofs.stemline_write.Code as code
+use Rattle.host_table.proofs.Callees.{CopyOut, End, Find, Load, Put, Row, StoreOne, to-copy-out, asks-copy-out, gives-copy-out, to-end, asks-end, gives-end, to-find, asks-find, gives-find, to-load, asks-load, gives-load, to-put, asks-put, gives-put, to-row, asks-row, gives-row, to-store-one, asks-store-one, gives-store-one}
+use Rattle.replica_write.proofs.stemline_write.Key.{name as #own}
+use Rattle.replica_write.proofs.stemline_write as own
+use Rattle.replica_write.proofs.stemline_write.Statement as stated
+use Rattle.replica_write.proofs.stemline_write.Code as code
 
 abbrev stayed : Stays (own.ended .signature .params) (own.ended .kept)
 stayed = (stay-slice (0 ∷ []) tt (plain (λ _. R)), (handed _ _, (stay-ref (2 ∷ []) tt (plain (λ _. N.R)), (handed _ _, (handed _ _, (handed _ _, (handed _ _, (handed _ _, (handed _ _, (handed _ _, (handed _ _, tt)))))))))))
@@ -132,13 +135,13 @@ module _ {M : Type 1} (𝓤 : URA M) (H : Heap 𝓤) (A : Atoms 𝓤) (W : Given
   κs₁ = (κ₄, (κ₅, (κ₆, (κ₇, (κ₈, tt)))))
 
   abbrev a₁ : Args call.signature κs₁
-  a₁ = ((rowOf ticket ys), (loaded ys, (h, (c, rest .1))))
+  a₁ = ((rowOf ticket ys), (rowAt ys (rowOf ticket ys), (loaded ys, (h, (c, rest .1)))))
 
-  abbrev to-call : Val → Val → Val → ByValue 𝓤 H A mem run .Ghost
-  to-call v₅ v₃ v₇ = ((κs₁, (q₄, (q₅, (q₆, (q₇, (q₈, tt))))), tt, a₁, (vint w64 (rowOf ticket ys) ∷ [], (v₅ ∷ [], (v₃ ∷ [], (v₇ ∷ [], rest-at .1))))), tt)
+  abbrev to-call : Val → Val → Val → Val → ByValue 𝓤 H A mem run .Ghost
+  to-call v₂ v₅ v₃ v₇ = ((κs₁, (q₄, (q₅, (q₆, (q₇, (q₈, tt))))), tt, a₁, (vint w64 (rowOf ticket ys) ∷ [], (v₂ ∷ [], (v₅ ∷ [], (v₃ ∷ [], (v₇ ∷ [], rest-at .1)))))), tt)
 
-  asks-call : (rowOf ticket ys) < 2 ^ 64 → (v₅ v₃ v₇ : Val) → Is (Array R 6) (loaded ys) (v₅ ∷ []) → Is U.R h (v₃ ∷ []) → Is N.R c (v₇ ∷ []) → ent 𝓤 (⋆ 𝓤 H A (‵ Rest ∷ Toks ∷ [])) (ByValue 𝓤 H A mem run .pre (to-call v₅ v₃ v₇))
-  asks-call fits v₅ v₃ v₇ is₅ is₃ is₇ = qed W (‵ Rest ∷ Toks ∷ []) ∵ fsplit ! $ drop ! $ owned ! N.R (Is N.R) (N.makes 𝓤 H A) c (v₇ ∷ []) is₇ $ fjoin ! $ owned ! U.R (Is U.R) (U.makes 𝓤 H A) h (v₃ ∷ []) is₃ $ fjoin ! $ owned ! (Array R 6) (Is (Array R 6)) (array-makes 𝓤 H A W R (makes 𝓤 H A) 6) (loaded ys) (v₅ ∷ []) is₅ $ fjoin ! $ owned ! usize (Is usize) (uint-makes 𝓤 H A W w64) (rowOf ticket ys) _ (refl, fits) $ fjoin ! $ move ! (1 ∷ 0 ∷ []) $ join ! $ frame ! $ done !
+  asks-call : (rowOf ticket ys) < 2 ^ 64 → (v₂ v₅ v₃ v₇ : Val) → Is R (rowAt ys (rowOf ticket ys)) (v₂ ∷ []) → Is (Array R 6) (loaded ys) (v₅ ∷ []) → Is U.R h (v₃ ∷ []) → Is N.R c (v₇ ∷ []) → ent 𝓤 (⋆ 𝓤 H A (‵ Rest ∷ Toks ∷ [])) (ByValue 𝓤 H A mem run .pre (to-call v₂ v₅ v₃ v₇))
+  asks-call fits v₂ v₅ v₃ v₇ is₂ is₅ is₃ is₇ = qed W (‵ Rest ∷ Toks ∷ []) ∵ fsplit ! $ drop ! $ owned ! N.R (Is N.R) (N.makes 𝓤 H A) c (v₇ ∷ []) is₇ $ fjoin ! $ owned ! U.R (Is U.R) (U.makes 𝓤 H A) h (v₃ ∷ []) is₃ $ fjoin ! $ owned ! (Array R 6) (Is (Array R 6)) (array-makes 𝓤 H A W R (makes 𝓤 H A) 6) (loaded ys) (v₅ ∷ []) is₅ $ fjoin ! $ owned ! R (Is R) (makes 𝓤 H A) (rowAt ys (rowOf ticket ys)) (v₂ ∷ []) is₂ $ fjoin ! $ owned ! usize (Is usize) (uint-makes 𝓤 H A W w64) (rowOf ticket ys) _ (refl, fits) $ fjoin ! $ move ! (1 ∷ 0 ∷ []) $ join ! $ frame ! $ done !
 
   -- the end: what is left of table and turn, and what is said of the rest
   ends : (v : Val) (r : ℕ) (ys′ : List Txn) (c′ : Counts) (items′ : List ℕ) (writes′ : List ℤ) → Is u8 r (v ∷ []) → length ys′ ≡ length ys → WriteDid ys h c ticket items writes stamps classes places item value r ys′ c′ items′ writes′
@@ -152,103 +155,107 @@ module _ {M : Type 1} (𝓤 : URA M) (H : Heap 𝓤) (A : Atoms 𝓤) (W : Given
       qed W (‵ (MutAt R b₀ o₀ κ₀ γ₀ (length ys) ys) ∷ ‵ (flft κ₀ q₀) ∷ ‵ (ShrOf U.R b₁ o₁ κ₁ γ₁ h) ∷ ‵ (flft κ₁ q₁) ∷ ‵ (MutOf N.R b₂ o₂ κ₂ γ₂ c) ∷ ‵ (flft κ₂ q₂) ∷ ‵ Rest ∷ Toks ∷ []) ∵ updating ! $ move ! (6 ∷ []) $ use1 W (later (‵ (fsep ftrue (fsep (left (MutSlice (named 0) κ₄ u8 .exit yes) (record { ptr = (b₄, o₄); name = γ₄; now = items }) items) (fsep (left (MutSlice (named 0) κ₅ i32 .exit yes) (record { ptr = (b₅, o₅); name = γ₅; now = writes }) writes) (fsep ftrue (fsep ftrue (fsep ftrue (fsep ftrue (fsep ftrue ftrue)))))))))) (go-all 𝓤 H A W 8 ((plain (λ _. u32)) ∷ (mutSliceOf (3 ∷ []) tt (plain (λ _. u8))) ∷ (mutSliceOf (4 ∷ []) tt (plain (λ _. i32))) ∷ (shrSliceOf (5 ∷ []) tt (plain (λ _. u32))) ∷ (shrSliceOf (6 ∷ []) tt (plain (λ _. u8))) ∷ (shrSliceOf (7 ∷ []) tt (plain (λ _. u8))) ∷ (plain (λ _. u32)) ∷ (plain (λ _. i32)) ∷ []) (yes, (yes, (yes, (yes, (yes, (yes, (yes, (yes, tt)))))))) (stay-none (λ _. u32) yes, (stay-slice (3 ∷ []) tt (plain (λ _. u8)), (stay-slice (4 ∷ []) tt (plain (λ _. i32)), (stay-none-slice (5 ∷ []) tt (plain (λ _. u32)) yes, (stay-none-slice (6 ∷ []) tt (plain (λ _. u8)) yes, (stay-none-slice (7 ∷ []) tt (plain (λ _. u8)) yes, (stay-none (λ _. u32) yes, (stay-none (λ _. i32) yes, tt)))))))) (goes-none 𝓤 H A W 8 (λ _. u32) yes (λ κs x f. refl), (goes-slice 𝓤 H A W 8 3 tt (plain (λ _. u8)), (goes-slice 𝓤 H A W 8 4 tt (plain (λ _. i32)), (goes-none-slice 𝓤 H A W 8 (5 ∷ []) tt (plain (λ _. u32)) yes, (goes-none-slice 𝓤 H A W 8 (6 ∷ []) tt (plain (λ _. u8)) yes, (goes-none-slice 𝓤 H A W 8 (7 ∷ []) tt (plain (λ _. u8)) yes, (goes-none 𝓤 H A W 8 (λ _. u32) yes (λ κs x f. refl), (goes-none 𝓤 H A W 8 (λ _. i32) yes (λ κs x f. refl), tt)))))))) (κ₀, (κ₁, (κ₂, (κ₄, (κ₅, (κ₆, (κ₇, (κ₈, tt)))))))) rest (tt, (items, (writes, (tt, (tt, (tt, (tt, (tt, tt)))))))) rest-at (tt, (refl, (refl, (tt, (tt, (tt, (tt, (tt, tt))))))))) $ await ! tt $ move ! (1 ∷ 2 ∷ 3 ∷ 4 ∷ 5 ∷ 6 ∷ 0 ∷ []) $
       by ! (ends v (1) ys c items writes is refl (write-not ys h c ticket items writes stamps classes places item value other))
 
-  module _ (C : Calls 𝓤 H) (Λ : Loops 𝓤 H) (fm : FmC 𝓤 H (W .laws) C) (known-load : Triple 𝓤 (C #load) (Load 𝓤 H A mem run)) (known-find : Triple 𝓤 (C #find) (Find 𝓤 H A mem run)) (known-put : Triple 𝓤 (C #put) (Put 𝓤 H A mem run)) (known-end : Triple 𝓤 (C #end) (End 𝓤 H A mem run)) (known-copy : Triple 𝓤 (C #copy) (CopyOut 𝓤 H A mem run U.turn)) (known-copied : Triple 𝓤 (C #copied) (CopyOut 𝓤 H A mem run N.counts)) (known-aborted : Triple 𝓤 (C #aborted) (StoreOne 𝓤 H A mem run N.counts N.aborted)) (known-call : Triple 𝓤 (C #call) (ByValue 𝓤 H A mem run)) where
+  module _ (C : Calls 𝓤 H) (Λ : Loops 𝓤 H) (fm : FmC 𝓤 H (W .laws) C) (known-load : Triple 𝓤 (C #load) (Load 𝓤 H A mem run)) (known-find : Triple 𝓤 (C #find) (Find 𝓤 H A mem run)) (known-row : Triple 𝓤 (C #row) (Row 𝓤 H A mem run)) (known-put : Triple 𝓤 (C #put) (Put 𝓤 H A mem run)) (known-end : Triple 𝓤 (C #end) (End 𝓤 H A mem run)) (known-copy : Triple 𝓤 (C #copy) (CopyOut 𝓤 H A mem run U.turn)) (known-copied : Triple 𝓤 (C #copied) (CopyOut 𝓤 H A mem run N.counts)) (known-aborted : Triple 𝓤 (C #aborted) (StoreOne 𝓤 H A mem run N.counts N.aborted)) (known-call : Triple 𝓤 (C #call) (ByValue 𝓤 H A mem run)) where
     walk : ent 𝓤 (onEntry 𝓤 H A own.signature (κ₀, (κ₁, (κ₂, (κ₄, (κ₅, (κ₆, (κ₇, (κ₈, tt)))))))) (q₀, (q₁, (q₂, (q₄, (q₅, (q₆, (q₇, (q₈, tt)))))))) a at) (WpFn 𝓤 H C Λ code.function (sliceVal (b₀, o₀) (length ys) ∷ vptr b₁ o₁ ∷ vptr b₂ o₂ ∷ vint w32 ticket ∷ sliceVal (b₄, o₄) (length items) ∷ sliceVal (b₅, o₅) (length writes) ∷ sliceVal (b₆, o₆) (length stamps) ∷ sliceVal (b₇, o₇) (length classes) ∷ sliceVal (b₈, o₈) (length places) ∷ vint w32 item ∷ vint w32 (ofZ w32 value) ∷ []) Post)
     walk =
         qed W ((‵ (flft κ₀ q₀) ⊛ (‵ (flft κ₁ q₁) ⊛ (‵ (flft κ₂ q₂) ⊛ (‵ (flft κ₄ q₄) ⊛ (‵ (flft κ₅ q₅) ⊛ (‵ (flft κ₆ q₆) ⊛ (‵ (flft κ₇ q₇) ⊛ (‵ (flft κ₈ q₈) ⊛ ‵ ftrue)))))))) ∷ ‵ (owns (MutSlice (named 0) κ₀ R ∷ ShrRef (named 1) κ₁ U.R ∷ MutRef (named 2) κ₂ N.R ∷ u32 ∷ MutSlice (named 3) κ₄ u8 ∷ MutSlice (named 4) κ₅ i32 ∷ ShrSlice (named 5) κ₆ u32 ∷ ShrSlice (named 6) κ₇ u8 ∷ ShrSlice (named 7) κ₈ u8 ∷ u32 ∷ i32 ∷ []) a at) ∷ []) ∵ enter ! C Λ code.function (sliceVal (b₀, o₀) (length ys) ∷ vptr b₁ o₁ ∷ vptr b₂ o₂ ∷ vint w32 ticket ∷ sliceVal (b₄, o₄) (length items) ∷ sliceVal (b₅, o₅) (length writes) ∷ sliceVal (b₆, o₆) (length stamps) ∷ sliceVal (b₇, o₇) (length classes) ∷ sliceVal (b₈, o₈) (length places) ∷ vint w32 item ∷ vint w32 (ofZ w32 value) ∷ []) _ $
-        alloc1 ! (λ l0. alloc1 ! (λ l1. alloc1 ! (λ l2. alloc1 ! (λ l3. alloc1 ! (λ l4. alloc1 ! (λ l5. alloc1 ! (λ l6. alloc1 ! (λ l7. alloc1 ! (λ l8. alloc1 ! (λ l9. alloc1 ! (λ l10. alloc1 ! (λ l11. alloc1 ! (λ l12. alloc1 ! (λ l13. alloc1 ! (λ l14. alloc1 ! (λ l15. alloc1 ! (λ l16. alloc1 ! (λ l17. alloc1 ! (λ l18. alloc1 ! (λ l19. alloc1 ! (λ l20. alloc1 ! (λ l21. alloc1 ! (λ l22. alloc1 ! (λ l23. alloc1 ! (λ l24. alloc1 ! (λ l25. alloc1 ! (λ l26. alloc1 ! (λ l27. alloc1 ! (λ l28. alloc1 ! (λ l29. alloc1 ! (λ l30. alloc1 ! (λ l31. alloc1 ! (λ l32. alloc1 ! (λ l33. alloc1 ! (λ l34. alloc0 ! $ params1 ! $
-        pass1 ! (init ! 66 refl (tt, (tt, (record { fits = room₀ .0 }, tt)))) $ pass1 ! (init ! 64 refl (tt, tt)) $ pass1 ! (init ! 62 refl (tt, tt)) $ pass1 ! (init ! 60 refl (tt, record { fits = g₃ })) $ pass1 ! (init ! 58 refl (tt, (tt, (record { fits = room₄ .0 }, tt)))) $ pass1 ! (init ! 56 refl (tt, (tt, (record { fits = room₅ .0 }, tt)))) $ pass1 ! (init ! 54 refl (tt, (tt, (record { fits = room₆ .0 }, tt)))) $ pass1 ! (init ! 52 refl (tt, (tt, (record { fits = room₇ .0 }, tt)))) $ pass1 ! (init ! 50 refl (tt, (tt, (record { fits = room₈ .0 }, tt)))) $ pass1 ! (init ! 48 refl (tt, record { fits = g₉ })) $ pass1 ! (init ! 46 refl (sint-lawful 𝓤 H A W w32 .typed value _ is₁₀ .0)) $ pass0 ! $
-        move ! (71 ∷ []) $ fsplit ! $
+        alloc1 ! (λ l0. alloc1 ! (λ l1. alloc1 ! (λ l2. alloc1 ! (λ l3. alloc1 ! (λ l4. alloc1 ! (λ l5. alloc1 ! (λ l6. alloc1 ! (λ l7. alloc1 ! (λ l8. alloc1 ! (λ l9. alloc1 ! (λ l10. alloc1 ! (λ l11. alloc1 ! (λ l12. alloc1 ! (λ l13. alloc1 ! (λ l14. alloc1 ! (λ l15. alloc1 ! (λ l16. alloc1 ! (λ l17. alloc1 ! (λ l18. alloc1 ! (λ l19. alloc1 ! (λ l20. alloc1 ! (λ l21. alloc1 ! (λ l22. alloc1 ! (λ l23. alloc1 ! (λ l24. alloc1 ! (λ l25. alloc1 ! (λ l26. alloc1 ! (λ l27. alloc1 ! (λ l28. alloc1 ! (λ l29. alloc1 ! (λ l30. alloc1 ! (λ l31. alloc1 ! (λ l32. alloc1 ! (λ l33. alloc1 ! (λ l34. alloc1 ! (λ l35. alloc1 ! (λ l36. alloc1 ! (λ l37. alloc0 ! $ params1 ! $
+        pass1 ! (init ! 72 refl (tt, (tt, (record { fits = room₀ .0 }, tt)))) $ pass1 ! (init ! 70 refl (tt, tt)) $ pass1 ! (init ! 68 refl (tt, tt)) $ pass1 ! (init ! 66 refl (tt, record { fits = g₃ })) $ pass1 ! (init ! 64 refl (tt, (tt, (record { fits = room₄ .0 }, tt)))) $ pass1 ! (init ! 62 refl (tt, (tt, (record { fits = room₅ .0 }, tt)))) $ pass1 ! (init ! 60 refl (tt, (tt, (record { fits = room₆ .0 }, tt)))) $ pass1 ! (init ! 58 refl (tt, (tt, (record { fits = room₇ .0 }, tt)))) $ pass1 ! (init ! 56 refl (tt, (tt, (record { fits = room₈ .0 }, tt)))) $ pass1 ! (init ! 54 refl (tt, record { fits = g₉ })) $ pass1 ! (init ! 52 refl (sint-lawful 𝓤 H A W w32 .typed value _ is₁₀ .0)) $ pass0 ! $
+        move ! (77 ∷ []) $ fsplit ! $
         move ! (1 ∷ []) $
         fsplit ! $
         move ! (1 ∷ []) $
         fsplit ! $
-        move ! (74 ∷ []) $ split ! $
+        move ! (80 ∷ []) $ split ! $
         move ! (1 ∷ []) $
         split ! $
         move ! (1 ∷ []) $
         split ! $
         move ! (7 ∷ 3 ∷ 6 ∷ 2 ∷ 4 ∷ 0 ∷ 5 ∷ 1 ∷ []) $
-        assigns ! (of-opd ! (load ! (from ! (fld ! refl (stop !))) (look-in ! 74 (sub ! 1 refl (whole !))))) (from ! (stop !)) (init ! 42 refl (tt, record { fits = room₀ .0 })) $
-        assigns ! (bin ! (load ! (from ! (stop !)) (look ! 42 refl)) (lit ! tt) tt) (from ! (stop !)) (init ! 40 refl (tt, tt)) $
-        when ! (load ! (from ! (stop !)) (look ! 40 refl)) (λ other.
+        assigns ! (of-opd ! (load ! (from ! (fld ! refl (stop !))) (look-in ! 80 (sub ! 1 refl (whole !))))) (from ! (stop !)) (init ! 46 refl (tt, record { fits = room₀ .0 })) $
+        assigns ! (bin ! (load ! (from ! (stop !)) (look ! 46 refl)) (lit ! tt) tt) (from ! (stop !)) (init ! 44 refl (tt, tt)) $
+        when ! (load ! (from ! (stop !)) (look ! 44 refl)) (λ other.
         -- another table than six rows
-        assigns ! (of-opd ! (lit ! tt)) (from ! (stop !)) (init ! 76 refl (tt, record { fits = omega arith })) $
-        returns-within ! Post refl (look ! 76 refl) $
-        frees-all ! (_ ∷ _ ∷ _ ∷ _ ∷ _ ∷ _ ∷ _ ∷ _ ∷ []) (room _ _ ∷ room _ _ ∷ room _ _ ∷ room _ _ ∷ room _ _ ∷ room _ _ ∷ room _ _ ∷ room _ _ ∷ room _ _ ∷ room _ _ ∷ room _ _ ∷ room _ _ ∷ room _ _ ∷ room _ _ ∷ room _ _ ∷ room _ _ ∷ cell _ _ _ ∷ cell _ _ _ ∷ room _ _ ∷ room _ _ ∷ room _ _ ∷ room _ _ ∷ room _ _ ∷ cell _ _ _ ∷ cell _ _ _ ∷ cell _ _ _ ∷ cell _ _ _ ∷ cell _ _ _ ∷ cell _ _ _ ∷ cell _ _ _ ∷ cell _ _ _ ∷ cell _ _ _ ∷ cell _ _ _ ∷ cell _ _ _ ∷ cell _ _ _ ∷ []) $ free0 ! $
+        assigns ! (of-opd ! (lit ! tt)) (from ! (stop !)) (init ! 82 refl (tt, record { fits = omega arith })) $
+        returns-within ! Post refl (look ! 82 refl) $
+        frees-all ! (_ ∷ _ ∷ _ ∷ _ ∷ _ ∷ _ ∷ _ ∷ _ ∷ []) (room _ _ ∷ room _ _ ∷ room _ _ ∷ room _ _ ∷ room _ _ ∷ room _ _ ∷ room _ _ ∷ room _ _ ∷ room _ _ ∷ room _ _ ∷ room _ _ ∷ room _ _ ∷ room _ _ ∷ room _ _ ∷ room _ _ ∷ room _ _ ∷ room _ _ ∷ room _ _ ∷ cell _ _ _ ∷ cell _ _ _ ∷ room _ _ ∷ room _ _ ∷ room _ _ ∷ room _ _ ∷ room _ _ ∷ room _ _ ∷ cell _ _ _ ∷ cell _ _ _ ∷ cell _ _ _ ∷ cell _ _ _ ∷ cell _ _ _ ∷ cell _ _ _ ∷ cell _ _ _ ∷ cell _ _ _ ∷ cell _ _ _ ∷ cell _ _ _ ∷ cell _ _ _ ∷ cell _ _ _ ∷ []) $ free0 ! $
         by ! (ends-not _ (refl, omega arith) (unequal (length ys) 6 other)))
         (λ six₀. let six = equal (length ys) 6 six₀ in
-        assigns ! (addr ! (from ! (fld ! refl (hop ! (look-in ! 74 (sub ! 0 refl (whole !))) (stop !))))) (from ! (stop !)) (init ! 38 refl (tt, tt)) $
-        assigns ! (agg ! (and-then ! (load ! (from ! (stop !)) (look ! 38 refl)) (and-then ! (load ! (from ! (fld ! refl (stop !))) (look-in ! 74 (sub ! 1 refl (whole !)))) (no-more !)))) (from ! (stop !)) (init ! 36 refl (tt, (tt, (record { fits = room₀ .0 }, tt)))) $
+        assigns ! (addr ! (from ! (fld ! refl (hop ! (look-in ! 80 (sub ! 0 refl (whole !))) (stop !))))) (from ! (stop !)) (init ! 42 refl (tt, tt)) $
+        assigns ! (agg ! (and-then ! (load ! (from ! (stop !)) (look ! 42 refl)) (and-then ! (load ! (from ! (fld ! refl (stop !))) (look-in ! 80 (sub ! 1 refl (whole !)))) (no-more !)))) (from ! (stop !)) (init ! 40 refl (tt, (tt, (record { fits = room₀ .0 }, tt)))) $
         calls-lending ! fm (slice-read R b₀ o₀ κ₀ q₀ γ₀ ys W room₀) (Find 𝓤 H A mem run) known-find (to-find 𝓤 H A W mem run b₀ o₀ ys ticket g₃) (asks-find 𝓤 H A W mem run b₀ o₀ ys ticket g₃) (λ u. Is usize (rowOf ticket ys) (u ∷ [])) (gives-find 𝓤 H A W mem run b₀ o₀ ys ticket g₃)
-        (λ ν δ i j. (and-then ! (load ! (from ! (stop !)) (look ! 36 refl)) (and-then ! (load ! (from ! (stop !)) (look ! 68 refl)) (no-more !)))) (λ v₁ is₁. land ! (from ! (stop !)) (init ! 52 refl (uint-lawful 𝓤 H A W w64 .typed (rowOf ticket ys) _ is₁ .0)) $
-        rewrite ! 52 (λ (w : Val). ‵ (fat fullShare (tyInt w64) l12 0 w)) (ap only (uint-tells w64 (rowOf ticket ys) _ is₁)) refl $
-        assigns ! (addr ! (from ! (fld ! refl (hop ! (look-in ! 74 (sub ! 0 refl (whole !))) (stop !))))) (from ! (stop !)) (init ! 34 refl (tt, tt)) $
-        assigns ! (agg ! (and-then ! (load ! (from ! (stop !)) (look ! 34 refl)) (and-then ! (load ! (from ! (fld ! refl (stop !))) (look-in ! 74 (sub ! 1 refl (whole !)))) (no-more !)))) (from ! (stop !)) (init ! 32 refl (tt, (tt, (record { fits = room₀ .0 }, tt)))) $
+        (λ ν δ i j. (and-then ! (load ! (from ! (stop !)) (look ! 40 refl)) (and-then ! (load ! (from ! (stop !)) (look ! 74 refl)) (no-more !)))) (λ v₁ is₁. land ! (from ! (stop !)) (init ! 58 refl (uint-lawful 𝓤 H A W w64 .typed (rowOf ticket ys) _ is₁ .0)) $
+        rewrite ! 58 (λ (w : Val). ‵ (fat fullShare (tyInt w64) l12 0 w)) (ap only (uint-tells w64 (rowOf ticket ys) _ is₁)) refl $
+        assigns ! (addr ! (from ! (fld ! refl (hop ! (look-in ! 80 (sub ! 0 refl (whole !))) (stop !))))) (from ! (stop !)) (init ! 38 refl (tt, tt)) $
+        assigns ! (agg ! (and-then ! (load ! (from ! (stop !)) (look ! 38 refl)) (and-then ! (load ! (from ! (fld ! refl (stop !))) (look-in ! 80 (sub ! 1 refl (whole !)))) (no-more !)))) (from ! (stop !)) (init ! 36 refl (tt, (tt, (record { fits = room₀ .0 }, tt)))) $
+        calls-lending ! fm (slice-read R b₀ o₀ κ₀ q₀ γ₀ ys W room₀) (Row 𝓤 H A mem run) known-row (to-row 𝓤 H A W mem run b₀ o₀ ys (rowOf ticket ys) (is₁ .1)) (asks-row 𝓤 H A W mem run b₀ o₀ ys (rowOf ticket ys) (is₁ .1)) (λ u. Is R (rowAt ys (rowOf ticket ys)) (u ∷ [])) (gives-row 𝓤 H A W mem run b₀ o₀ ys (rowOf ticket ys) (is₁ .1))
+        (λ ν δ i j. (and-then ! (load ! (from ! (stop !)) (look ! 36 refl)) (and-then ! (load ! (from ! (stop !)) (look ! 58 refl)) (no-more !)))) (λ v₂ is₂. land ! (from ! (stop !)) (init ! 56 refl (lawful 𝓤 H A W .typed (rowAt ys (rowOf ticket ys)) _ is₂ .0)) $
+        assigns ! (addr ! (from ! (fld ! refl (hop ! (look-in ! 80 (sub ! 0 refl (whole !))) (stop !))))) (from ! (stop !)) (init ! 34 refl (tt, tt)) $
+        assigns ! (agg ! (and-then ! (load ! (from ! (stop !)) (look ! 34 refl)) (and-then ! (load ! (from ! (fld ! refl (stop !))) (look-in ! 80 (sub ! 1 refl (whole !)))) (no-more !)))) (from ! (stop !)) (init ! 32 refl (tt, (tt, (record { fits = room₀ .0 }, tt)))) $
         calls-lending ! fm (slice-read R b₀ o₀ κ₀ q₀ γ₀ ys W room₀) (Load 𝓤 H A mem run) known-load (to-load 𝓤 H A W mem run b₀ o₀ ys) (asks-load 𝓤 H A W mem run b₀ o₀ ys) (λ u. Is (Array R 6) (loaded ys) (u ∷ [])) (gives-load 𝓤 H A W mem run b₀ o₀ ys)
-        (λ ν δ i j. (and-then ! (load ! (from ! (stop !)) (look ! 32 refl)) (no-more !))) (λ v₅ is₅. land ! (from ! (stop !)) (init ! 50 refl (array-lawful 𝓤 H A W R (lawful 𝓤 H A W) 6 .typed (loaded ys) _ is₅ .0)) $
+        (λ ν δ i j. (and-then ! (load ! (from ! (stop !)) (look ! 32 refl)) (no-more !))) (λ v₅ is₅. land ! (from ! (stop !)) (init ! 54 refl (array-lawful 𝓤 H A W R (lawful 𝓤 H A W) 6 .typed (loaded ys) _ is₅ .0)) $
         move ! (2 ∷ 3 ∷ []) $
         calls-lending ! fm (ref-shared U.R b₁ o₁ κ₁ q₁ γ₁ h W U.vals U.tells (U.copies 𝓤 H A W)) (CopyOut 𝓤 H A mem run U.turn) known-copy (to-copy-out 𝓤 H A W mem run U.turn b₁ o₁ h) (asks-copy-out 𝓤 H A W mem run U.turn b₁ o₁ h) (λ u. Is U.R h (u ∷ [])) (gives-copy-out 𝓤 H A W mem run U.turn b₁ o₁ h)
-        (λ ν δ i j. (and-then ! (load ! (from ! (stop !)) (look ! 72 refl)) (no-more !))) (λ v₃ is₃. land ! (from ! (stop !)) (init ! 48 refl (U.lawful 𝓤 H A W .typed h _ is₃ .0)) $
-        assigns ! (addr ! (from ! (hop ! (look ! 70 refl) (stop !)))) (from ! (stop !)) (init ! 30 refl (tt, tt)) $
+        (λ ν δ i j. (and-then ! (load ! (from ! (stop !)) (look ! 78 refl)) (no-more !))) (λ v₃ is₃. land ! (from ! (stop !)) (init ! 52 refl (U.lawful 𝓤 H A W .typed h _ is₃ .0)) $
+        assigns ! (addr ! (from ! (hop ! (look ! 76 refl) (stop !)))) (from ! (stop !)) (init ! 30 refl (tt, tt)) $
         move ! (4 ∷ 5 ∷ []) $
         calls-lending ! fm (ref-read N.R b₂ o₂ κ₂ q₂ γ₂ c W) (CopyOut 𝓤 H A mem run N.counts) known-copied (to-copy-out 𝓤 H A W mem run N.counts b₂ o₂ c) (asks-copy-out 𝓤 H A W mem run N.counts b₂ o₂ c) (λ u. Is N.R c (u ∷ [])) (gives-copy-out 𝓤 H A W mem run N.counts b₂ o₂ c)
-        (λ ν δ i j. (and-then ! (load ! (from ! (stop !)) (look ! 30 refl)) (no-more !))) (λ v₇ is₇. land ! (from ! (stop !)) (init ! 46 refl (N.lawful 𝓤 H A W .typed c _ is₇ .0)) $
-        assigns ! (addr ! (from ! (fld ! refl (hop ! (look-in ! 66 (sub ! 0 refl (whole !))) (stop !))))) (from ! (stop !)) (init ! 28 refl (tt, tt)) $
-        assigns ! (agg ! (and-then ! (load ! (from ! (stop !)) (look ! 28 refl)) (and-then ! (load ! (from ! (fld ! refl (stop !))) (look-in ! 66 (sub ! 1 refl (whole !)))) (no-more !)))) (from ! (stop !)) (init ! 26 refl (tt, (tt, (record { fits = room₄ .0 }, tt)))) $
-        assigns ! (addr ! (from ! (fld ! refl (hop ! (look-in ! 64 (sub ! 0 refl (whole !))) (stop !))))) (from ! (stop !)) (init ! 24 refl (tt, tt)) $
-        assigns ! (agg ! (and-then ! (load ! (from ! (stop !)) (look ! 24 refl)) (and-then ! (load ! (from ! (fld ! refl (stop !))) (look-in ! 64 (sub ! 1 refl (whole !)))) (no-more !)))) (from ! (stop !)) (init ! 22 refl (tt, (tt, (record { fits = room₅ .0 }, tt)))) $
+        (λ ν δ i j. (and-then ! (load ! (from ! (stop !)) (look ! 30 refl)) (no-more !))) (λ v₇ is₇. land ! (from ! (stop !)) (init ! 50 refl (N.lawful 𝓤 H A W .typed c _ is₇ .0)) $
+        assigns ! (addr ! (from ! (fld ! refl (hop ! (look-in ! 72 (sub ! 0 refl (whole !))) (stop !))))) (from ! (stop !)) (init ! 28 refl (tt, tt)) $
+        assigns ! (agg ! (and-then ! (load ! (from ! (stop !)) (look ! 28 refl)) (and-then ! (load ! (from ! (fld ! refl (stop !))) (look-in ! 72 (sub ! 1 refl (whole !)))) (no-more !)))) (from ! (stop !)) (init ! 26 refl (tt, (tt, (record { fits = room₄ .0 }, tt)))) $
+        assigns ! (addr ! (from ! (fld ! refl (hop ! (look-in ! 70 (sub ! 0 refl (whole !))) (stop !))))) (from ! (stop !)) (init ! 24 refl (tt, tt)) $
+        assigns ! (agg ! (and-then ! (load ! (from ! (stop !)) (look ! 24 refl)) (and-then ! (load ! (from ! (fld ! refl (stop !))) (look-in ! 70 (sub ! 1 refl (whole !)))) (no-more !)))) (from ! (stop !)) (init ! 22 refl (tt, (tt, (record { fits = room₅ .0 }, tt)))) $
         move ! (6 ∷ 7 ∷ []) $
         -- the call by value
-        use2 W (raw (ByValue 𝓤 H A mem run .pre (to-call v₅ v₃ v₇))) (asks-call (is₁ .1) v₅ v₃ v₇ is₅ is₃ is₇) $
-        calls-at ! fm (ByValue 𝓤 H A mem run) known-call (to-call v₅ v₃ v₇) (and-then ! (load ! (from ! (stop !)) (look ! 51 refl)) (and-then ! (load ! (from ! (stop !)) (look ! 49 refl)) (and-then ! (load ! (from ! (stop !)) (look ! 47 refl)) (and-then ! (load ! (from ! (stop !)) (look ! 45 refl)) (and-then ! (load ! (from ! (stop !)) (look ! 25 refl)) (and-then ! (load ! (from ! (stop !)) (look ! 21 refl)) (and-then ! (load ! (from ! (stop !)) (look ! 61 refl)) (and-then ! (load ! (from ! (stop !)) (look ! 59 refl)) (and-then ! (load ! (from ! (stop !)) (look ! 57 refl)) (and-then ! (load ! (from ! (stop !)) (look ! 55 refl)) (and-then ! (load ! (from ! (stop !)) (look ! 53 refl)) (no-more !)))))))))))) (λ u.
-        use1 W (later (some (λ (r : Changed). (Toks ⊛ ‵ (D.the-row .own r (u ∷ []))) ⊛ some (λ (ws : Lasts call.ended κs₁ a₁). ‵ (lasts call.ended κs₁ a₁ ws) ⊛ raw (fact 𝓤 (WriteOn (rowOf ticket ys) (loaded ys) h c items writes stamps classes places item value r (ws .1 .1 .1 .1 .0) (ws .1 .1 .1 .1 .1 .0))))))) (id⊢ 𝓤 _) $ await ! tt $ pick ! (λ r. split ! $ move ! (1 ∷ []) $ pick ! (λ ws.
-        split ! $ move ! (1 ∷ []) $ heard ! (WriteOn (rowOf ticket ys) (loaded ys) h c items writes stamps classes places item value r (ws .1 .1 .1 .1 .0) (ws .1 .1 .1 .1 .1 .0)) (λ said. fsplit ! $ drop ! $ fsplit ! $ drop ! $ fsplit ! $ drop ! $ fsplit ! $ drop ! $ nothing ! $ fjoin ! $ move ! (1 ∷ []) $ split ! $ move ! (1 ∷ []) $
+        use2 W (raw (ByValue 𝓤 H A mem run .pre (to-call v₂ v₅ v₃ v₇))) (asks-call (is₁ .1) v₂ v₅ v₃ v₇ is₂ is₅ is₃ is₇) $
+        calls-at ! fm (ByValue 𝓤 H A mem run) known-call (to-call v₂ v₅ v₃ v₇) (and-then ! (load ! (from ! (stop !)) (look ! 57 refl)) (and-then ! (load ! (from ! (stop !)) (look ! 55 refl)) (and-then ! (load ! (from ! (stop !)) (look ! 53 refl)) (and-then ! (load ! (from ! (stop !)) (look ! 51 refl)) (and-then ! (load ! (from ! (stop !)) (look ! 49 refl)) (and-then ! (load ! (from ! (stop !)) (look ! 25 refl)) (and-then ! (load ! (from ! (stop !)) (look ! 21 refl)) (and-then ! (load ! (from ! (stop !)) (look ! 67 refl)) (and-then ! (load ! (from ! (stop !)) (look ! 65 refl)) (and-then ! (load ! (from ! (stop !)) (look ! 63 refl)) (and-then ! (load ! (from ! (stop !)) (look ! 61 refl)) (and-then ! (load ! (from ! (stop !)) (look ! 59 refl)) (no-more !))))))))))))) (λ u.
+        use1 W (later (some (λ (r : Changed). (Toks ⊛ ‵ (D.the-row .own r (u ∷ []))) ⊛ some (λ (ws : Lasts call.ended κs₁ a₁). ‵ (lasts call.ended κs₁ a₁ ws) ⊛ raw (fact 𝓤 (WriteOn (rowOf ticket ys) (rowAt ys (rowOf ticket ys)) (loaded ys) h c items writes stamps classes places item value r (ws .1 .1 .1 .1 .1 .0) (ws .1 .1 .1 .1 .1 .1 .0))))))) (id⊢ 𝓤 _) $ await ! tt $ pick ! (λ r. split ! $ move ! (1 ∷ []) $ pick ! (λ ws.
+        split ! $ move ! (1 ∷ []) $ heard ! (WriteOn (rowOf ticket ys) (rowAt ys (rowOf ticket ys)) (loaded ys) h c items writes stamps classes places item value r (ws .1 .1 .1 .1 .1 .0) (ws .1 .1 .1 .1 .1 .1 .0)) (λ said. fsplit ! $ drop ! $ fsplit ! $ drop ! $ fsplit ! $ drop ! $ fsplit ! $ drop ! $ fsplit ! $ drop ! $ nothing ! $ fjoin ! $ move ! (1 ∷ []) $ split ! $ move ! (1 ∷ []) $
         peeks ! D.the-row (Is D.the-row) (shows 𝓤 H A D.the-row) r (u ∷ []) (λ is. drop ! $
-        land ! (from ! (stop !)) (init ! 44 refl (LL.lawful D.the-type D′.the-laws 𝓤 H A W .typed r _ is .0)) $
-        rewrite ! 44 (λ (w : Val). ‵ (fat fullShare D′.mir l16 0 w)) (ap only (LL.tells D.the-type D′.the-laws r _ is)) refl $
+        land ! (from ! (stop !)) (init ! 48 refl (LL.lawful D.the-type D′.the-laws 𝓤 H A W .typed r _ is .0)) $
+        rewrite ! 48 (λ (w : Val). ‵ (fat fullShare D′.mir l17 0 w)) (ap only (LL.tells D.the-type D′.the-laws r _ is)) refl $
         let fields = LL.owed D.the-type D′.the-laws r _ is in
-        assigns ! (bin ! (load ! (from ! (fld ! refl (stop !))) (look-in ! 44 (sub ! 0 refl (whole !)))) (lit ! tt) tt) (from ! (stop !)) (store ! 40 refl (tt, tt)) $
-        when ! (load ! (from ! (stop !)) (look ! 40 refl)) (λ taken₀.
-        assigns ! (addr ! (from ! (fld ! refl (hop ! (look-in ! 74 (sub ! 0 refl (whole !))) (stop !))))) (from ! (stop !)) (init ! 18 refl (tt, tt)) $
-        assigns ! (agg ! (and-then ! (load ! (from ! (stop !)) (look ! 18 refl)) (and-then ! (load ! (from ! (fld ! refl (stop !))) (look-in ! 74 (sub ! 1 refl (whole !)))) (no-more !)))) (from ! (stop !)) (init ! 16 refl (tt, (tt, (record { fits = room₀ .0 }, tt)))) $
+        assigns ! (bin ! (load ! (from ! (fld ! refl (stop !))) (look-in ! 48 (sub ! 0 refl (whole !)))) (lit ! tt) tt) (from ! (stop !)) (store ! 44 refl (tt, tt)) $
+        when ! (load ! (from ! (stop !)) (look ! 44 refl)) (λ taken₀.
+        assigns ! (addr ! (from ! (fld ! refl (hop ! (look-in ! 80 (sub ! 0 refl (whole !))) (stop !))))) (from ! (stop !)) (init ! 18 refl (tt, tt)) $
+        assigns ! (agg ! (and-then ! (load ! (from ! (stop !)) (look ! 18 refl)) (and-then ! (load ! (from ! (fld ! refl (stop !))) (look-in ! 80 (sub ! 1 refl (whole !)))) (no-more !)))) (from ! (stop !)) (init ! 16 refl (tt, (tt, (record { fits = room₀ .0 }, tt)))) $
         move ! (6 ∷ 7 ∷ []) $
         calls-lending ! fm (slice-lent R b₀ o₀ κ₀ q₀ γ₀ ys W room₀ (set ys (rowOf ticket ys) closed) (length-set ys (rowOf ticket ys) closed)) (End 𝓤 H A mem run) known-end (to-end 𝓤 H A W mem run b₀ o₀ ys (rowOf ticket ys) (is₁ .1)) (asks-end 𝓤 H A W mem run b₀ o₀ ys (rowOf ticket ys) (is₁ .1)) (λ u. u ≡ vunit) (gives-end 𝓤 H A W mem run b₀ o₀ ys (rowOf ticket ys) (is₁ .1))
-        (λ ν δ i j. (and-then ! (load ! (from ! (stop !)) (look ! 16 refl)) (and-then ! (load ! (from ! (stop !)) (look ! 52 refl)) (no-more !)))) (λ w₁ e₁. land ! (from ! (stop !)) (init ! 20 refl (unit-typed w₁ e₁)) $
-        assigns ! (addr ! (from ! (hop ! (look ! 70 refl) (stop !)))) (from ! (stop !)) (init ! 14 refl (tt, tt)) $
+        (λ ν δ i j. (and-then ! (load ! (from ! (stop !)) (look ! 16 refl)) (and-then ! (load ! (from ! (stop !)) (look ! 58 refl)) (no-more !)))) (λ w₁ e₁. land ! (from ! (stop !)) (init ! 20 refl (unit-typed w₁ e₁)) $
+        assigns ! (addr ! (from ! (hop ! (look ! 76 refl) (stop !)))) (from ! (stop !)) (init ! 14 refl (tt, tt)) $
         move ! (4 ∷ 5 ∷ []) $
         calls-lending ! fm (ref-lent N.R b₂ o₂ κ₂ q₂ γ₂ c W (withAborted c (r .counts .aborted))) (StoreOne 𝓤 H A mem run N.counts N.aborted) known-aborted (to-store-one 𝓤 H A W mem run N.counts N.aborted b₂ o₂ c (r .counts .aborted) (LL.owed Q.the-type Q′.the-laws (r .counts) _ (fields .1 .0) .1 .1 .1 .1 .1 .1 .1 .0 .1)) (asks-store-one 𝓤 H A W mem run N.counts N.aborted b₂ o₂ c (r .counts .aborted) (LL.owed Q.the-type Q′.the-laws (r .counts) _ (fields .1 .0) .1 .1 .1 .1 .1 .1 .1 .0 .1)) (λ u. u ≡ vunit) (gives-store-one 𝓤 H A W mem run N.counts N.aborted b₂ o₂ c (r .counts .aborted) (LL.owed Q.the-type Q′.the-laws (r .counts) _ (fields .1 .0) .1 .1 .1 .1 .1 .1 .1 .0 .1))
-        (λ ν δ i j. (and-then ! (load ! (from ! (stop !)) (look ! 14 refl)) (and-then ! (load ! (from ! (fld ! refl (fld ! refl (stop !)))) (look-in ! 44 (sub ! 7 refl (sub ! 1 refl (whole !))))) (no-more !)))) (λ w₂ e₂. land ! (from ! (stop !)) (store ! 20 refl (unit-typed w₂ e₂)) $
-        assigns ! (of-opd ! (lit ! tt)) (from ! (stop !)) (init ! 76 refl (tt, record { fits = omega arith })) $
-        returns-within ! Post refl (look ! 76 refl) $
-        frees-all ! (_ ∷ _ ∷ _ ∷ _ ∷ _ ∷ _ ∷ _ ∷ _ ∷ []) (room _ _ ∷ room _ _ ∷ room _ _ ∷ cell _ _ _ ∷ cell _ _ _ ∷ cell _ _ _ ∷ cell _ _ _ ∷ cell _ _ _ ∷ cell _ _ _ ∷ cell _ _ _ ∷ cell _ _ _ ∷ cell _ _ _ ∷ cell _ _ _ ∷ cell _ _ _ ∷ cell _ _ _ ∷ cell _ _ _ ∷ cell _ _ _ ∷ cell _ _ _ ∷ cell _ _ _ ∷ cell _ _ _ ∷ cell _ _ _ ∷ cell _ _ _ ∷ cell _ _ _ ∷ cell _ _ _ ∷ cell _ _ _ ∷ cell _ _ _ ∷ cell _ _ _ ∷ cell _ _ _ ∷ cell _ _ _ ∷ cell _ _ _ ∷ cell _ _ _ ∷ cell _ _ _ ∷ cell _ _ _ ∷ cell _ _ _ ∷ cell _ _ _ ∷ []) $ free0 ! $
+        (λ ν δ i j. (and-then ! (load ! (from ! (stop !)) (look ! 14 refl)) (and-then ! (load ! (from ! (fld ! refl (fld ! refl (stop !)))) (look-in ! 48 (sub ! 7 refl (sub ! 1 refl (whole !))))) (no-more !)))) (λ w₂ e₂. land ! (from ! (stop !)) (store ! 20 refl (unit-typed w₂ e₂)) $
+        assigns ! (of-opd ! (lit ! tt)) (from ! (stop !)) (init ! 82 refl (tt, record { fits = omega arith })) $
+        returns-within ! Post refl (look ! 82 refl) $
+        frees-all ! (_ ∷ _ ∷ _ ∷ _ ∷ _ ∷ _ ∷ _ ∷ _ ∷ []) (room _ _ ∷ room _ _ ∷ room _ _ ∷ cell _ _ _ ∷ cell _ _ _ ∷ cell _ _ _ ∷ cell _ _ _ ∷ cell _ _ _ ∷ cell _ _ _ ∷ cell _ _ _ ∷ cell _ _ _ ∷ cell _ _ _ ∷ cell _ _ _ ∷ cell _ _ _ ∷ cell _ _ _ ∷ cell _ _ _ ∷ cell _ _ _ ∷ cell _ _ _ ∷ cell _ _ _ ∷ cell _ _ _ ∷ cell _ _ _ ∷ cell _ _ _ ∷ cell _ _ _ ∷ cell _ _ _ ∷ cell _ _ _ ∷ cell _ _ _ ∷ cell _ _ _ ∷ cell _ _ _ ∷ cell _ _ _ ∷ cell _ _ _ ∷ cell _ _ _ ∷ cell _ _ _ ∷ cell _ _ _ ∷ cell _ _ _ ∷ cell _ _ _ ∷ cell _ _ _ ∷ cell _ _ _ ∷ cell _ _ _ ∷ []) $ free0 ! $
         move ! (2 ∷ 3 ∷ 6 ∷ 7 ∷ 0 ∷ 1 ∷ 5 ∷ 4 ∷ []) $
-        by ! (ends _ (9) (set ys (rowOf ticket ys) closed) (withAborted c (r .counts .aborted)) (ws .1 .1 .1 .1 .0) (ws .1 .1 .1 .1 .1 .0) (refl, omega arith) (length-set ys (rowOf ticket ys) closed) (write-stale ys h c ticket items writes stamps classes places item value r (ws .1 .1 .1 .1 .0) (ws .1 .1 .1 .1 .1 .0) six said (eqb→eq (r .number) 9 taken₀))))))
+        by ! (ends _ (9) (set ys (rowOf ticket ys) closed) (withAborted c (r .counts .aborted)) (ws .1 .1 .1 .1 .1 .0) (ws .1 .1 .1 .1 .1 .1 .0) (refl, omega arith) (length-set ys (rowOf ticket ys) closed) (write-stale ys h c ticket items writes stamps classes places item value r (ws .1 .1 .1 .1 .1 .0) (ws .1 .1 .1 .1 .1 .1 .0) six said (eqb→eq (r .number) 9 taken₀))))))
         (λ over₀.
-        assigns ! (bin ! (load ! (from ! (fld ! refl (stop !))) (look-in ! 44 (sub ! 0 refl (whole !)))) (lit ! tt) tt) (from ! (stop !)) (store ! 40 refl (tt, tt)) $
-        when ! (load ! (from ! (stop !)) (look ! 40 refl)) (λ taken₁.
-        assigns ! (of-opd ! (load ! (from ! (fld ! refl (stop !))) (look-in ! 44 (sub ! 0 refl (whole !))))) (from ! (stop !)) (init ! 76 refl (tt, record { fits = fields .0 .1 })) $
-        returns-within ! Post refl (look ! 76 refl) $
-        frees-all ! (_ ∷ _ ∷ _ ∷ _ ∷ _ ∷ _ ∷ _ ∷ _ ∷ []) (room _ _ ∷ room _ _ ∷ room _ _ ∷ room _ _ ∷ room _ _ ∷ room _ _ ∷ room _ _ ∷ cell _ _ _ ∷ cell _ _ _ ∷ cell _ _ _ ∷ cell _ _ _ ∷ cell _ _ _ ∷ cell _ _ _ ∷ cell _ _ _ ∷ cell _ _ _ ∷ cell _ _ _ ∷ cell _ _ _ ∷ cell _ _ _ ∷ cell _ _ _ ∷ cell _ _ _ ∷ cell _ _ _ ∷ cell _ _ _ ∷ cell _ _ _ ∷ cell _ _ _ ∷ cell _ _ _ ∷ cell _ _ _ ∷ cell _ _ _ ∷ cell _ _ _ ∷ cell _ _ _ ∷ cell _ _ _ ∷ cell _ _ _ ∷ cell _ _ _ ∷ cell _ _ _ ∷ cell _ _ _ ∷ cell _ _ _ ∷ []) $ free0 ! $
+        assigns ! (bin ! (load ! (from ! (fld ! refl (stop !))) (look-in ! 48 (sub ! 0 refl (whole !)))) (lit ! tt) tt) (from ! (stop !)) (store ! 44 refl (tt, tt)) $
+        when ! (load ! (from ! (stop !)) (look ! 44 refl)) (λ taken₁.
+        assigns ! (of-opd ! (load ! (from ! (fld ! refl (stop !))) (look-in ! 48 (sub ! 0 refl (whole !))))) (from ! (stop !)) (init ! 82 refl (tt, record { fits = fields .0 .1 })) $
+        returns-within ! Post refl (look ! 82 refl) $
+        frees-all ! (_ ∷ _ ∷ _ ∷ _ ∷ _ ∷ _ ∷ _ ∷ _ ∷ []) (room _ _ ∷ room _ _ ∷ room _ _ ∷ room _ _ ∷ room _ _ ∷ room _ _ ∷ room _ _ ∷ cell _ _ _ ∷ cell _ _ _ ∷ cell _ _ _ ∷ cell _ _ _ ∷ cell _ _ _ ∷ cell _ _ _ ∷ cell _ _ _ ∷ cell _ _ _ ∷ cell _ _ _ ∷ cell _ _ _ ∷ cell _ _ _ ∷ cell _ _ _ ∷ cell _ _ _ ∷ cell _ _ _ ∷ cell _ _ _ ∷ cell _ _ _ ∷ cell _ _ _ ∷ cell _ _ _ ∷ cell _ _ _ ∷ cell _ _ _ ∷ cell _ _ _ ∷ cell _ _ _ ∷ cell _ _ _ ∷ cell _ _ _ ∷ cell _ _ _ ∷ cell _ _ _ ∷ cell _ _ _ ∷ cell _ _ _ ∷ cell _ _ _ ∷ cell _ _ _ ∷ cell _ _ _ ∷ []) $ free0 ! $
         move ! (6 ∷ 7 ∷ 4 ∷ 5 ∷ 2 ∷ 3 ∷ 1 ∷ 0 ∷ []) $
-        by ! (ends _ (r .number) ys c (ws .1 .1 .1 .1 .0) (ws .1 .1 .1 .1 .1 .0) (fields .0) refl (write-kept ys h c ticket items writes stamps classes places item value r (ws .1 .1 .1 .1 .0) (ws .1 .1 .1 .1 .1 .0) six said (missed (r .number) 9 over₀) (unequal (r .number) 0 taken₁))))
+        by ! (ends _ (r .number) ys c (ws .1 .1 .1 .1 .1 .0) (ws .1 .1 .1 .1 .1 .1 .0) (fields .0) refl (write-kept ys h c ticket items writes stamps classes places item value r (ws .1 .1 .1 .1 .1 .0) (ws .1 .1 .1 .1 .1 .1 .0) six said (missed (r .number) 9 over₀) (unequal (r .number) 0 taken₁))))
         (λ over₁.
-        assigns ! (addr ! (from ! (fld ! refl (hop ! (look-in ! 74 (sub ! 0 refl (whole !))) (stop !))))) (from ! (stop !)) (init ! 10 refl (tt, tt)) $
-        assigns ! (agg ! (and-then ! (load ! (from ! (stop !)) (look ! 10 refl)) (and-then ! (load ! (from ! (fld ! refl (stop !))) (look-in ! 74 (sub ! 1 refl (whole !)))) (no-more !)))) (from ! (stop !)) (init ! 8 refl (tt, (tt, (record { fits = room₀ .0 }, tt)))) $
+        assigns ! (addr ! (from ! (fld ! refl (hop ! (look-in ! 80 (sub ! 0 refl (whole !))) (stop !))))) (from ! (stop !)) (init ! 10 refl (tt, tt)) $
+        assigns ! (agg ! (and-then ! (load ! (from ! (stop !)) (look ! 10 refl)) (and-then ! (load ! (from ! (fld ! refl (stop !))) (look-in ! 80 (sub ! 1 refl (whole !)))) (no-more !)))) (from ! (stop !)) (init ! 8 refl (tt, (tt, (record { fits = room₀ .0 }, tt)))) $
         move ! (6 ∷ 7 ∷ []) $
         calls-lending ! fm (slice-lent R b₀ o₀ κ₀ q₀ γ₀ ys W room₀ (set ys (rowOf ticket ys) (r .row)) (length-set ys (rowOf ticket ys) (r .row))) (Put 𝓤 H A mem run) known-put (to-put 𝓤 H A W mem run b₀ o₀ ys (rowOf ticket ys) (is₁ .1) (r .row) (D′.the-laws .1 .1 .0 .val (T.the-type .to (r .row)))) (asks-put 𝓤 H A W mem run b₀ o₀ ys (rowOf ticket ys) (is₁ .1) (r .row) (D′.the-laws .1 .1 .0 .val (T.the-type .to (r .row))) (fields .1 .1 .0)) (λ u. u ≡ vunit) (gives-put 𝓤 H A W mem run b₀ o₀ ys (rowOf ticket ys) (is₁ .1) (r .row) (D′.the-laws .1 .1 .0 .val (T.the-type .to (r .row))))
-        (λ ν δ i j. (and-then ! (load ! (from ! (stop !)) (look ! 8 refl)) (and-then ! (load ! (from ! (stop !)) (look ! 52 refl)) (and-then ! (load ! (from ! (fld ! refl (stop !))) (look-in ! 44 (sub ! 2 refl (whole !)))) (no-more !))))) (λ w₁ e₁. land ! (from ! (stop !)) (init ! 12 refl (unit-typed w₁ e₁)) $
-        assigns ! (of-opd ! (lit ! tt)) (from ! (stop !)) (init ! 76 refl (tt, record { fits = omega arith })) $
-        returns ! (look ! 76 refl) $
-        frees-all ! (_ ∷ _ ∷ _ ∷ _ ∷ _ ∷ _ ∷ _ ∷ _ ∷ []) (cell _ _ _ ∷ cell _ _ _ ∷ cell _ _ _ ∷ room _ _ ∷ room _ _ ∷ room _ _ ∷ room _ _ ∷ cell _ _ _ ∷ cell _ _ _ ∷ cell _ _ _ ∷ cell _ _ _ ∷ cell _ _ _ ∷ cell _ _ _ ∷ cell _ _ _ ∷ cell _ _ _ ∷ cell _ _ _ ∷ cell _ _ _ ∷ cell _ _ _ ∷ cell _ _ _ ∷ cell _ _ _ ∷ cell _ _ _ ∷ cell _ _ _ ∷ cell _ _ _ ∷ cell _ _ _ ∷ cell _ _ _ ∷ cell _ _ _ ∷ cell _ _ _ ∷ cell _ _ _ ∷ cell _ _ _ ∷ cell _ _ _ ∷ cell _ _ _ ∷ cell _ _ _ ∷ cell _ _ _ ∷ cell _ _ _ ∷ cell _ _ _ ∷ []) $ free0 ! $
+        (λ ν δ i j. (and-then ! (load ! (from ! (stop !)) (look ! 8 refl)) (and-then ! (load ! (from ! (stop !)) (look ! 58 refl)) (and-then ! (load ! (from ! (fld ! refl (stop !))) (look-in ! 48 (sub ! 2 refl (whole !)))) (no-more !))))) (λ w₁ e₁. land ! (from ! (stop !)) (init ! 12 refl (unit-typed w₁ e₁)) $
+        assigns ! (of-opd ! (lit ! tt)) (from ! (stop !)) (init ! 82 refl (tt, record { fits = omega arith })) $
+        returns ! (look ! 82 refl) $
+        frees-all ! (_ ∷ _ ∷ _ ∷ _ ∷ _ ∷ _ ∷ _ ∷ _ ∷ []) (cell _ _ _ ∷ cell _ _ _ ∷ cell _ _ _ ∷ room _ _ ∷ room _ _ ∷ room _ _ ∷ room _ _ ∷ cell _ _ _ ∷ cell _ _ _ ∷ cell _ _ _ ∷ cell _ _ _ ∷ cell _ _ _ ∷ cell _ _ _ ∷ cell _ _ _ ∷ cell _ _ _ ∷ cell _ _ _ ∷ cell _ _ _ ∷ cell _ _ _ ∷ cell _ _ _ ∷ cell _ _ _ ∷ cell _ _ _ ∷ cell _ _ _ ∷ cell _ _ _ ∷ cell _ _ _ ∷ cell _ _ _ ∷ cell _ _ _ ∷ cell _ _ _ ∷ cell _ _ _ ∷ cell _ _ _ ∷ cell _ _ _ ∷ cell _ _ _ ∷ cell _ _ _ ∷ cell _ _ _ ∷ cell _ _ _ ∷ cell _ _ _ ∷ cell _ _ _ ∷ cell _ _ _ ∷ cell _ _ _ ∷ []) $ free0 ! $
         move ! (0 ∷ 1 ∷ 6 ∷ 7 ∷ 4 ∷ 5 ∷ 3 ∷ 2 ∷ []) $
-        by ! (ends _ (0) (set ys (rowOf ticket ys) (r .row)) c (ws .1 .1 .1 .1 .0) (ws .1 .1 .1 .1 .1 .0) (refl, omega arith) (length-set ys (rowOf ticket ys) (r .row)) (write-did ys h c ticket items writes stamps classes places item value r (ws .1 .1 .1 .1 .0) (ws .1 .1 .1 .1 .1 .0) six said (missed (r .number) 9 over₀) (equal (r .number) 0 over₁)))))))))))))))))))))))))))))))))))))))))))))))))))
+        by ! (ends _ (0) (set ys (rowOf ticket ys) (r .row)) c (ws .1 .1 .1 .1 .1 .0) (ws .1 .1 .1 .1 .1 .1 .0) (refl, omega arith) (length-set ys (rowOf ticket ys) (r .row)) (write-did ys h c ticket items writes stamps classes places item value r (ws .1 .1 .1 .1 .1 .0) (ws .1 .1 .1 .1 .1 .1 .0) six said (missed (r .number) 9 over₀) (equal (r .number) 0 over₁)))))))))))))))))))))))))))))))))))))))))))))))))))))))
 
 module _ {M : Type 1} (𝓤 : URA M) (H : Heap 𝓤) (A : Atoms 𝓤) (W : Given 𝓤 H A) (mem : Memory → SProp 𝓤) (run : Routine → Fun 𝓤) (𝓣 : Tables 𝓤 H)
-    (g-load : Triple 𝓤 (𝓣 .C #load) (Load 𝓤 H A mem run)) (g-find : Triple 𝓤 (𝓣 .C #find) (Find 𝓤 H A mem run)) (g-put : Triple 𝓤 (𝓣 .C #put) (Put 𝓤 H A mem run)) (g-end : Triple 𝓤 (𝓣 .C #end) (End 𝓤 H A mem run)) (g-copy : Triple 𝓤 (𝓣 .C #copy) (CopyOut 𝓤 H A mem run U.turn)) (g-copied : Triple 𝓤 (𝓣 .C #copied) (CopyOut 𝓤 H A mem run N.counts)) (g-aborted : Triple 𝓤 (𝓣 .C #aborted) (StoreOne 𝓤 H A mem run N.counts N.aborted)) (g-call : Triple 𝓤 (𝓣 .C #call) (ByValue 𝓤 H A mem run)) where
+    (g-load : Triple 𝓤 (𝓣 .C #load) (Load 𝓤 H A mem run)) (g-find : Triple 𝓤 (𝓣 .C #find) (Find 𝓤 H A mem run)) (g-row : Triple 𝓤 (𝓣 .C #row) (Row 𝓤 H A mem run)) (g-put : Triple 𝓤 (𝓣 .C #put) (Put 𝓤 H A mem run)) (g-end : Triple 𝓤 (𝓣 .C #end) (End 𝓤 H A mem run)) (g-copy : Triple 𝓤 (𝓣 .C #copy) (CopyOut 𝓤 H A mem run U.turn)) (g-copied : Triple 𝓤 (𝓣 .C #copied) (CopyOut 𝓤 H A mem run N.counts)) (g-aborted : Triple 𝓤 (𝓣 .C #aborted) (StoreOne 𝓤 H A mem run N.counts N.aborted)) (g-call : Triple 𝓤 (𝓣 .C #call) (ByValue 𝓤 H A mem run)) where
   walks : Walks 𝓤 H A own.ended stayed (WpFn 𝓤 H (𝓣 .C) (𝓣 .Λ) code.function) (own.clauses 𝓤 H A mem run)
   walks = walked 𝓤 H A own.ended stayed (own.clauses 𝓤 H A mem run) (WpFn 𝓤 H (𝓣 .C) (𝓣 .Λ) code.function) (λ κs. (slice-vals, (ptr-vals, (ptr-vals, (uint-vals w32, (slice-vals, (slice-vals, (slice-vals, (slice-vals, (slice-vals, (uint-vals w32, (sint-vals w32, tt)))))))))))) (λ κs. (mut-slice-tells (named 0) (κs .0) R, (shr-tells (named 1) (κs .1 .0) U.R, (mut-tells (named 2) (κs .1 .1 .0) N.R, (uint-tells w32, (mut-slice-tells (named 3) (κs .1 .1 .1 .0) u8, (mut-slice-tells (named 4) (κs .1 .1 .1 .1 .0) i32, (shr-slice-tells (named 5) (κs .1 .1 .1 .1 .1 .0) u32, (shr-slice-tells (named 6) (κs .1 .1 .1 .1 .1 .1 .0) u8, (shr-slice-tells (named 7) (κs .1 .1 .1 .1 .1 .1 .1 .0) u8, (uint-tells w32, (sint-tells w32, tt))))))))))))
-      (λ κs qs bounds a _ are. via 𝓤 _ (fst∗ 𝓤 _ (emp 𝓤)) (walk 𝓤 H A W mem run (κs .0) (qs .0) (κs .1 .0) (qs .1 .0) (κs .1 .1 .0) (qs .1 .1 .0) (κs .1 .1 .1 .0) (qs .1 .1 .1 .0) (κs .1 .1 .1 .1 .0) (qs .1 .1 .1 .1 .0) (κs .1 .1 .1 .1 .1 .0) (qs .1 .1 .1 .1 .1 .0) (κs .1 .1 .1 .1 .1 .1 .0) (qs .1 .1 .1 .1 .1 .1 .0) (κs .1 .1 .1 .1 .1 .1 .1 .0) (qs .1 .1 .1 .1 .1 .1 .1 .0) (a .0 .ptr .0) (a .0 .ptr .1) (a .0 .name) (a .0 .now) (are .0 .0 .1) (a .1 .0 .ptr .0) (a .1 .0 .ptr .1) (a .1 .0 .name) (a .1 .0 .now) (a .1 .1 .0 .ptr .0) (a .1 .1 .0 .ptr .1) (a .1 .1 .0 .name) (a .1 .1 .0 .now) (a .1 .1 .1 .0) (are .1 .1 .1 .0 .1) (a .1 .1 .1 .1 .0 .ptr .0) (a .1 .1 .1 .1 .0 .ptr .1) (a .1 .1 .1 .1 .0 .name) (a .1 .1 .1 .1 .0 .now) (are .1 .1 .1 .1 .0 .0 .1) (a .1 .1 .1 .1 .1 .0 .ptr .0) (a .1 .1 .1 .1 .1 .0 .ptr .1) (a .1 .1 .1 .1 .1 .0 .name) (a .1 .1 .1 .1 .1 .0 .now) (are .1 .1 .1 .1 .1 .0 .0 .1) (a .1 .1 .1 .1 .1 .1 .0 .ptr .0) (a .1 .1 .1 .1 .1 .1 .0 .ptr .1) (a .1 .1 .1 .1 .1 .1 .0 .name) (a .1 .1 .1 .1 .1 .1 .0 .now) (are .1 .1 .1 .1 .1 .1 .0 .0 .1) (a .1 .1 .1 .1 .1 .1 .1 .0 .ptr .0) (a .1 .1 .1 .1 .1 .1 .1 .0 .ptr .1) (a .1 .1 .1 .1 .1 .1 .1 .0 .name) (a .1 .1 .1 .1 .1 .1 .1 .0 .now) (are .1 .1 .1 .1 .1 .1 .1 .0 .0 .1) (a .1 .1 .1 .1 .1 .1 .1 .1 .0 .ptr .0) (a .1 .1 .1 .1 .1 .1 .1 .1 .0 .ptr .1) (a .1 .1 .1 .1 .1 .1 .1 .1 .0 .name) (a .1 .1 .1 .1 .1 .1 .1 .1 .0 .now) (are .1 .1 .1 .1 .1 .1 .1 .1 .0 .0 .1) (a .1 .1 .1 .1 .1 .1 .1 .1 .1 .0) (are .1 .1 .1 .1 .1 .1 .1 .1 .1 .0 .1) (a .1 .1 .1 .1 .1 .1 .1 .1 .1 .1 .0) (are .1 .1 .1 .1 .1 .1 .1 .1 .1 .1 .0) (𝓣 .C) (𝓣 .Λ) (fmOf 𝓤 H (W .laws) 𝓣) g-load g-find g-put g-end g-copy g-copied g-aborted g-call))
+      (λ κs qs bounds a _ are. via 𝓤 _ (fst∗ 𝓤 _ (emp 𝓤)) (walk 𝓤 H A W mem run (κs .0) (qs .0) (κs .1 .0) (qs .1 .0) (κs .1 .1 .0) (qs .1 .1 .0) (κs .1 .1 .1 .0) (qs .1 .1 .1 .0) (κs .1 .1 .1 .1 .0) (qs .1 .1 .1 .1 .0) (κs .1 .1 .1 .1 .1 .0) (qs .1 .1 .1 .1 .1 .0) (κs .1 .1 .1 .1 .1 .1 .0) (qs .1 .1 .1 .1 .1 .1 .0) (κs .1 .1 .1 .1 .1 .1 .1 .0) (qs .1 .1 .1 .1 .1 .1 .1 .0) (a .0 .ptr .0) (a .0 .ptr .1) (a .0 .name) (a .0 .now) (are .0 .0 .1) (a .1 .0 .ptr .0) (a .1 .0 .ptr .1) (a .1 .0 .name) (a .1 .0 .now) (a .1 .1 .0 .ptr .0) (a .1 .1 .0 .ptr .1) (a .1 .1 .0 .name) (a .1 .1 .0 .now) (a .1 .1 .1 .0) (are .1 .1 .1 .0 .1) (a .1 .1 .1 .1 .0 .ptr .0) (a .1 .1 .1 .1 .0 .ptr .1) (a .1 .1 .1 .1 .0 .name) (a .1 .1 .1 .1 .0 .now) (are .1 .1 .1 .1 .0 .0 .1) (a .1 .1 .1 .1 .1 .0 .ptr .0) (a .1 .1 .1 .1 .1 .0 .ptr .1) (a .1 .1 .1 .1 .1 .0 .name) (a .1 .1 .1 .1 .1 .0 .now) (are .1 .1 .1 .1 .1 .0 .0 .1) (a .1 .1 .1 .1 .1 .1 .0 .ptr .0) (a .1 .1 .1 .1 .1 .1 .0 .ptr .1) (a .1 .1 .1 .1 .1 .1 .0 .name) (a .1 .1 .1 .1 .1 .1 .0 .now) (are .1 .1 .1 .1 .1 .1 .0 .0 .1) (a .1 .1 .1 .1 .1 .1 .1 .0 .ptr .0) (a .1 .1 .1 .1 .1 .1 .1 .0 .ptr .1) (a .1 .1 .1 .1 .1 .1 .1 .0 .name) (a .1 .1 .1 .1 .1 .1 .1 .0 .now) (are .1 .1 .1 .1 .1 .1 .1 .0 .0 .1) (a .1 .1 .1 .1 .1 .1 .1 .1 .0 .ptr .0) (a .1 .1 .1 .1 .1 .1 .1 .1 .0 .ptr .1) (a .1 .1 .1 .1 .1 .1 .1 .1 .0 .name) (a .1 .1 .1 .1 .1 .1 .1 .1 .0 .now) (are .1 .1 .1 .1 .1 .1 .1 .1 .0 .0 .1) (a .1 .1 .1 .1 .1 .1 .1 .1 .1 .0) (are .1 .1 .1 .1 .1 .1 .1 .1 .1 .0 .1) (a .1 .1 .1 .1 .1 .1 .1 .1 .1 .1 .0) (are .1 .1 .1 .1 .1 .1 .1 .1 .1 .1 .0) (𝓣 .C) (𝓣 .Λ) (fmOf 𝓤 H (W .laws) 𝓣) g-load g-find g-row g-put g-end g-copy g-copied g-aborted g-call))
 
   meets : Meets 𝓤 H A own.signature (WpFn 𝓤 H (𝓣 .C) (𝓣 .Λ) code.function) (own.spec 𝓤 H A mem run)
   meets = walk-meets 𝓤 H A own.ended stayed W (goes-slice 𝓤 H A W 8 0 tt (plain (λ _. R)), (goes-handed 𝓤 H A W 8 (shrRefTo (1 ∷ []) tt (plain (λ _. U.R))) yes, (goes-ref 𝓤 H A W 8 2 tt (plain (λ _. N.R)), (goes-handed 𝓤 H A W 8 (plain (λ _. u32)) yes, (goes-handed 𝓤 H A W 8 (mutSliceOf (3 ∷ []) tt (plain (λ _. u8))) yes, (goes-handed 𝓤 H A W 8 (mutSliceOf (4 ∷ []) tt (plain (λ _. i32))) yes, (goes-handed 𝓤 H A W 8 (shrSliceOf (5 ∷ []) tt (plain (λ _. u32))) yes, (goes-handed 𝓤 H A W 8 (shrSliceOf (6 ∷ []) tt (plain (λ _. u8))) yes, (goes-handed 𝓤 H A W 8 (shrSliceOf (7 ∷ []) tt (plain (λ _. u8))) yes, (goes-handed 𝓤 H A W 8 (plain (λ _. u32)) yes, (goes-handed 𝓤 H A W 8 (plain (λ _. i32)) yes, tt))))))))))) (own.clauses 𝓤 H A mem run)
@@ -262,6 +269,7 @@ stemline-write-spec 𝓤 H 𝓜 𝓖 𝓡 =
     (meets 𝓤 H (𝓖 .A) (givenOf 𝓤 H 𝓜 𝓖) (𝓜 .mem) (𝓡 .run) (tablesOf 𝓤 H 𝓜 (tables 𝓤 H 𝓜 𝓡 code.env))
     (cited 𝓤 H (Load 𝓤 H (𝓖 .A) (𝓜 .mem) (𝓡 .run)) 𝓜 𝓡 code.env #load load-def.routine code.calls-host-table·load (load-thm.met 𝓤 H 𝓜 𝓖 𝓡))
     (cited 𝓤 H (Find 𝓤 H (𝓖 .A) (𝓜 .mem) (𝓡 .run)) 𝓜 𝓡 code.env #find find-def.routine code.calls-host-table·find (find-thm.met 𝓤 H 𝓜 𝓖 𝓡))
+    (cited 𝓤 H (Row 𝓤 H (𝓖 .A) (𝓜 .mem) (𝓡 .run)) 𝓜 𝓡 code.env #row row-def.routine code.calls-host-table·row (row-thm.met 𝓤 H 𝓜 𝓖 𝓡))
     (cited 𝓤 H (Put 𝓤 H (𝓖 .A) (𝓜 .mem) (𝓡 .run)) 𝓜 𝓡 code.env #put put-def.routine code.calls-host-table·put (put-thm.met 𝓤 H 𝓜 𝓖 𝓡))
     (cited 𝓤 H (End 𝓤 H (𝓖 .A) (𝓜 .mem) (𝓡 .run)) 𝓜 𝓡 code.env #end end-def.routine code.calls-host-table·end (end-thm.met 𝓤 H 𝓜 𝓖 𝓡))
     (cited 𝓤 H (CopyOut 𝓤 H (𝓖 .A) (𝓜 .mem) (𝓡 .run) U.turn) 𝓜 𝓡 code.env #copy copy-def.routine code.calls-host-table·copy-turn (copy-thm.met 𝓤 H 𝓜 𝓖 𝓡))
