@@ -34,9 +34,8 @@ impl Block {
     /// The block of these bytes. Refused by 1, 14, 15.
     pub fn read(bytes: &[u8]) -> Result<Block, Refusal> {
         let reply = ffi::block_header(bytes);
-        accepted(reply.number, reply.header)?;
+        let header = accepted(reply.number, reply.header)?;
         let bytes = bytes.try_into().map_err(|_| Refusal::WrongLength)?;
-        let header = reply.header;
         Ok(Block { bytes, header })
     }
 

@@ -5,9 +5,9 @@ use std::io::{self, Read};
 
 use crate::{Block, Refusal, BLOCK};
 
-/// The good blocks of a journal, in their order: those that a [`crate::Replica::restart`] commits in a group
-/// of the size that the first one names. They go up to the first that is torn, fails its check or form, is
-/// of a group of another size or is not of the next slot.
+/// The good blocks of a journal, in their order: those that a [`crate::Replica::restart`] commits in a
+/// group of the size that the first one names. They go up to the first that is torn, fails its check or
+/// form, is of a group of another size or is not of the next slot.
 #[derive(Debug)]
 pub struct Blocks<R> {
     source: R,

@@ -1,15 +1,15 @@
 //! Shows and checks journals and blocks.
 //!
-//! - `journal show FILE` prints a line for each good block, as [`Block`] writes it, and a last one that says
-//!   where they stop and why.
-//! - `journal check FILE` prints that last line alone. The status is 0 where the file is good blocks to its
-//!   end, 1 where they stop before.
-//! - `journal block HEX..` prints a line for each block given as hexadecimal digits; `journal block -` for those
-//!   on standard input, one on each line. The status is 1 where one of them is no good block.
+//! - `journal show FILE` prints a line for each good block, as [`Block`] writes it, and a last one that
+//!   says where they stop and why.
+//! - `journal check FILE` prints that last line alone. The status is 0 where the file is good blocks to
+//!   its end, 1 where they stop before.
+//! - `journal block HEX..` prints a line for each block given as hexadecimal digits; `journal block -` for
+//!   those on standard input, one on each line. The status is 1 where one of them is no good block.
 //!
-//! What is wrong is said in a line on standard error. The status is 2 where the arguments are none of these, and where
-//! something cannot be read or written. No file is locked or changed: the journal of a replica at work can be
-//! looked at too, and may then end in a torn block.
+//! What is wrong is said in a line on standard error. The status is 2 where the arguments are none of
+//! these, and where something cannot be read or printed. No file is locked or changed: the journal of a
+//! replica at work can be looked at too, and may then end in a torn block.
 
 use std::ffi::{OsStr, OsString};
 use std::fs::File;
@@ -64,8 +64,8 @@ fn run(arguments: &[OsString], out: &mut impl Write) -> Result<bool, End> {
     }
 }
 
-/// Where the good blocks of a file stop, and before that each of them if it is to be shown. Whether they go to
-/// the file's end.
+/// Prints where the good blocks of a file stop, and before that each of them if they are to be shown.
+/// Gives whether they go to the file's end.
 fn look(file: &Path, shown: bool, out: &mut impl Write) -> Result<bool, End> {
     let unread = |error| End::Cannot(format!("cannot read {}: {error}", file.display()));
     let source = File::open(file).map_err(unread)?;
@@ -104,7 +104,7 @@ fn ending(good: u64, stop: Stop, left: u64) -> String {
     }
 }
 
-/// A line for each block in hexadecimal digits. Whether all are good.
+/// Prints a line for each block in hexadecimal digits. Gives whether all are good.
 fn blocks(
     all: impl Iterator<Item = Result<String, End>>,
     out: &mut impl Write,
