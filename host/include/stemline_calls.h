@@ -1,5 +1,6 @@
-/* The twelve calls of the replica engine over parts that the host lends, for C99
- * and later, and for C++; their limits, numbers and structs.
+/* The twelve calls of the replica engine over parts that the host lends, and three
+ * functions that read a block, for C99 and later, and for C++; their limits, numbers
+ * and structs.
  *
  * Most hosts include stemline.h, which includes this and has a struct of all parts
  * of a replica with functions over it for the same calls. There stands how a group
@@ -128,6 +129,29 @@ typedef struct stemline_restart_reply {
     uint32_t count; /* blocks committed: the journal is to be cut to so many */
 } stemline_restart_reply;
 
+/* ---- What is read of a block */
+
+typedef struct stemline_header_values {
+    uint8_t kind; /* 1: a next, without records; 2: with count records */
+    uint8_t sender, replicas, count;
+    uint32_t slot;
+} stemline_header_values;
+
+typedef struct stemline_block_reply {
+    uint8_t number;
+    stemline_header_values header;
+} stemline_block_reply;
+
+typedef struct stemline_record_values {
+    uint32_t ticket;
+    uint8_t writes; /* how many entries it has */
+} stemline_record_values;
+
+typedef struct stemline_entry_values {
+    uint8_t item;
+    int32_t value; /* what the item is set to */
+} stemline_entry_values;
+
 /* ---- The calls over lent parts
  *
  * Each does what is said in stemline.h at the function over a stemline_replica of
@@ -211,6 +235,22 @@ stemline_work_reply stemline_work(
 uint8_t stemline_load(
     const stemline_turn *turn, uint8_t *classes, size_t classes_length,
     const uint8_t *given, size_t given_length);
+
+/* ---- The functions that read a block
+ *
+ * They look at the bytes lent and at nothing else; the bytes may have any length and
+ * content. The header of a good block is given with 0; else the number is 1 for a
+ * length other than STEMLINE_BLOCK, 14 for the check or 15 for the form. Of a good
+ * block record j is read for j below the header's count, and its entry e for e below
+ * the record's writes; both count from 0. Past the sixth record and the eighth entry,
+ * and at another length, all is 0. */
+
+stemline_block_reply stemline_block_header(const uint8_t *bytes, size_t bytes_length);
+
+stemline_record_values stemline_block_record(const uint8_t *bytes, size_t bytes_length, uint32_t j);
+
+stemline_entry_values stemline_block_entry(
+    const uint8_t *bytes, size_t bytes_length, uint32_t j, uint32_t e);
 
 #ifdef __cplusplus
 }

@@ -7,12 +7,14 @@ ghost use Rattle.block.specs.Numbers.{numberFrom};
 ghost use Rattle.block.specs.Answers.{numberAndHeader};
 
 // An entry of a record: an item and its new value.
+#[repr(C)]
 pub struct Entry {
     pub item: u8,
     pub value: i32,
 }
 
 // A block's first eight bytes.
+#[repr(C)]
 pub struct Header {
     pub kind: u8,
     pub sender: u8,
@@ -22,6 +24,7 @@ pub struct Header {
 }
 
 // A record's ticket and its number of writes.
+#[repr(C)]
 pub struct RecordHead {
     pub ticket: u32,
     pub writes: u8,

@@ -1,8 +1,11 @@
-//! The static library as Rust sees it: its structs, and its twelve functions as safe ones over slices,
-//! parameter by parameter those of `crates/replica_make`, `replica_client` and `replica_turn`. `host/include/stemline_calls.h` says the
-//! same in C; tests compare the layouts, and the parameters of all three.
+//! The static library as Rust sees it: its structs, and its functions as safe ones over slices, parameter
+//! by parameter those of `crates/replica_make`, `replica_client`, `replica_turn` and `replica_block`: the
+//! twelve calls at a replica, and three that read a block. `host/include/stemline_calls.h` says the same
+//! in C; tests compare the layouts, and the parameters of all three.
 //!
-//! Most hosts want [`crate::Replica`], which owns what the functions are lent.
+//! Most hosts want [`crate::Replica`], which owns what the calls are lent, and [`crate::Block`].
+
+use std::fmt;
 
 use crate::TABLE;
 
@@ -47,7 +50,7 @@ pub struct Counts {
     pub withdrawn: u32,
 }
 
-/// What a report says.
+/// What a report says. `{}` writes it in one line.
 #[repr(C)]
 #[derive(Clone, Copy, Debug, Default, PartialEq, Eq)]
 pub struct Report {
@@ -62,6 +65,20 @@ pub struct Report {
     pub read_only: u32,
     pub aborted: u32,
     pub withdrawn: u32,
+}
+
+/// `turn 7, commits 12; tickets 9: open 2, committed 4, read-only 1, aborted 1, withdrawn 1`
+impl fmt::Display for Report {
+    fn fmt(&self, f: &mut fmt::Formatter) -> fmt::Result {
+        let (turn, commits, tickets) = (self.turn, self.commits, self.tickets);
+        write!(f, "turn {turn}, commits {commits}; tickets {tickets}: ")?;
+        let (open, committed, read_only) = (self.open_count, self.committed, self.read_only);
+        write!(
+            f,
+            "open {open}, committed {committed}, read-only {read_only}, "
+        )?;
+        write!(f, "aborted {}, withdrawn {}", self.aborted, self.withdrawn)
+    }
 }
 
 /// Number 0 where the call is accepted; so in the replies below, which are zero in all else where it is
@@ -121,6 +138,47 @@ pub struct RestartReply {
     pub count: u32,
 }
 
+/// The first eight bytes of a block. Kind 1 is a *next*, without records; 2 has `count` records.
+#[repr(C)]
+#[derive(Clone, Copy, Debug, Default, PartialEq, Eq)]
+pub struct Header {
+    pub kind: u8,
+    pub sender: u8,
+    pub replicas: u8,
+    pub count: u8,
+    pub slot: u32,
+}
+
+#[repr(C)]
+#[derive(Clone, Copy, Debug, Default, PartialEq, Eq)]
+pub struct BlockReply {
+    pub number: u8,
+    pub header: Header,
+}
+
+/// A record's ticket and how many entries it has.
+#[repr(C)]
+#[derive(Clone, Copy, Debug, Default, PartialEq, Eq)]
+pub struct RecordHead {
+    pub ticket: u32,
+    pub writes: u8,
+}
+
+/// An item of a writeset and the value that it is set to.
+#[repr(C)]
+#[derive(Clone, Copy, Debug, Default, PartialEq, Eq)]
+pub struct Entry {
+    pub item: u8,
+    pub value: i32,
+}
+
+/// `5 = 84` for item 5 set to 84.
+impl fmt::Display for Entry {
+    fn fmt(&self, f: &mut fmt::Formatter) -> fmt::Result {
+        write!(f, "{} = {}", self.item, self.value)
+    }
+}
+
 // A wrong size would be memory that the library writes and Rust does not own.
 const _: () = {
     assert!(size_of::<Txn>() == 16);
@@ -133,6 +191,10 @@ const _: () = {
     assert!(size_of::<ReportReply>() == 36);
     assert!(size_of::<WorkReply>() == 36);
     assert!(size_of::<RestartReply>() == 8);
+    assert!(size_of::<Header>() == 8);
+    assert!(size_of::<BlockReply>() == 12);
+    assert!(size_of::<RecordHead>() == 8);
+    assert!(size_of::<Entry>() == 8);
 };
 
 /// Declares the library's functions and makes each a safe one. A slice crosses as its pointer and its
@@ -230,4 +292,15 @@ calls! {
 
     /// Puts the 128 classes given, each 1 to 8, in the place of those there. Refused by 1, 2, 23.
     fn load = stemline_load(turn: &Turn, classes: mut [u8], given: ref [u8]) -> u8;
+
+    /// The header of a block, or why the bytes are none: refused by 1, 14, 15.
+    fn block_header = stemline_block_header(bytes: ref [u8]) -> BlockReply;
+
+    /// Record `j` of a block, from 0, as the bytes stand. Zeros past the sixth, and where the bytes are
+    /// not 512.
+    fn block_record = stemline_block_record(bytes: ref [u8], j: u32) -> RecordHead;
+
+    /// Entry `e` of record `j`, from 0, as the bytes stand. Zeros past the eighth or the sixth record, and
+    /// where the bytes are not 512.
+    fn block_entry = stemline_block_entry(bytes: ref [u8], j: u32, e: u32) -> Entry;
 }

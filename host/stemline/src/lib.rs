@@ -37,7 +37,12 @@
 //! [`Replica::restart`] makes a replica from a journal. What waited at it before is gone: every other
 //! replica hands it its last block once more. The header for C says what else such a host does, where the
 //! disk fails and where a journal is damaged.
+//!
+//! To look at what is sent and kept: [`Block`] is a block with its slot, sender and records, [`Blocks`] those
+//! of a journal. Blocks and [`Report`]s print as one line.
 
+mod block;
+mod blocks;
 mod disk;
 mod durable;
 pub mod ffi;
@@ -45,8 +50,10 @@ mod journal;
 mod memory;
 mod refusal;
 
+pub use block::{Block, DigitsError, Record};
+pub use blocks::{Blocks, Stop};
 pub use durable::{Durable, Failure};
-pub use ffi::Report;
+pub use ffi::{Entry, Report};
 pub use journal::{DiskError, Journal};
 pub use memory::Memory;
 pub use refusal::Refusal;

@@ -5,8 +5,8 @@ use std::collections::BTreeMap;
 use std::mem::offset_of;
 
 use stemline::ffi::{
-    AskReply, BeginReply, Counts, ReadReply, Report, ReportReply, RestartReply, Turn, Txn,
-    WorkReply,
+    AskReply, BeginReply, BlockReply, Counts, Entry, Header, ReadReply, RecordHead, Report,
+    ReportReply, RestartReply, Turn, Txn, WorkReply,
 };
 use stemline::{Refusal, Replica, ITEMS, REPLICAS};
 
@@ -57,6 +57,10 @@ fn structs_have_one_layout() {
     layout!(due, lines, "stemline_work_reply", WorkReply,
         number sender moved count ticket aborted append);
     layout!(due, lines, "stemline_restart_reply", RestartReply, number count);
+    layout!(due, lines, "stemline_header_values", Header, kind sender replicas count slot);
+    layout!(due, lines, "stemline_block_reply", BlockReply, number header);
+    layout!(due, lines, "stemline_record_values", RecordHead, ticket writes);
+    layout!(due, lines, "stemline_entry_values", Entry, item value);
     assert_eq!(run_c("layout", &program(&lines), b""), due);
 }
 
@@ -147,7 +151,7 @@ fn numbers_have_the_same_words() {
 }
 
 /// A program with the header of the calls over lent parts alone: a withdraw at a table of five rows, and at
-/// one of six in which nothing is open.
+/// one of six in which nothing is open; what is read of bytes that are too few, of zeros, and of a record.
 const LENT: &str = r#"
 #include <stdio.h>
 #include "stemline_calls.h"
@@ -157,6 +161,14 @@ int main(void) {
     int five = stemline_withdraw(table, 5, &counts, 1);
     int six = stemline_withdraw(table, STEMLINE_TABLE, &counts, 1);
     printf("%d %d\n", five, six);
+    static uint8_t block[STEMLINE_BLOCK];
+    int short_one = stemline_block_header(block, 3).number;
+    printf("%d %d\n", short_one, stemline_block_header(block, sizeof block).number);
+    block[16 + 72] = 9, block[20 + 72] = 2, block[24 + 72 + 8] = 5;
+    block[28 + 72 + 8] = 172, block[29 + 72 + 8] = block[30 + 72 + 8] = block[31 + 72 + 8] = 255;
+    stemline_record_values record = stemline_block_record(block, sizeof block, 1);
+    stemline_entry_values entry = stemline_block_entry(block, sizeof block, 1, 1);
+    printf("%u %d: %d = %d\n", (unsigned)record.ticket, record.writes, entry.item, (int)entry.value);
     return 0;
 }
 "#;
@@ -171,7 +183,7 @@ fn every_language() {
     }
     let programs = [
         ("first", FIRST, "the write: accepted\nitem 5: 40 and 40\n"),
-        ("lent-alone", LENT, "1 3\n"),
+        ("lent-alone", LENT, "1 3\n1 15\n9 2: 5 = -84\n"),
     ];
     for (compiler, extension, standard) in languages {
         for (name, text, due) in programs {

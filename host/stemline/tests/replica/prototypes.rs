@@ -1,10 +1,12 @@
-//! The twelve functions with their parameters, in order, as the three crates of the engine export them; the C header and the
-//! Rust crate declare the same. A compiler sees types alone, of which several parameters have the same.
+//! The twelve calls and the three functions that read a block, with their parameters, in order, as the crates
+//! of the engine export them; the C header and the Rust crate declare the same. A compiler sees types alone, of
+//! which several parameters have the same.
 
 const ENGINE: &str = concat!(
     include_str!("../../../../crates/replica_make/src/lib.rt"),
     include_str!("../../../../crates/replica_client/src/lib.rt"),
     include_str!("../../../../crates/replica_turn/src/lib.rt"),
+    include_str!("../../../../crates/replica_block/src/lib.rt"),
 );
 const HEADER: &str = include_str!("../../../include/stemline_calls.h");
 const RUST: &str = include_str!("../../src/ffi.rs");
@@ -55,6 +57,9 @@ fn in_c(name: &str) -> String {
         "AskReply" => "stemline_ask_reply",
         "ReportReply" => "stemline_report_reply",
         "WorkReply" => "stemline_work_reply",
+        "BlockReply" => "stemline_block_reply",
+        "RecordHead" => "stemline_record_values",
+        "Entry" => "stemline_entry_values",
         _ => panic!("no type {name}"),
     };
     c.to_string()
@@ -86,17 +91,24 @@ fn sorted(mut all: Vec<Function>) -> Vec<Function> {
 
 fn engine() -> Vec<Function> {
     let found = functions(ENGINE, "pub extern \"C\" fn ", &['\n', '{']);
-    assert_eq!(found.len(), 12);
+    assert_eq!(found.len(), 12 + 3);
     sorted(found)
 }
 
-/// The prototypes of the header, which stand in its last section.
+/// The prototypes of the header, which stand in its last two sections, behind a comment each.
 #[test]
 fn the_header_declares_them() {
     let (_, rest) = HEADER.split_once("---- The calls over lent parts").unwrap();
-    let (section, _) = rest.split_once("#ifdef").unwrap();
-    let (_, section) = section.split_once("*/").unwrap();
-    let declared = section.split(';').filter(|one| !one.trim().is_empty());
+    let (sections, _) = rest.split_once("#ifdef").unwrap();
+    let prototypes: Vec<_> = sections
+        .split("/*")
+        .filter_map(|one| one.split_once("*/"))
+        .collect();
+    assert_eq!(prototypes.len(), 2);
+    let declared = prototypes
+        .iter()
+        .flat_map(|(_, section)| section.split(';'));
+    let declared = declared.filter(|one| !one.trim().is_empty());
     let declared = declared.map(|one| {
         let (front, parameters) = one.split_once('(').unwrap();
         let (reply, name) = front.trim().rsplit_once(' ').unwrap();

@@ -91,7 +91,7 @@ fn damaged(random: &mut Random, n: u32, journal: &mut [u8]) {
 }
 
 /// A journal as the group left it, cut, damaged, forged or of any bytes.
-fn journal(random: &mut Random, n: u32, style: Style) -> Vec<u8> {
+pub fn journal(random: &mut Random, n: u32, style: Style) -> Vec<u8> {
     let mut journal = match random.below(4) {
         0 | 1 => good(random, n, style),
         2 => forged(random, n),

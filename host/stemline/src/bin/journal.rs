@@ -1,0 +1,149 @@
+//! Shows and checks journals and blocks.
+//!
+//! - `journal show FILE` prints a line for each good block, as [`Block`] writes it, and a last one that
+//!   says where they stop and why.
+//! - `journal check FILE` prints that last line alone. The status is 0 where the file is good blocks to
+//!   its end, 1 where they stop before.
+//! - `journal block HEX..` prints a line for each block given as hexadecimal digits; `journal block -` for
+//!   those on standard input, one on each line. The status is 1 where one of them is no good block.
+//!
+//! What is wrong is said in a line on standard error. The status is 2 where the arguments are none of
+//! these, and where something cannot be read or printed. No file is locked or changed: the journal of a
+//! replica at work can be looked at too, and may then end in a torn block.
+
+use std::ffi::{OsStr, OsString};
+use std::fs::File;
+use std::io::{self, BufRead, BufReader, BufWriter, Write};
+use std::path::Path;
+use std::process::ExitCode;
+use std::{env, iter};
+
+use stemline::{Block, Blocks, Stop, BLOCK};
+
+const USAGE: &str =
+    "usage: journal show FILE | journal check FILE | journal block HEX.. | journal block -";
+
+/// Why the program ends before it is done.
+enum End {
+    /// Something cannot be done, in words.
+    Cannot(String),
+    /// Nobody reads what is printed any more.
+    Closed,
+}
+
+fn main() -> ExitCode {
+    let arguments: Vec<OsString> = env::args_os().skip(1).collect();
+    let mut out = BufWriter::new(io::stdout().lock());
+    let done = run(&arguments, &mut out);
+    let done = match printed(out.flush()) {
+        Err(End::Cannot(words)) => Err(End::Cannot(words)),
+        _ => done,
+    };
+    match done {
+        Ok(good) => ExitCode::from(u8::from(!good)),
+        Err(End::Closed) => ExitCode::SUCCESS,
+        Err(End::Cannot(words)) => {
+            complain(&words);
+            ExitCode::from(2)
+        }
+    }
+}
+
+/// Does what the arguments ask for. False where the status is to say that something is not good.
+fn run(arguments: &[OsString], out: &mut impl Write) -> Result<bool, End> {
+    let words: Vec<&OsStr> = arguments.iter().map(OsString::as_os_str).collect();
+    match words[..] {
+        [verb, file] if verb == "show" => look(Path::new(file), true, out).map(|_| true),
+        [verb, file] if verb == "check" => look(Path::new(file), false, out),
+        [verb, dash] if verb == "block" && dash == "-" => blocks(lines(io::stdin().lock()), out),
+        [verb, _, ..] if verb == "block" => {
+            let digits = words[1..].iter().map(|word| word.to_string_lossy());
+            blocks(digits.map(|digits| Ok(digits.into_owned())), out)
+        }
+        _ => Err(End::Cannot(USAGE.to_string())),
+    }
+}
+
+/// Prints where the good blocks of a file stop, and before that each of them if they are to be shown.
+/// Gives whether they go to the file's end.
+fn look(file: &Path, shown: bool, out: &mut impl Write) -> Result<bool, End> {
+    let unread = |error| End::Cannot(format!("cannot read {}: {error}", file.display()));
+    let source = File::open(file).map_err(unread)?;
+    let mut blocks = Blocks::new(BufReader::new(source));
+    let mut good = 0;
+    let stop = loop {
+        match blocks.next_block().map_err(unread)? {
+            Ok(block) if shown => printed(writeln!(out, "{block}"))?,
+            Ok(_) => {}
+            Err(stop) => break stop,
+        }
+        good += 1;
+    };
+    let left = blocks.left().map_err(unread)?;
+    printed(writeln!(out, "{}", ending(good, stop, left)))?;
+    Ok(stop == Stop::End)
+}
+
+/// The line of so many good blocks, why they stop, and how many bytes are behind them.
+fn ending(good: u64, stop: Stop, left: u64) -> String {
+    let many = |count: u64, what: &str| match count {
+        1 => format!("1 {what}"),
+        _ => format!("{count} {what}s"),
+    };
+    let place = format!(
+        "behind {}, at byte {}",
+        many(good, "block"),
+        good * BLOCK as u64
+    );
+    match stop {
+        Stop::End => format!("ends {place}"),
+        _ => format!(
+            "stops {place}, {} before the end: {stop}",
+            many(left, "byte")
+        ),
+    }
+}
+
+/// Prints a line for each block in hexadecimal digits. Gives whether all are good.
+fn blocks(
+    all: impl Iterator<Item = Result<String, End>>,
+    out: &mut impl Write,
+) -> Result<bool, End> {
+    let mut good = true;
+    for (at, digits) in all.enumerate() {
+        match digits?.parse::<Block>() {
+            Ok(block) => printed(writeln!(out, "{block}"))?,
+            Err(error) => {
+                good = false;
+                printed(out.flush())?;
+                complain(&format!("block {}: {error}", at + 1));
+            }
+        }
+    }
+    Ok(good)
+}
+
+/// The lines of an input of any bytes, without what ends them.
+fn lines(mut input: impl BufRead) -> impl Iterator<Item = Result<String, End>> {
+    let mut line = Vec::new();
+    iter::from_fn(move || {
+        line.clear();
+        match input.read_until(b'\n', &mut line) {
+            Ok(0) => None,
+            Ok(_) => Some(Ok(String::from_utf8_lossy(&line).trim_end().to_string())),
+            Err(error) => Some(Err(End::Cannot(format!("cannot read the input: {error}")))),
+        }
+    })
+}
+
+fn printed(result: io::Result<()>) -> Result<(), End> {
+    result.map_err(|error| match error.kind() {
+        io::ErrorKind::BrokenPipe => End::Closed,
+        _ => End::Cannot(format!("cannot print: {error}")),
+    })
+}
+
+/// A line on standard error. If it cannot be told there, the status tells it.
+fn complain(words: &str) {
+    let _ = writeln!(io::stderr(), "journal: {words}");
+}

@@ -1,0 +1,240 @@
+//! The program `journal`: what it prints, and its status.
+
+use std::ffi::OsStr;
+use std::fs;
+use std::io::Write;
+use std::path::{Path, PathBuf};
+use std::process::{Command, Output, Stdio};
+
+use model::block::{put_check, BLOCK};
+use model::drive::{start_values, STYLES};
+use model::samples::{block_of, damage, Random};
+use stemline::Replica;
+
+use crate::looks::{digits, read_through, sizes};
+use crate::restarts;
+use crate::seeds::Seeds;
+
+fn program(arguments: &[impl AsRef<OsStr>]) -> Command {
+    let mut command = Command::new(env!("CARGO_BIN_EXE_journal"));
+    command.args(arguments);
+    command
+}
+
+/// What a run prints, what it says on standard error, and its status.
+fn said(output: Output) -> (String, String, i32) {
+    let text = |bytes| String::from_utf8(bytes).unwrap();
+    let status = output.status.code().expect("a status");
+    (text(output.stdout), text(output.stderr), status)
+}
+
+fn run(arguments: &[impl AsRef<OsStr>]) -> (String, String, i32) {
+    said(program(arguments).output().unwrap())
+}
+
+/// A run with this as its standard input.
+fn run_on(arguments: &[&str], input: &[u8]) -> (String, String, i32) {
+    let mut command = program(arguments);
+    command.stdin(Stdio::piped());
+    command.stdout(Stdio::piped()).stderr(Stdio::piped());
+    let mut child = command.spawn().unwrap();
+    child.stdin.take().unwrap().write_all(input).unwrap();
+    said(child.wait_with_output().unwrap())
+}
+
+/// A file with these bytes, for one test.
+fn file(name: &str, bytes: &[u8]) -> PathBuf {
+    let path = Path::new(env!("CARGO_TARGET_TMPDIR")).join(name);
+    fs::write(&path, bytes).unwrap();
+    path
+}
+
+/// What `show` and `check` print of a journal: `show` the lines in front, both the last.
+#[track_caller]
+fn looks(bytes: &[u8], lines: &[&str], last: &str, status: i32) {
+    let path = file("journal-looks", bytes);
+    let due = [lines, &[last, ""]].concat().join("\n");
+    let show = [OsStr::new("show"), path.as_os_str()];
+    assert_eq!(run(&show), (due, String::new(), 0));
+    let check = [OsStr::new("check"), path.as_os_str()];
+    assert_eq!(run(&check), (format!("{last}\n"), String::new(), status));
+}
+
+/// Each way in which the blocks of a file stop.
+#[test]
+fn files() {
+    let mut blocks = [
+        block_of(3, 0, &[]),
+        block_of(3, 1, &[(4, &[(5, 84), (9, -3)]), (6, &[(2, 1)])]),
+        block_of(3, 2, &[(1, &[(127, i32::MIN)])]),
+    ];
+    let lines = [
+        "slot 0 of replica 0 of 3: nothing",
+        "slot 1 of replica 1 of 3: ticket 4 sets 5 = 84, 9 = -3; ticket 6 sets 2 = 1",
+        "slot 2 of replica 2 of 3: ticket 1 sets 127 = -2147483648",
+    ];
+    looks(b"", &[], "ends behind 0 blocks, at byte 0", 0);
+    looks(
+        &blocks.concat(),
+        &lines,
+        "ends behind 3 blocks, at byte 1536",
+        0,
+    );
+    looks(
+        &blocks[0],
+        &lines[..1],
+        "ends behind 1 block, at byte 512",
+        0,
+    );
+    looks(
+        &blocks.concat()[..BLOCK + 1],
+        &lines[..1],
+        "stops behind 1 block, at byte 512, 1 byte before the end: the block is torn: 1 of 512 bytes",
+        1,
+    );
+    let mut stops = |block: [u8; BLOCK], why: &str| {
+        blocks[1] = block;
+        let front = "stops behind 1 block, at byte 512, 1024 bytes before the end: the block";
+        looks(&blocks.concat(), &lines[..1], &format!("{front}{why}"), 1);
+    };
+    let mut damaged = block_of(3, 1, &[]);
+    damaged[0] = 3;
+    stops(damaged, "'s check does not match (14)");
+    put_check(&mut damaged);
+    stops(damaged, " is not well formed (15)");
+    stops(
+        block_of(4, 1, &[]),
+        " is of a group of 4, the first of one of 3",
+    );
+    stops(block_of(3, 4, &[]), " is of slot 4, in the place of slot 1");
+}
+
+/// As many lines as a restart commits blocks, and the last; the status by whether they are all.
+#[test]
+fn any_journal() {
+    Seeds::new(100).each(|seed| {
+        let mut random = Random::new(seed);
+        let n = 2 + seed as u32 % 5;
+        let bytes = restarts::journal(&mut random, n, STYLES[seed as usize / 5 % 4]);
+        let path = file("journal-any", &bytes);
+        let (printed, complaints, status) = run(&[OsStr::new("show"), path.as_os_str()]);
+        assert_eq!((&complaints[..], status), ("", 0));
+        let lines: Vec<&str> = printed.lines().collect();
+        let (good, _, _) = read_through(&bytes);
+        let due: Vec<String> = good.iter().map(|block| block.to_string()).collect();
+        assert_eq!(lines[..lines.len() - 1], due);
+        let restarted = Replica::restart(sizes(&bytes)[0], 0, &start_values(), &bytes);
+        assert_eq!(due.len(), restarted.unwrap().1.blocks as usize);
+        let (last, _, status) = run(&[OsStr::new("check"), path.as_os_str()]);
+        assert_eq!(last.trim_end(), lines[lines.len() - 1]);
+        assert_eq!(status, i32::from(due.len() * BLOCK != bytes.len()));
+    });
+}
+
+/// Blocks as arguments and on standard input: what is good is printed, what is not is said by its number.
+#[test]
+fn blocks() {
+    let good = digits(&block_of(3, 7, &[(4, &[(5, 84)])]));
+    let line = "slot 7 of replica 1 of 3: ticket 4 sets 5 = 84\n";
+    let next = digits(&block_of(2, 0, &[])).to_uppercase();
+    let both = format!("{line}slot 0 of replica 0 of 2: nothing\n");
+    let accepted = (both.clone(), String::new(), 0);
+    assert_eq!(run(&["block", &good, &next]), accepted);
+    for input in [format!("{good}\n{next}\n"), format!("{good}\r\n{next}")] {
+        assert_eq!(run_on(&["block", "-"], input.as_bytes()), accepted);
+    }
+    assert_eq!(
+        run_on(&["block", "-"], b""),
+        (String::new(), String::new(), 0)
+    );
+    let mut damaged = block_of(3, 7, &[]);
+    damage(&mut Random::new(5), &mut damaged);
+    let bad = [&digits(&damaged), &good[1..], "0g", ""];
+    let complaints = "journal: block 2: the block's check does not match (14)\n\
+        journal: block 3: a block has 1024 hexadecimal digits, and here are 1023\n\
+        journal: block 4: 'g' is not a hexadecimal digit\n\
+        journal: block 5: a block has 1024 hexadecimal digits, and here are 0\n";
+    let refused = (both, complaints.to_string(), 1);
+    let all = [&[&good[..]][..], &bad, &[&next[..]]].concat();
+    assert_eq!(run(&[&["block"], &all[..]].concat()), refused);
+    assert_eq!(run_on(&["block", "-"], all.join("\n").as_bytes()), refused);
+    // Bytes that are no text.
+    let (printed, complaints, status) = run_on(&["block", "-"], b"\xff\n");
+    assert_eq!((&printed[..], status), ("", 1));
+    assert!(
+        complaints.ends_with("is not a hexadecimal digit\n"),
+        "{complaints}"
+    );
+}
+
+/// Arguments that are none, and files that cannot be read: one line, and 2.
+#[test]
+fn bad_usage() {
+    let usage = "journal: usage: journal show FILE | journal check FILE | \
+        journal block HEX.. | journal block -\n";
+    for arguments in [
+        &[][..],
+        &["show"],
+        &["check"],
+        &["block"],
+        &["show", "a", "b"],
+        &["check", "a", "b"],
+        &["look", "a"],
+        &["-h"],
+    ] {
+        let due = (String::new(), usage.to_string(), 2);
+        assert_eq!(run(arguments), due, "{arguments:?}");
+    }
+    let folder = env!("CARGO_TARGET_TMPDIR");
+    let none = Path::new(folder).join("no-such-journal");
+    for path in [Path::new(folder), &none] {
+        for verb in ["show", "check"] {
+            let (printed, complaint, status) = run(&[OsStr::new(verb), path.as_os_str()]);
+            assert_eq!((&printed[..], status), ("", 2));
+            let front = format!("journal: cannot read {}: ", path.display());
+            assert!(complaint.starts_with(&front), "{complaint}");
+            assert_eq!(complaint.lines().count(), 1);
+        }
+    }
+}
+
+/// A reader that goes away ends the program without a word; what a check says by its status it says.
+#[test]
+fn closed_pipes() {
+    let blocks = (0..4_000).flat_map(|slot| block_of(2, slot, &[]));
+    let mut bytes: Vec<u8> = blocks.collect();
+    bytes.push(7);
+    let path = file("journal-closed", &bytes);
+    for (verb, status) in [("show", 0), ("check", 1)] {
+        let mut command = program(&[OsStr::new(verb), path.as_os_str()]);
+        command.stdout(Stdio::piped()).stderr(Stdio::piped());
+        let mut child = command.spawn().unwrap();
+        drop(child.stdout.take());
+        let ended = child.wait_with_output().unwrap();
+        assert_eq!(
+            said(ended),
+            (String::new(), String::new(), status),
+            "{verb}"
+        );
+    }
+}
+
+/// What cannot be printed is said, with 2.
+#[test]
+fn full_disk() {
+    let full = Path::new("/dev/full");
+    if !full.exists() {
+        return;
+    }
+    let path = file("journal-full", &block_of(2, 0, &[]));
+    for verb in ["show", "check"] {
+        let mut command = program(&[OsStr::new(verb), path.as_os_str()]);
+        command.stdout(fs::OpenOptions::new().write(true).open(full).unwrap());
+        let (_, complaint, status) = said(command.output().unwrap());
+        assert!(
+            complaint.starts_with("journal: cannot print: "),
+            "{complaint}"
+        );
+        assert_eq!((complaint.lines().count(), status), (1, 2));
+    }
+}
