@@ -2,7 +2,6 @@
 
 mod altered;
 mod blocks;
-mod both;
 mod c;
 mod c_journals;
 mod c_replica;
@@ -14,11 +13,12 @@ mod groups;
 mod header;
 mod lengths;
 mod lent;
-mod lines;
 mod marks;
 mod prototypes;
 mod restarts;
 mod seeds;
 mod story;
-mod studio;
 mod takes;
+
+// What a soak shares with the tests.
+use soak::{both, lines, studio};
