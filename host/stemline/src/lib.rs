@@ -38,6 +38,8 @@
 //! replica hands it its last block once more. The header for C says what else such a host does, where the
 //! disk fails and where a journal is damaged.
 
+#![warn(missing_docs)]
+
 mod disk;
 mod durable;
 pub mod ffi;
@@ -92,6 +94,7 @@ pub enum Asked {
 /// What one [`Replica::work`] did.
 #[derive(Clone, Debug, PartialEq, Eq)]
 pub struct Work {
+    /// The replica whose block stands at the turn.
     pub sender: u8,
     /// The ticket of the writeset committed, 0 for a block without records.
     pub ticket: u32,
