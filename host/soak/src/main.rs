@@ -1,9 +1,9 @@
 //! The library beside the model, and a program over journals that is killed, for as long as asked.
 
-use std::env;
 use std::path::{Path, PathBuf};
 use std::process::{Command, ExitCode};
 use std::time::{Duration, Instant};
+use std::{env, fs};
 
 use model::drive::Seen;
 use soak::crash::{program, Crash, Met};
@@ -56,10 +56,13 @@ impl Steps for Soak {
     }
 }
 
-/// What is left to say of a difference: how to see it again.
+/// How to see a difference again. Of a killed group that is what it left.
 fn again(step: Step, room: &Path) -> String {
     match step {
-        Step::Run(seed) => format!("scripts/soak --seed {seed} --calls 1 plays this run again"),
+        Step::Run(seed) => {
+            let _ = fs::remove_dir_all(room);
+            format!("scripts/soak --seed {seed} --calls 1 plays this run again")
+        }
         Step::Kill(_) | Step::Rest => {
             format!("the journals and the log are left in {}", room.display())
         }
@@ -80,6 +83,17 @@ fn summary(done: &Done) {
     }
 }
 
+/// What is asked for, and a folder that can be written to.
+fn begin(words: Vec<String>) -> Result<(Plan, PathBuf), String> {
+    let plan = Plan::of(words)?;
+    let room = env::temp_dir().join(format!("stemline-soak-{}", std::process::id()));
+    let made = fs::create_dir_all(&room).and_then(|()| fs::remove_dir(&room));
+    match made {
+        Ok(()) => Ok((plan, room)),
+        Err(error) => Err(format!("cannot write to {}: {error}", room.display())),
+    }
+}
+
 fn main() -> ExitCode {
     if program::run() {
         return ExitCode::SUCCESS;
@@ -89,14 +103,13 @@ fn main() -> ExitCode {
         println!("{HELP}");
         return ExitCode::SUCCESS;
     }
-    let plan = match Plan::of(words) {
-        Ok(plan) => plan,
+    let (plan, room) = match begin(words) {
+        Ok(begun) => begun,
         Err(words) => {
             eprintln!("soak: {words}");
             return ExitCode::from(2);
         }
     };
-    let room = env::temp_dir().join(format!("stemline-soak-{}", std::process::id()));
     let mut soak = Soak { room, crash: None };
     let mut said = Instant::now();
     let done = plan.go(&mut soak, |done| {

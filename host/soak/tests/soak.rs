@@ -39,17 +39,21 @@ fn a_short_one() {
     assert!(said[2].ends_with("; nothing lost"), "{said:?}");
 }
 
+/// A status of 2, and one line in words.
+fn cannot_begin(ran: &Output) {
+    assert_eq!((ran.status.code(), text(&ran.stdout)), (Some(2), ""));
+    let said = text(&ran.stderr);
+    let one = said.lines().count() == 1;
+    assert!(said.starts_with("soak: ") && one, "{said}");
+}
+
 #[test]
 fn bad_words() {
     for words in [&["--calls"][..], &["--calls", "x"], &["--hel"], &["1"]] {
-        let ran = soak(words);
-        assert_eq!((ran.status.code(), text(&ran.stdout)), (Some(2), ""));
-        let said = text(&ran.stderr);
-        assert!(
-            said.starts_with("soak: ") && said.lines().count() == 1,
-            "{said}"
-        );
+        cannot_begin(&soak(words));
     }
+    let mut nowhere = Command::new(PROGRAM);
+    cannot_begin(&nowhere.env("TMPDIR", "/dev/null").output().unwrap());
     let ran = soak(&["--help"]);
     assert_eq!(ran.status.code(), Some(0));
     assert!(text(&ran.stdout).starts_with("usage: scripts/soak "));

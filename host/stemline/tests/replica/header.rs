@@ -112,6 +112,9 @@ fn version_of_cargo() {
     let version = env!("CARGO_PKG_VERSION");
     let due = format!("{version} {version}\n");
     assert_eq!(run_c("version", &program(lines), b""), due);
+    // And it is told what changed in it.
+    let changes = include_str!("../../../../CHANGELOG.md");
+    assert!(changes.contains(&format!("\n## {version}")), "{version}");
 }
 
 /// STEMLINE_NOT_OPEN in C is Refusal::NotOpen in Rust, by the same number.

@@ -4,6 +4,7 @@
 use std::fs;
 use std::path::{Path, PathBuf};
 use std::process::{Command, Output};
+use std::sync::Once;
 
 use crate::c::{printed, say};
 
@@ -45,7 +46,10 @@ fn package(prefix: &Path, option: &str, field: &str) -> String {
     match command.output() {
         Ok(said) => printed(&said).trim().to_string(),
         Err(_) => {
-            say("pkg-config: NOT used, there is none; stemline.pc is read by the test");
+            static SAID: Once = Once::new();
+            SAID.call_once(|| {
+                say("pkg-config: NOT used, there is none; the test reads stemline.pc")
+            });
             let text = fs::read_to_string(folder.join("stemline.pc")).unwrap();
             let value = |start: &str| {
                 let found = text.lines().find_map(|line| line.strip_prefix(start));
