@@ -55,13 +55,14 @@ pub struct Done {
     pub seen: Seen,
     /// By the killed programs whose groups were checked.
     pub met: Met,
-    /// The kills, and those of the group that is not yet checked.
+    /// The kills, those of the group that is not yet checked among them.
     pub kills: u64,
     /// The step that found a difference, or something lost.
     pub difference: Option<Step>,
     /// How long it took.
     pub time: Duration,
     runs: u64,
+    /// The kills of the group that is not yet checked.
     unchecked: u64,
 }
 
