@@ -17,6 +17,13 @@
 extern "C" {
 #endif
 
+/* ---- The version: of these headers, and of the library beside which they are installed */
+
+#define STEMLINE_VERSION_MAJOR 0
+#define STEMLINE_VERSION_MINOR 1
+#define STEMLINE_VERSION_PATCH 0
+#define STEMLINE_VERSION "0.1.0"
+
 /* ---- The limits */
 
 #define STEMLINE_REPLICAS 6      /* the most replicas of a group; the fewest are 2 */

@@ -1,4 +1,6 @@
 //! What the benchmark's tests need too.
 
+#![warn(missing_docs)]
+
 pub mod plain;
 pub mod timing;

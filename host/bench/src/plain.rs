@@ -16,6 +16,7 @@ pub use self::restart::Restarted;
 /// The most open transactions.
 const OPEN: usize = RECORDS;
 
+/// One replica of a group. Its calls are the model's, and refuse by the same numbers.
 #[derive(Clone)]
 pub struct Replica {
     n: u8,
@@ -93,17 +94,22 @@ impl Row {
 /// What one work did.
 #[derive(Clone)]
 pub struct Work {
+    /// The replica whose block stands at the turn.
     pub sender: u8,
+    /// The ticket of the writeset committed, 0 for a block without records.
     pub ticket: u32,
+    /// Whether the turn went up.
     pub moved: bool,
-    /// The first `count`, rising.
+    /// The own transactions aborted: the first `count`, rising.
     pub aborted: [u32; OPEN],
+    /// How many there are.
     pub count: usize,
     /// Another's block, whose slot the turn left.
     pub append: Option<Box<[u8; BLOCK]>>,
 }
 
 impl Replica {
+    /// Replica `own` of `n`.
     pub fn make(n: u32, own: u32, values: &[i32; ITEMS]) -> Result<Replica, u8> {
         if !(2..=6).contains(&n) || own >= n {
             return Err(OUT_OF_RANGE);
@@ -132,10 +138,12 @@ impl Replica {
         })
     }
 
+    /// The values committed so far.
     pub fn values(&self) -> &[i32; ITEMS] {
         &self.values
     }
 
+    /// The counts of the calls so far.
     pub fn report(&self) -> Report {
         let open = self.rows.iter().filter(|row| row.is_open());
         Report {

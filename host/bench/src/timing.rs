@@ -9,6 +9,7 @@ pub struct Case<'a> {
     sides: Vec<Side<'a>>,
 }
 
+/// One side of a comparison.
 pub struct Side<'a> {
     /// Does the work and gives the time it took; what is prepared for it is not counted.
     run: Box<dyn FnMut() -> Duration + 'a>,
@@ -18,6 +19,7 @@ pub struct Side<'a> {
 }
 
 impl<'a> Case<'a> {
+    /// A comparison of these sides.
     pub fn new(name: &'static str, sides: Vec<Side<'a>>) -> Self {
         Case { name, sides }
     }

@@ -54,41 +54,57 @@ pub const WRONG_FORM: u8 = 15;
 /// What a block carries.
 #[derive(Clone, Debug, PartialEq, Eq)]
 pub struct Message {
+    /// [`NEXT`] or [`TO_COMMIT`].
     pub kind: u8,
+    /// The replica that sent it.
     pub sender: u8,
+    /// The replicas of its group.
     pub replicas: u8,
+    /// The slot that it was sent for.
     pub slot: u32,
+    /// The writesets, none to six.
     pub records: Vec<Record>,
 }
 
 /// The writeset of one transaction.
 #[derive(Clone, Debug, PartialEq, Eq)]
 pub struct Record {
+    /// The ticket of the transaction at its sender.
     pub ticket: u32,
+    /// What it wrote, one to eight items, rising.
     pub entries: Vec<Entry>,
 }
 
 /// One item and its new value.
 #[derive(Clone, Copy, Debug, Default, PartialEq, Eq)]
 pub struct Entry {
+    /// The item.
     pub item: u8,
+    /// Its new value.
     pub value: i32,
 }
 
 /// The first eight bytes of a block.
 #[derive(Clone, Copy, Debug, Default, PartialEq, Eq)]
 pub struct Header {
+    /// [`NEXT`] or [`TO_COMMIT`].
     pub kind: u8,
+    /// The replica that sent it.
     pub sender: u8,
+    /// The replicas of its group.
     pub replicas: u8,
+    /// The number of its records.
     pub count: u8,
+    /// The slot that it was sent for.
     pub slot: u32,
 }
 
 /// The first five bytes of a record.
 #[derive(Clone, Copy, Debug, Default, PartialEq, Eq)]
 pub struct RecordHead {
+    /// The ticket of the transaction at its sender.
     pub ticket: u32,
+    /// The number of its entries.
     pub writes: u8,
 }
 

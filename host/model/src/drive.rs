@@ -42,6 +42,7 @@ pub const STYLES: [Style; 4] = [
 ];
 
 impl Style {
+    /// Items, local calls and asks of a style.
     pub const fn new(items: usize, local: usize, asks: usize) -> Style {
         Style { items, local, asks }
     }
@@ -49,11 +50,15 @@ impl Style {
 
 /// A group, what its calls said, and the blocks that it handed out.
 pub struct Group<S> {
+    /// The replicas, by their number.
     pub members: Vec<S>,
+    /// What the answers of each amount to.
     pub tallies: Vec<Tally>,
+    /// What the calls and answers of all amount to.
     pub observer: Observer,
     /// By slot. Of a slot that is sent twice, the first.
     blocks: BTreeMap<u32, Box<[u8; BLOCK]>>,
+    /// What the run met.
     pub seen: Seen,
     style: Style,
     /// The member that gets no block for now.
@@ -61,6 +66,7 @@ pub struct Group<S> {
 }
 
 impl<S: Subject> Group<S> {
+    /// A group of which no call is seen yet.
     pub fn new(members: Vec<S>, style: Style) -> Group<S> {
         let tallies = members.iter().enumerate();
         Group {

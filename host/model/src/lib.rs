@@ -3,6 +3,8 @@
 //! It is written from the documents alone, so that it can check the proved library from outside.
 //! The benchmark takes it as its baseline.
 
+#![warn(missing_docs)]
+
 pub mod block;
 pub mod drive;
 pub mod journal;

@@ -30,12 +30,15 @@ pub const SLOTS: u32 = MAX_SLOT + 1;
 /// One replica of a group. Its fields are public for the tests that compare them or set them.
 #[derive(Clone, Debug, PartialEq, Eq)]
 pub struct Replica {
+    /// Its number in the group.
     pub own: u8,
+    /// The values committed so far.
     pub values: [i32; ITEMS],
     /// Per item the commit count just after its last write (document 01's stamps).
     pub stamps: [u32; ITEMS],
     /// Per item its class, 1 to 8; all 0 where no table is loaded, and so all of one class.
     pub classes: [u8; ITEMS],
+    /// The writesets committed, own and others'.
     pub commits: u32,
     /// The slot that is processed next (document 01's turn).
     pub turn: u32,
@@ -53,16 +56,22 @@ pub struct Replica {
     pub queue: Vec<u32>,
     /// The tickets given: the last one given.
     pub tickets: u32,
+    /// Own transactions that ended with their writeset committed.
     pub committed: u32,
+    /// Own transactions that ended with nothing written.
     pub read_only: u32,
+    /// Own transactions that were aborted.
     pub aborted: u32,
+    /// Own transactions that were withdrawn.
     pub withdrawn: u32,
 }
 
 /// An open transaction.
 #[derive(Clone, Debug, PartialEq, Eq)]
 pub struct Transaction {
+    /// Its number, from 1 on.
     pub ticket: u32,
+    /// How far it is.
     pub stage: Stage,
     /// The commit count when it began.
     pub snapshot: u32,
@@ -72,31 +81,42 @@ pub struct Transaction {
     pub writes: BTreeMap<u8, i32>,
 }
 
+/// How far an open transaction is.
 #[derive(Clone, Copy, Debug, PartialEq, Eq)]
 pub enum Stage {
+    /// Its client reads and writes.
     Active,
+    /// It waits for the next own block.
     Asked,
+    /// It stands in the own block that was sent.
     Sent,
 }
 
 /// What [`Replica::report`] gives.
 #[derive(Clone, Copy, Debug, Default, PartialEq, Eq)]
 pub struct Report {
+    /// The slot that is processed next.
     pub turn: u32,
     /// The writesets committed, own and others'.
     pub commits: u32,
     /// The tickets given: as many as `open` and the four endings together.
     pub tickets: u32,
+    /// The open transactions.
     pub open: u32,
+    /// Own transactions that ended with their writeset committed.
     pub committed: u32,
+    /// Own transactions that ended with nothing written.
     pub read_only: u32,
+    /// Own transactions that were aborted.
     pub aborted: u32,
+    /// Own transactions that were withdrawn.
     pub withdrawn: u32,
 }
 
 /// What one [`Replica::work`] did.
 #[derive(Clone, Debug, PartialEq, Eq)]
 pub struct Work {
+    /// The replica whose message stands at the turn.
     pub sender: u8,
     /// The ticket of the writeset committed, 0 for a message without records.
     pub ticket: u32,

@@ -13,6 +13,7 @@ pub struct Random {
 }
 
 impl Random {
+    /// The generator of a seed.
     pub fn new(seed: u64) -> Self {
         Random { state: seed }
     }
@@ -36,6 +37,7 @@ impl Random {
         values[self.below(values.len())]
     }
 
+    /// A byte.
     pub fn byte(&mut self) -> u8 {
         self.bits() as u8
     }
@@ -45,6 +47,7 @@ impl Random {
         1 + self.below(255) as u8
     }
 
+    /// Puts random bytes over all of these.
     pub fn fill(&mut self, bytes: &mut [u8]) {
         bytes.fill_with(|| self.byte());
     }

@@ -6,24 +6,62 @@ use crate::replica::{Replica, Report, Restarted, Work};
 /// A call at a replica that is made.
 #[derive(Clone, Debug, PartialEq, Eq)]
 pub enum Call {
+    /// Opens a transaction.
     Begin,
-    Read { ticket: u32, item: u32 },
-    Write { ticket: u32, item: u32, value: i32 },
-    Ask { ticket: u32 },
-    Withdraw { ticket: u32 },
+    /// What an item is to a transaction.
+    Read {
+        /// Of the transaction.
+        ticket: u32,
+        /// The item.
+        item: u32,
+    },
+    /// Puts an item with its value into the writeset.
+    Write {
+        /// Of the transaction.
+        ticket: u32,
+        /// The item.
+        item: u32,
+        /// Its new value.
+        value: i32,
+    },
+    /// Requests commit.
+    Ask {
+        /// Of the transaction.
+        ticket: u32,
+    },
+    /// Ends an active transaction.
+    Withdraw {
+        /// Of the transaction.
+        ticket: u32,
+    },
+    /// The counts of the calls so far.
     Report,
+    /// Makes the block for the replica's own slot.
     Send,
-    Deliver { bytes: Vec<u8> },
+    /// Hands the replica a block.
+    Deliver {
+        /// Of any length.
+        bytes: Vec<u8>,
+    },
+    /// One step with the block at the turn.
     Work,
-    Load { classes: Vec<u8> },
+    /// Gives the items conflict classes.
+    Load {
+        /// Of any length.
+        classes: Vec<u8>,
+    },
 }
 
 /// What a restart is lent. The journal may have any length.
 #[derive(Clone, Debug, PartialEq, Eq)]
 pub struct Restart {
+    /// The replicas of the group.
     pub n: u32,
+    /// The replica's number in it.
     pub own: u32,
+    /// The values that the group started with.
     pub values: Vec<i32>,
+    /// The journal's bytes.
     pub journal: Vec<u8>,
 }
 
@@ -38,9 +76,11 @@ pub enum Answer {
     Value(i32),
     /// Ask: whether the transaction had no writes and so ended.
     ReadOnly(bool),
+    /// Report.
     Report(Report),
     /// Send.
     Block(Box<[u8; BLOCK]>),
+    /// Work.
     Work(Work),
 }
 

@@ -1,5 +1,5 @@
 //! The static library as Rust sees it: its structs, and its functions as safe ones over slices, parameter
-//! by parameter those of `crates/replica_make`, `replica_client`, `replica_turn` and `replica_block`: the
+//! by parameter those of `crates/replica_make`, `replica_client`, `replica_write`, `replica_turn` and `replica_block`: the
 //! twelve calls at a replica, and three that read a block. `host/include/stemline_calls.h` says the same
 //! in C; tests compare the layouts, and the parameters of all three.
 //!
@@ -13,7 +13,9 @@ use crate::TABLE;
 #[repr(C)]
 #[derive(Clone, Copy, Debug, Default, PartialEq, Eq)]
 pub struct Txn {
+    /// Its number, from 1 on.
     pub ticket: u32,
+    /// 0, 1 or 2.
     pub stage: u32,
     /// The commit count when it began.
     pub snapshot: u32,
@@ -27,8 +29,11 @@ pub struct Txn {
 #[repr(C)]
 #[derive(Clone, Copy, Debug, Default, PartialEq, Eq)]
 pub struct Turn {
+    /// The slot.
     pub slot: u32,
+    /// The mark that the own block was sent.
     pub sent: u8,
+    /// The mark that a block of another is committed in part.
     pub applying: u8,
 }
 
@@ -36,7 +41,9 @@ pub struct Turn {
 #[repr(C)]
 #[derive(Clone, Copy, Debug, Default, PartialEq, Eq)]
 pub struct Counts {
+    /// The replicas of the group, n.
     pub replicas: u8,
+    /// The replica's own number, below n.
     pub own: u8,
     /// The writesets committed, own and others'.
     pub commits: u32,
@@ -44,9 +51,13 @@ pub struct Counts {
     pub done: u8,
     /// The tickets given.
     pub tickets: u32,
+    /// Own transactions that ended with their writeset committed.
     pub committed: u32,
+    /// Own transactions that ended with nothing written.
     pub read_only: u32,
+    /// Own transactions that were aborted.
     pub aborted: u32,
+    /// Own transactions that were withdrawn.
     pub withdrawn: u32,
 }
 
@@ -54,6 +65,7 @@ pub struct Counts {
 #[repr(C)]
 #[derive(Clone, Copy, Debug, Default, PartialEq, Eq)]
 pub struct Report {
+    /// The slot that is processed next.
     pub turn: u32,
     /// The writesets committed, own and others'.
     pub commits: u32,
@@ -61,9 +73,13 @@ pub struct Report {
     pub tickets: u32,
     /// The open transactions.
     pub open_count: u32,
+    /// Own transactions that ended with their writeset committed.
     pub committed: u32,
+    /// Own transactions that ended with nothing written.
     pub read_only: u32,
+    /// Own transactions that were aborted.
     pub aborted: u32,
+    /// Own transactions that were withdrawn.
     pub withdrawn: u32,
 }
 
@@ -81,41 +97,54 @@ impl fmt::Display for Report {
     }
 }
 
-/// Number 0 where the call is accepted; so in the replies below, which are zero in all else where it is
-/// refused.
+/// What a begin answers. Number 0 is accepted; so in the replies below, which are zero in all else where the
+/// call is refused.
 #[repr(C)]
 #[derive(Clone, Copy, Debug, Default, PartialEq, Eq)]
 pub struct BeginReply {
+    /// 0, or why the call is refused.
     pub number: u8,
+    /// The ticket of the new transaction.
     pub ticket: u32,
 }
 
+/// What a read answers.
 #[repr(C)]
 #[derive(Clone, Copy, Debug, Default, PartialEq, Eq)]
 pub struct ReadReply {
+    /// 0, or why the call is refused.
     pub number: u8,
+    /// The item's value to the transaction.
     pub value: i32,
 }
 
+/// What an ask answers.
 #[repr(C)]
 #[derive(Clone, Copy, Debug, Default, PartialEq, Eq)]
 pub struct AskReply {
+    /// 0, or why the call is refused.
     pub number: u8,
     /// Whether the transaction had no writes and so ended.
     pub read_only: bool,
 }
 
+/// What a report answers.
 #[repr(C)]
 #[derive(Clone, Copy, Debug, Default, PartialEq, Eq)]
 pub struct ReportReply {
+    /// 0, or why the call is refused.
     pub number: u8,
+    /// The counts.
     pub report: Report,
 }
 
+/// What a work answers.
 #[repr(C)]
 #[derive(Clone, Copy, Debug, Default, PartialEq, Eq)]
 pub struct WorkReply {
+    /// 0, or why the call is refused.
     pub number: u8,
+    /// The replica whose block stands at the turn.
     pub sender: u8,
     /// Whether the turn moved.
     pub moved: bool,
@@ -130,9 +159,11 @@ pub struct WorkReply {
     pub append: bool,
 }
 
+/// What a restart answers.
 #[repr(C)]
 #[derive(Clone, Copy, Debug, Default, PartialEq, Eq)]
 pub struct RestartReply {
+    /// 0, or why the call is refused.
     pub number: u8,
     /// How many blocks of the journal are committed. It goes on behind them; the rest is to be cut off.
     pub count: u32,

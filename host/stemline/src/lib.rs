@@ -41,6 +41,8 @@
 //! To look at what is sent and kept: [`Block`] is a block with its slot, sender and records, [`Blocks`] those
 //! of a journal. Blocks and [`Report`]s print as one line.
 
+#![warn(missing_docs)]
+
 mod block;
 mod blocks;
 mod disk;
@@ -99,6 +101,7 @@ pub enum Asked {
 /// What one [`Replica::work`] did.
 #[derive(Clone, Debug, PartialEq, Eq)]
 pub struct Work {
+    /// The replica whose block stands at the turn.
     pub sender: u8,
     /// The ticket of the writeset committed, 0 for a block without records.
     pub ticket: u32,

@@ -7,8 +7,11 @@ use crate::{BLOCK, ITEMS, QUEUE, SNAPSHOTS, TABLE, WRITTEN};
 /// stores and restores them; what the calls promise holds of a memory that only calls have changed.
 #[derive(Clone, Debug, PartialEq, Eq)]
 pub struct Memory {
+    /// The open transactions; a free row has ticket 0.
     pub table: [Txn; TABLE],
+    /// The slot that is processed next, and its marks.
     pub turn: Turn,
+    /// The numbers of the replica.
     pub counts: Counts,
     /// Row r's written items, rising, from 8·r on.
     pub items: [u8; WRITTEN],
@@ -18,6 +21,7 @@ pub struct Memory {
     pub snapshots: [i32; SNAPSHOTS],
     /// The tickets asked and not yet sent, in the order asked, zeros behind.
     pub queue: [u32; QUEUE],
+    /// The values committed so far.
     pub values: [i32; ITEMS],
     /// Per item the commit count just after its last write.
     pub stamps: [u32; ITEMS],

@@ -10,29 +10,53 @@ use std::{error, fmt};
 #[derive(Clone, Copy, PartialEq, Eq, Hash)]
 #[non_exhaustive]
 pub enum Refusal {
+    /// 1: a lent slice has not its exact length.
     WrongLength,
+    /// 2: the number of replicas, the own number, the item or a class.
     OutOfRange,
+    /// 3: no open transaction has this ticket.
     NotOpen,
+    /// 4: the transaction is asked or sent already.
     NotActive,
+    /// 5: six transactions are open.
     AllOpen,
+    /// 6: all 100,000,000 tickets are given.
     TicketsSpent,
+    /// 7: an item of this class is still to come in the block of another that is applied. To be tried again
+    /// after the next work.
     Applying,
+    /// 8: another open transaction has written the item.
     Locked,
-    /// The only refusal that changes something: the transaction ends as aborted.
+    /// 9: the item changed since the transaction's snapshot. The only refusal that changes something: the
+    /// transaction ends as aborted.
     Stale,
+    /// 10: the transaction has written eight items, and this is another.
     WritesetFull,
+    /// 11: the turn is another replica's slot.
     NotOurTurn,
+    /// 12: the block for this slot is sent already.
     AlreadySent,
+    /// 13: all 100,000,000 slots are processed.
     SlotsSpent,
+    /// 14: the block's check does not match.
     WrongCheck,
+    /// 15: the block is not well formed.
     WrongForm,
+    /// 16: the block is of a group of another size.
     WrongGroup,
+    /// 17: the block's slot is processed already.
     PastSlot,
+    /// 18: the block's slot is n or more ahead of the turn.
     FarSlot,
+    /// 19: the block names this replica as its sender, and is not the one that it sent.
     NotSent,
+    /// 20: a block for this slot waits already.
     SlotTaken,
+    /// 21: no block waits for the turn.
     NothingWaits,
+    /// 22: a transaction of the own block is not open as sent. No list of calls leads to it.
     NotOpenAsSent,
+    /// 23: a block of another replica is half applied.
     LoadWhileApplying,
     /// A number that the table does not have: the library is newer than this crate.
     Unknown(u8),

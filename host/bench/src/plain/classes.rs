@@ -7,6 +7,7 @@ use model::replica::{CLASSES, ITEMS};
 use super::Replica;
 
 impl Replica {
+    /// Gives each item a class.
     pub fn load(&mut self, classes: &[u8]) -> Result<(), u8> {
         let classes: [u8; ITEMS] = classes.try_into().map_err(|_| WRONG_LENGTH)?;
         if classes.iter().any(|class| !(1..=CLASSES).contains(class)) {

@@ -10,6 +10,7 @@ use model::replica::ITEMS;
 use super::{Replica, Stage};
 
 impl Replica {
+    /// Opens a transaction and gives its ticket.
     pub fn begin(&mut self) -> Result<u32, u8> {
         let free = self.rows.iter_mut().find(|row| !row.is_open());
         let row = free.ok_or(ALL_OPEN)?;
@@ -25,6 +26,7 @@ impl Replica {
         Ok(self.tickets)
     }
 
+    /// What the item is to the transaction.
     pub fn read(&self, ticket: u32, item: u32) -> Result<i32, u8> {
         let item = in_range(item)?;
         let row = &self.rows[self.active(ticket)?];
@@ -34,6 +36,7 @@ impl Replica {
         })
     }
 
+    /// Puts the item with its value into the writeset.
     pub fn write(&mut self, ticket: u32, item: u32, value: i32) -> Result<(), u8> {
         let item = in_range(item)?;
         let r = self.active(ticket)?;
@@ -82,6 +85,7 @@ impl Replica {
         Ok(false)
     }
 
+    /// Ends an active transaction.
     pub fn withdraw(&mut self, ticket: u32) -> Result<(), u8> {
         let at = self.active(ticket)?;
         self.rows[at].end();

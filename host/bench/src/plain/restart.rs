@@ -8,12 +8,14 @@ use super::Replica;
 /// What a restart took up.
 #[derive(Clone, Debug, PartialEq, Eq)]
 pub struct Restarted {
+    /// The blocks committed.
     pub blocks: u32,
     /// The last own block.
     pub last: Option<[u8; BLOCK]>,
 }
 
 impl Replica {
+    /// A replica from a journal.
     pub fn restart(
         n: u32,
         own: u32,

@@ -10,6 +10,7 @@ use model::replica::SLOTS;
 use super::{Replica, Stage, Work, OPEN};
 
 impl Replica {
+    /// The block for the own slot at the turn.
     pub fn send(&mut self) -> Result<[u8; BLOCK], u8> {
         if self.turn == SLOTS {
             return Err(SLOTS_SPENT);
@@ -43,6 +44,7 @@ impl Replica {
         Ok(self.outbox)
     }
 
+    /// Keeps a block in its place.
     pub fn deliver(&mut self, bytes: &[u8]) -> Result<(), u8> {
         let header = block::read(bytes)?;
         if header.replicas != self.n {
@@ -66,6 +68,7 @@ impl Replica {
         Ok(())
     }
 
+    /// One step with the block at the turn.
     pub fn work(&mut self) -> Result<Work, u8> {
         let at = self.place(self.turn);
         let place = &self.places[at];

@@ -9,7 +9,9 @@ use crate::trace::{Answer, Call};
 /// What is known of a replica from its calls and answers, and so what it may be sent next.
 pub struct Peers {
     n: u32,
+    /// What its answers amount to.
     pub tally: Tally,
+    /// What the run met.
     pub seen: Seen,
     /// The blocks that were delivered or sent last.
     recent: Vec<[u8; BLOCK]>,

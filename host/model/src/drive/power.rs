@@ -19,8 +19,11 @@ pub trait Powered: Subject {
 /// The model's replica and its disk.
 #[derive(Clone, Debug, PartialEq, Eq)]
 pub struct Machine {
+    /// The replica.
     pub replica: Replica,
+    /// What was appended.
     pub disk: Vec<u8>,
+    /// The bytes that a cut leaves at least.
     pub floor: usize,
 }
 

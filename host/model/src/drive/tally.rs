@@ -7,8 +7,11 @@ use crate::trace::{Answer, Call, Restart};
 
 /// A replica under test: the model's, or another that is compared with it.
 pub trait Subject {
+    /// Makes a call; an error is the number that refuses it.
     fn call(&mut self, call: &Call) -> Result<Answer, u8>;
+    /// The counts of its calls so far.
     fn report(&self) -> Report;
+    /// The values that it has committed.
     fn values(&self) -> [i32; ITEMS];
 }
 
@@ -44,6 +47,7 @@ impl Tally {
         }
     }
 
+    /// Takes in a call and its answer.
     pub fn feed(&mut self, call: &Call, answer: &Result<Answer, u8>) {
         let report = &mut self.report;
         match (call, answer) {
@@ -115,34 +119,42 @@ impl Tally {
 /// What a run met, so that a test can say that it met enough.
 #[derive(Clone, Debug, Default)]
 pub struct Seen {
-    pub calls: u32,
+    /// The calls made.
+    pub calls: u64,
     /// By refusal number.
-    pub refused: [u32; 24],
-    pub commits: u32,
-    /// Transactions aborted by a work, and by a write.
-    pub aborted: u32,
-    pub stale: u32,
-    pub read_only: u32,
-    pub withdrawn: u32,
+    pub refused: [u64; 24],
+    /// Writesets committed, at whatever replica.
+    pub commits: u64,
+    /// Transactions aborted by a work.
+    pub aborted: u64,
+    /// Transactions aborted by a write.
+    pub stale: u64,
+    /// Transactions that ended with nothing written.
+    pub read_only: u64,
+    /// Transactions withdrawn.
+    pub withdrawn: u64,
     /// Blocks sent, by their number of records.
-    pub sent: [u32; 7],
-    pub delivered: u32,
-    pub restarts: u32,
+    pub sent: [u64; 7],
+    /// Blocks taken by a deliver.
+    pub delivered: u64,
+    /// Restarts.
+    pub restarts: u64,
     /// Blocks first handed out by a restart, because a cut ended their send.
-    pub sent_by_restart: u32,
+    pub sent_by_restart: u64,
 }
 
 impl Seen {
+    /// Takes in a call and its answer.
     pub fn feed(&mut self, call: &Call, answer: &Result<Answer, u8>) {
         self.calls += 1;
         match (call, answer) {
             (_, Err(number)) => {
                 self.refused[usize::from(*number)] += 1;
-                self.stale += u32::from(*number == 9);
+                self.stale += u64::from(*number == 9);
             }
             (_, Ok(Answer::Work(work))) => {
-                self.commits += u32::from(work.ticket != 0);
-                self.aborted += work.aborted.len() as u32;
+                self.commits += u64::from(work.ticket != 0);
+                self.aborted += work.aborted.len() as u64;
             }
             (_, Ok(Answer::ReadOnly(true))) => self.read_only += 1,
             (_, Ok(Answer::Block(block))) => self.sent[usize::from(block[3])] += 1,
@@ -152,8 +164,9 @@ impl Seen {
         }
     }
 
+    /// Adds what another run met.
     pub fn add(&mut self, other: &Seen) {
-        let sum = |into: &mut [u32], from: &[u32]| {
+        let sum = |into: &mut [u64], from: &[u64]| {
             into.iter_mut().zip(from).for_each(|(a, b)| *a += b);
         };
         sum(&mut self.refused, &other.refused);
@@ -170,7 +183,7 @@ impl Seen {
     }
 
     /// The refusal numbers met at least `least` times.
-    pub fn numbers(&self, least: u32) -> Vec<usize> {
+    pub fn numbers(&self, least: u64) -> Vec<usize> {
         (1..24).filter(|&n| self.refused[n] >= least).collect()
     }
 }

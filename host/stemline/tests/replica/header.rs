@@ -98,13 +98,27 @@ fn limits(text: &str, start: &str, between: &[char], end: char) -> BTreeMap<Stri
 /// STEMLINE_ITEMS in C is ITEMS in Rust, and so with every limit.
 #[test]
 fn limits_have_one_name() {
-    let c = limits(HEADERS, "#define STEMLINE_", &[' '], '/');
+    let mut c = limits(HEADERS, "#define STEMLINE_", &[' '], '/');
+    c.retain(|name, _| !name.starts_with("VERSION"));
     let rust = limits(include_str!("../../src/lib.rs"), "pub const ", &[':'], ';');
     assert_eq!(c, rust);
     assert!(
         rust.len() == 10 && rust["ITEMS"] == ITEMS as u64,
         "{rust:?}"
     );
+}
+
+/// The version of the headers is Cargo's, in each form that C has it in.
+#[test]
+fn version_of_cargo() {
+    let lines = "printf(\"%s %d.%d.%d\\n\", STEMLINE_VERSION, STEMLINE_VERSION_MAJOR,\n\
+                 STEMLINE_VERSION_MINOR, STEMLINE_VERSION_PATCH);\n";
+    let version = env!("CARGO_PKG_VERSION");
+    let due = format!("{version} {version}\n");
+    assert_eq!(run_c("version", &program(lines), b""), due);
+    // And it is told what changed in it.
+    let changes = include_str!("../../../../CHANGELOG.md");
+    assert!(changes.contains(&format!("\n## {version}")), "{version}");
 }
 
 /// STEMLINE_NOT_OPEN in C is Refusal::NotOpen in Rust, by the same number.

@@ -2,7 +2,6 @@
 
 mod altered;
 mod blocks;
-mod both;
 mod c;
 mod c_journals;
 mod c_replica;
@@ -12,15 +11,18 @@ mod ends;
 mod files;
 mod groups;
 mod header;
+mod install;
 mod journal_program;
 mod lengths;
 mod lent;
-mod lines;
 mod looks;
+mod manual;
 mod marks;
 mod prototypes;
 mod restarts;
 mod seeds;
 mod story;
-mod studio;
 mod takes;
+
+// What a soak shares with the tests.
+use soak::{both, lines, studio};

@@ -97,7 +97,7 @@ fn any_number_but_0_is_on() {
         seen.add(&peers.seen);
     });
     // The numbers that a mark decides: 7, 12 and 23 where it is on, 19 most often where it is off.
-    let met = |(number, least): (usize, u32)| seen.refused[number] >= least;
+    let met = |(number, least): (usize, u64)| seen.refused[number] >= least;
     let least = [(7, 1_000), (12, 1_000), (19, 1_000), (23, 100)];
     assert!(seeds.runs < RUNS || least.into_iter().all(met), "{seen:?}");
 }

@@ -5,6 +5,7 @@
 const ENGINE: &str = concat!(
     include_str!("../../../../crates/replica_make/src/lib.rt"),
     include_str!("../../../../crates/replica_client/src/lib.rt"),
+    include_str!("../../../../crates/replica_write/src/lib.rt"),
     include_str!("../../../../crates/replica_turn/src/lib.rt"),
     include_str!("../../../../crates/replica_block/src/lib.rt"),
 );

@@ -4,41 +4,20 @@ use model::block::{self, Message, BLOCK};
 use model::drive::{start_values, Group, Peers, Powered, Seen, Style, Subject, STYLES};
 use model::samples::{self, block_of, break_form, damage, Random};
 use model::trace::Restart;
+use soak::runs;
 use stemline::Replica;
 
 use crate::both::Both;
 use crate::lent::{refused, Lent};
 use crate::seeds::Seeds;
 
-const CALLS: usize = 2_000;
 const RUNS: u64 = 200;
 
-/// Lost, late, repeated and damaged blocks, and cuts at any byte that one can leave.
 #[test]
 fn groups_that_lose_power() {
     let mut seen = Seen::default();
     let seeds = Seeds::new(RUNS);
-    seeds.each(|seed| {
-        let n = 2 + seed as u32 % 5;
-        let members = (0..n).map(|own| Both::new(n, own, &start_values()));
-        let mut group = Group::new(members.collect(), STYLES[seed as usize / 5 % 4]);
-        let mut random = Random::new(seed);
-        for _ in 0..CALLS {
-            match random.below(60) {
-                0 => group.random_cut(&mut random),
-                _ => group.random_call(&mut random),
-            }
-        }
-        group.settle(2);
-        assert_eq!(group.violations(), [""; 0]);
-        assert!(group.observer.premise());
-        for (k, member) in group.members.iter().enumerate() {
-            assert_eq!(member.report(), group.tallies[k].report);
-            assert!(member.disk() == group.observer.journal(k).bytes());
-            assert_eq!(member.values(), group.members[0].values());
-        }
-        seen.add(&group.seen);
-    });
+    seeds.each(|seed| seen.add(&runs::run_with_cuts(seed)));
     if seeds.runs >= RUNS {
         assert!(seen.restarts > 5_000, "{seen:?}");
         assert!(seen.sent_by_restart > 50, "{seen:?}");

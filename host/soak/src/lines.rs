@@ -5,6 +5,27 @@ use model::replay::{hex, show};
 use model::replica::{Report, Work};
 use model::trace::{Answer, Call};
 
+/// Names the call of a comparison that fails.
+pub struct Named<'a> {
+    k: usize,
+    call: &'a Call,
+}
+
+impl Named<'_> {
+    /// Of a call at replica `k`.
+    pub fn new(k: usize, call: &Call) -> Named<'_> {
+        Named { k, call }
+    }
+}
+
+impl Drop for Named<'_> {
+    fn drop(&mut self) {
+        if std::thread::panicking() {
+            eprintln!("at the call {}", line(self.k, self.call));
+        }
+    }
+}
+
 /// A call at a place.
 pub fn line(k: usize, call: &Call) -> String {
     match call {
@@ -117,6 +138,33 @@ fn bytes(digits: &str) -> Option<Vec<u8>> {
 /// A block of hexadecimal digits.
 pub fn block(digits: &str) -> Option<Box<[u8; BLOCK]>> {
     bytes(digits)?.into_boxed_slice().try_into().ok()
+}
+
+/// A number with a comma before each three digits.
+pub fn grouped(number: u64) -> String {
+    let digits = number.to_string();
+    let mut text = String::new();
+    for (at, digit) in digits.chars().enumerate() {
+        if at > 0 && (digits.len() - at).is_multiple_of(3) {
+            text.push(',');
+        }
+        text.push(digit);
+    }
+    text
+}
+
+#[test]
+fn numbers_with_commas() {
+    let numbers = [0, 12, 999, 1_000, 100_000_000, u64::MAX].map(grouped);
+    let due = [
+        "0",
+        "12",
+        "999",
+        "1,000",
+        "100,000,000",
+        "18,446,744,073,709,551,615",
+    ];
+    assert_eq!(numbers, due);
 }
 
 #[test]

@@ -138,13 +138,15 @@ impl Program {
     }
 }
 
-/// What is started and killed; by itself it does nothing. If nobody kills it, it ends soon.
-#[test]
-#[ignore = "the program that crash::killed_again_and_again starts"]
-fn killed() {
-    let Ok(given) = env::var("STEMLINE_CRASH") else {
-        return;
+/// The environment's name by which a program is asked to be the one that is killed: a seed and the folder.
+pub const ASKED: &str = "STEMLINE_CRASH";
+
+/// Runs, if the environment asks for it, and says whether it did. If nobody kills it, it ends soon.
+pub fn run() -> bool {
+    let Some(given) = env::var_os(ASKED) else {
+        return false;
     };
+    let given = given.to_string_lossy();
     let (seed, room) = given.split_once(' ').unwrap();
     let mut random = Random::new(seed.parse().unwrap());
     let mut program = Program::new(PathBuf::from(room));
@@ -152,4 +154,5 @@ fn killed() {
     while began.elapsed() < Duration::from_secs(10) {
         program.step(&mut random);
     }
+    true
 }

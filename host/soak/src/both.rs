@@ -7,9 +7,14 @@ use model::replica::{self as second, Restarted, Stage, ITEMS};
 use model::trace::{Answer, Call, Restart};
 use stemline::{Asked, Memory, Refusal, Replica, Report, Work};
 
+use crate::lines::Named;
+
+/// The pair.
 #[derive(Clone)]
 pub struct Both {
+    /// The library's replica.
     pub library: Replica,
+    /// The model's.
     pub model: second::Replica,
     /// The library's memory before the call.
     before: Memory,
@@ -19,12 +24,14 @@ pub struct Both {
 }
 
 impl Both {
+    /// Replica `own` of `n` with these values to start with, made twice.
     pub fn new(n: u32, own: u32, values: &[i32; ITEMS]) -> Both {
         let library = Replica::new(n, own, values).unwrap();
         let model = second::Replica::make(n, own, values).unwrap();
         Both::of(library, model)
     }
 
+    /// Of two replicas that are the same.
     pub fn of(library: Replica, model: second::Replica) -> Both {
         let both = Both {
             before: library.memory().clone(),
@@ -51,6 +58,7 @@ impl Both {
 impl Subject for Both {
     fn call(&mut self, call: &Call) -> Result<Answer, u8> {
         self.before.clone_from(self.library.memory());
+        let _named = Named::new(self.model.own.into(), call);
         let is_turn = self.library.is_turn();
         let (mut appended, mut due_appended) = (Vec::new(), Vec::new());
         let answer = play(&mut self.library, call, &mut appended);
@@ -119,6 +127,7 @@ pub fn restarted(replica: &mut Replica, restart: &Restart) -> Result<Restarted, 
     })
 }
 
+/// A report, as the model gives it.
 pub fn report(report: Report) -> second::Report {
     second::Report {
         turn: report.turn,

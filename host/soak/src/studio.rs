@@ -10,6 +10,7 @@ use model::trace::{Answer, Call, Restart};
 use stemline::{Asked, Durable, Failure, Replica};
 
 use crate::both::{report, same, worked};
+use crate::lines::Named;
 
 /// Opens replica `own` of `n`, with the tests' values; the answer as the model's.
 pub fn open(path: &Path, n: u32, own: u32) -> (Durable, Restarted) {
@@ -98,6 +99,7 @@ impl Studio {
 
 impl Subject for Studio {
     fn call(&mut self, call: &Call) -> Result<Answer, u8> {
+        let _named = Named::new(self.model.own.into(), call);
         let answer = play(self.durable.as_mut().expect("it is open"), call);
         let due = self.model.call_journaled(call, &mut self.disk);
         assert_eq!(answer, due, "{call:?}: the library's answer, the model's");

@@ -13,19 +13,34 @@ use model::trace::{Answer, Call, Restart};
 use stemline::Durable;
 
 use super::{journal, N};
-use crate::lines::{block, parse};
+use crate::lines::{block, grouped, parse};
 use crate::studio::play;
 
+/// What killed programs did.
+#[derive(Clone, Copy, Debug, Default)]
+pub struct Met {
+    /// The calls that were logged, those that brought the group to rest among them.
+    pub calls: u64,
+    /// The opens of a journal.
+    pub restarts: u64,
+    /// The blocks handed out.
+    pub blocks: u64,
+    /// Of these, first by a restart: a kill ended their send.
+    pub sent_by_restart: u64,
+    /// The writesets committed, counted when the group is at rest.
+    pub commits: u64,
+}
+
+/// What the log of a killed program says, run after run.
 pub struct Log {
     room: PathBuf,
     values: [i32; ITEMS],
+    /// What the whole list of calls amounts to.
     pub observer: Observer,
     /// Every block that was handed out, by a send or by a restart.
     pub handed_out: HashSet<Box<[u8; BLOCK]>>,
-    pub calls: usize,
-    restarts: usize,
-    /// Blocks first handed out by a restart: a kill ended their send.
-    sent_by_restart: usize,
+    /// The counts so far.
+    pub met: Met,
     /// The bytes of the log that are taken in.
     read: u64,
     /// What is in each file when the program starts, for its first restart.
@@ -33,15 +48,14 @@ pub struct Log {
 }
 
 impl Log {
+    /// Of a group over the files of a folder, before its first start.
     pub fn new(room: &Path, values: [i32; ITEMS]) -> Log {
         Log {
             room: room.to_path_buf(),
             values,
             observer: Observer::new(N, values),
             handed_out: HashSet::new(),
-            calls: 0,
-            restarts: 0,
-            sent_by_restart: 0,
+            met: Met::default(),
             read: 0,
             lent: [const { None }; N],
         }
@@ -99,10 +113,9 @@ impl Log {
             values: self.values.to_vec(),
             journal: lent,
         };
-        self.restarts += 1;
+        self.met.restarts += 1;
         if restarted.gave_back() {
-            let new = self.handed_out.insert(restarted.block.clone());
-            self.sent_by_restart += usize::from(new);
+            self.met.sent_by_restart += self.hand_out(&restarted.block);
         }
         self.observer.feed_restart(k, &restart, &Ok(restarted));
     }
@@ -115,23 +128,40 @@ impl Log {
     }
 
     fn feed(&mut self, k: usize, call: &Call, answer: &Result<Answer, u8>) {
-        self.calls += 1;
+        self.met.calls += 1;
         self.observer.feed(k, call, answer);
         if let Ok(Answer::Block(block)) = answer {
-            self.handed_out.insert(block.clone());
+            self.hand_out(block);
         }
+    }
+
+    /// 1 where the block is new, else 0.
+    fn hand_out(&mut self, block: &[u8; BLOCK]) -> u64 {
+        let new = u64::from(self.handed_out.insert(Box::new(*block)));
+        self.met.blocks += new;
+        new
     }
 }
 
-impl fmt::Display for Log {
+impl Met {
+    /// Adds what another program did.
+    pub fn add(&mut self, other: &Met) {
+        self.calls += other.calls;
+        self.restarts += other.restarts;
+        self.blocks += other.blocks;
+        self.sent_by_restart += other.sent_by_restart;
+        self.commits += other.commits;
+    }
+}
+
+impl fmt::Display for Met {
     fn fmt(&self, f: &mut fmt::Formatter) -> fmt::Result {
+        let [calls, restarts, blocks] = [self.calls, self.restarts, self.blocks].map(grouped);
+        let [first, commits] = [self.sent_by_restart, self.commits].map(grouped);
         write!(
             f,
-            "{} calls, {} restarts, {} blocks handed out, {} of them first by a restart",
-            self.calls,
-            self.restarts,
-            self.handed_out.len(),
-            self.sent_by_restart
+            "{calls} calls, {restarts} restarts, {blocks} blocks handed out, {first} of them first by a restart; \
+             {commits} writesets committed"
         )
     }
 }

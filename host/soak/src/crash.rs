@@ -1,0 +1,166 @@
+//! Three replicas over files in a program that is killed again and again: at the end demand 3 holds, and
+//! nothing that was handed out is lost.
+//!
+//! The program logs each call and its answer before it uses the answer, by one write for each line and
+//! with no buffer of its own. What a write was given is the system's from then on and outlives the
+//! program. So a kill can take the line of one call at most, of the one that it ended, and that one is no
+//! call of the list. The power stays on; so that blocks are lost that were not durable, the journals are
+//! cut between the runs, at any byte that a cut can leave.
+
+mod log;
+pub mod program;
+
+use std::fs::{self, File, OpenOptions};
+use std::path::{Path, PathBuf};
+use std::process::{Command, Stdio};
+use std::thread::sleep;
+use std::time::Duration;
+
+use model::block::{self, BLOCK};
+use model::drive::start_values;
+use model::samples::Random;
+use model::trace::{Answer, Call};
+use stemline::Durable;
+
+pub use self::log::{Log, Met};
+use crate::both::report;
+use crate::studio;
+
+/// Replicas of the group.
+const N: usize = 3;
+
+/// The journal of a replica in its folder.
+pub fn journal(room: &Path, k: usize) -> PathBuf {
+    room.join(format!("{k}.journal"))
+}
+
+/// A group over the files of a folder, whose program is killed.
+pub struct Crash {
+    room: PathBuf,
+    random: Random,
+    /// What the killed program did.
+    pub log: Log,
+}
+
+impl Crash {
+    /// A new group, in a folder that is made anew.
+    pub fn new(room: &Path, seed: u64) -> Crash {
+        let _ = fs::remove_dir_all(room);
+        fs::create_dir_all(room).unwrap();
+        Crash {
+            room: room.to_path_buf(),
+            random: Random::new(seed),
+            log: Log::new(room, start_values()),
+        }
+    }
+
+    /// Starts the program, a command that comes to [`program::run`], and kills it; then cuts some journals.
+    pub fn kill(&mut self, program: Command) {
+        self.log.before_start();
+        self.run_and_kill(program);
+        self.log.after_kill();
+        for k in 0..N {
+            if self.random.below(2) == 0 {
+                self.cut(k);
+            }
+        }
+    }
+
+    /// Lets the program run for a while, often a short one, and kills it.
+    fn run_and_kill(&mut self, mut program: Command) {
+        let said = self.room.join("said");
+        let file = File::create(&said).unwrap();
+        let seed = self.random.bits();
+        program.env(program::ASKED, format!("{seed} {}", self.room.display()));
+        program.stdout(file.try_clone().unwrap()).stderr(file);
+        let mut child = program.stdin(Stdio::null()).spawn().unwrap();
+        let most = self.random.pick(&[30_000, 100_000, 250_000]);
+        sleep(Duration::from_micros(self.random.below(most) as u64));
+        let ended = child.try_wait().unwrap();
+        child.kill().unwrap();
+        child.wait().unwrap();
+        let said = || fs::read_to_string(&said).unwrap();
+        assert!(ended.is_none(), "it ended by itself: {}", said());
+    }
+
+    /// Cuts a journal, at a byte at or above the floor.
+    fn cut(&mut self, k: usize) {
+        let file = OpenOptions::new().write(true).open(journal(&self.room, k));
+        let Ok(file) = file else {
+            return;
+        };
+        let length = file.metadata().unwrap().len() as usize;
+        let floor = self.log.observer.journal(k).floor();
+        assert!(floor <= length, "journal {k}: {length} bytes of {floor}");
+        let left = floor + self.random.below(length - floor + 1);
+        file.set_len(left as u64).unwrap();
+    }
+
+    /// Opens the replicas a last time and lets them come to rest: then demand 3 holds, and nothing is lost.
+    /// The folder goes.
+    pub fn rest(mut self) -> Met {
+        self.log.before_start();
+        let opened = (0..N).map(|k| studio::open(&journal(&self.room, k), N as u32, k as u32));
+        let (mut group, restarted): (Vec<_>, Vec<_>) = opened.unzip();
+        let mut last: Vec<[u8; BLOCK]> = restarted.iter().map(|r| *r.block).collect();
+        for (k, restarted) in restarted.into_iter().enumerate() {
+            self.log.restarted(k, None, restarted);
+        }
+        settle(&mut self.log, &mut group, &mut last);
+        self.check(&group);
+        fs::remove_dir_all(&self.room).unwrap();
+        Met {
+            commits: group[0].report().commits.into(),
+            ..self.log.met
+        }
+    }
+
+    /// What the log says of the list of calls, and what is on the disk.
+    fn check(&self, group: &[Durable]) {
+        let log = &self.log;
+        let end = |durable: &Durable| (report(durable.report()), *durable.values());
+        let ends: Vec<_> = group.iter().map(end).collect();
+        assert_eq!(log.observer.violations(&ends), [""; 0]);
+        assert!(log.observer.premise());
+        for (k, (report, values)) in ends.iter().enumerate() {
+            assert_eq!((report.turn, values), (ends[0].0.turn, &ends[0].1));
+            let bytes = fs::read(journal(&self.room, k)).unwrap();
+            assert_eq!(bytes.len(), BLOCK * report.turn as usize);
+            assert!(bytes == log.observer.journal(k).bytes(), "journal {k}");
+            for block in &log.handed_out {
+                let slot = block::header(block).slot as usize;
+                assert!(bytes[BLOCK * slot..][..BLOCK] == **block, "slot {slot}");
+            }
+        }
+    }
+}
+
+/// Hands out the last block of each and lets all send, until each has sent twice and all are at one turn.
+fn settle(log: &mut Log, group: &mut [Durable], last: &mut [[u8; BLOCK]]) {
+    let turn = |durable: &Durable| durable.report().turn;
+    let end = group.iter().map(turn).max().unwrap() + 2 * N as u32;
+    let rests = |group: &[Durable]| group.iter().all(|durable| turn(durable) == end);
+    // A turn is less than n behind another's, and a round moves each by one at least.
+    for _ in 0..4 * N {
+        if rests(group) {
+            return;
+        }
+        for k in 0..N {
+            if turn(&group[k]) < end {
+                if let Ok(Answer::Block(block)) = log.call(k, &mut group[k], &Call::Send) {
+                    last[k] = *block;
+                }
+            }
+            for block in &*last {
+                let bytes = block.to_vec();
+                let _ = log.call(k, &mut group[k], &Call::Deliver { bytes });
+            }
+            while log.call(k, &mut group[k], &Call::Work).is_ok() {}
+        }
+    }
+    let turns: Vec<u32> = group.iter().map(turn).collect();
+    assert!(
+        rests(group),
+        "at the turns {turns:?}, and not at {end}: a block is lost"
+    );
+}

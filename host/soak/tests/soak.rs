@@ -1,0 +1,105 @@
+//! The program, and that a killed group is found out if it loses something.
+
+use std::fs::{self, OpenOptions};
+use std::panic::{catch_unwind, AssertUnwindSafe};
+use std::path::{Path, PathBuf};
+use std::process::{Command, Output};
+
+use model::block::BLOCK;
+use soak::crash::{journal, Crash};
+
+const PROGRAM: &str = env!("CARGO_BIN_EXE_soak");
+
+fn soak(words: &[&str]) -> Output {
+    Command::new(PROGRAM).args(words).output().unwrap()
+}
+
+fn text(bytes: &[u8]) -> &str {
+    std::str::from_utf8(bytes).unwrap()
+}
+
+#[test]
+fn a_short_one() {
+    let ran = soak(&["--calls", "20000", "--kills", "2", "--seed", "21"]);
+    assert_eq!((ran.status.code(), text(&ran.stderr)), (Some(0), ""));
+    let said: Vec<&str> = text(&ran.stdout).lines().collect();
+    assert_eq!(said.len(), 3, "{said:?}");
+    let calls = said[0]
+        .strip_prefix("soak: ")
+        .and_then(|line| line.split_once(" calls, "));
+    let (calls, rest) = calls.unwrap();
+    let calls: u64 = calls.replace(',', "").parse().unwrap();
+    assert!((20_000..50_000).contains(&calls), "{said:?}");
+    assert!(
+        rest.contains(" commits, 2 kills, 0 differences; "),
+        "{said:?}"
+    );
+    assert!(said[1].starts_with("soak: compared: "), "{said:?}");
+    assert!(said[2].starts_with("soak: killed: "), "{said:?}");
+    assert!(said[2].ends_with("; nothing lost"), "{said:?}");
+}
+
+/// A status of 2, and one line in words.
+fn cannot_begin(ran: &Output) {
+    assert_eq!((ran.status.code(), text(&ran.stdout)), (Some(2), ""));
+    let said = text(&ran.stderr);
+    let one = said.lines().count() == 1;
+    assert!(said.starts_with("soak: ") && one, "{said}");
+}
+
+#[test]
+fn bad_words() {
+    for words in [&["--calls"][..], &["--calls", "x"], &["--hel"], &["1"]] {
+        cannot_begin(&soak(words));
+    }
+    let mut nowhere = Command::new(PROGRAM);
+    cannot_begin(&nowhere.env("TMPDIR", "/dev/null").output().unwrap());
+    let ran = soak(&["--help"]);
+    assert_eq!(ran.status.code(), Some(0));
+    assert!(text(&ran.stdout).starts_with("usage: scripts/soak "));
+}
+
+/// A group that was killed until each replica's journal has some blocks.
+fn killed(name: &str) -> (Crash, PathBuf) {
+    let room = Path::new(env!("CARGO_TARGET_TMPDIR")).join(name);
+    let mut crash = Crash::new(&room, 3);
+    let blocks = |k| crash_length(&room, k) / BLOCK as u64;
+    let mut kills = 0;
+    while (0..3).any(|k| blocks(k) < 6) {
+        crash.kill(Command::new(PROGRAM));
+        kills += 1;
+        assert!(kills < 400, "no blocks");
+    }
+    (crash, room)
+}
+
+fn crash_length(room: &Path, k: usize) -> u64 {
+    fs::metadata(journal(room, k)).map_or(0, |file| file.len())
+}
+
+/// Whether the check of a killed group passes.
+fn passes(crash: Crash) -> bool {
+    catch_unwind(AssertUnwindSafe(|| crash.rest())).is_ok()
+}
+
+#[test]
+fn nothing_lost() {
+    assert!(passes(killed("kept").0));
+}
+
+/// The end of a journal, from the last own block on; and the whole of it.
+#[test]
+fn a_loss_is_found() {
+    for whole in [false, true] {
+        let (crash, room) = killed("lost");
+        for k in 0..3 {
+            let floor = crash.log.observer.journal(k).floor() as u64;
+            let left = if whole { 0 } else { floor - BLOCK as u64 };
+            let file = OpenOptions::new().write(true).open(journal(&room, k));
+            if k == 1 {
+                file.unwrap().set_len(left).unwrap();
+            }
+        }
+        assert!(!passes(crash), "the whole journal: {whole}");
+    }
+}
