@@ -53,8 +53,9 @@ use Rattle.engine.specs.Moves.{sendRow}
 use Rattle.memory.proofs.Counts as Q
 use Rattle.memory.proofs.Counts.Laws as Q′
 use Rattle.memory.proofs.Txn as T
+use Rattle.memory.proofs.Txn.Laws as T′
 use Rattle.memory.proofs.Turn as K
-use Rattle.host_table.specs.Table.{loaded}
+use Rattle.host_table.specs.Table.{withWrites, loaded}
 use Rattle.host_table.proofs.Lend.{MutAt, ShrAt, MutOf, ShrOf, slice-lent, slice-read, slice-shared, ref-lent, ref-read, ref-shared, calls-lending}
 use Rattle.host_table.proofs.Steps.{when, equal, unequal, missed, unit-typed, frees-all}
 use Rattle.host_table.proofs.Steps.Held.{cell, room}

@@ -21,6 +21,7 @@ class Helper:
 HELPERS = {  # by the name in a proof
     "load": Helper("load", "Load", law="load"), "scan": Helper("scan", "Scan", law="scan"), "find": Helper("find", "Find", law="find"), "row": Helper("row", "Row", law="row"),
     "put": Helper("put", "Put", law="put"), "end": Helper("end", "End", law="end"), "stage": Helper("set_stage", "SetStage", law="stage"),
+    "writes": Helper("set_writes", "SetWrites", law="writes"),
     "ended": Helper("end_rows", "EndRows", law="end-rows"), "mark": Helper("mark_rows", "MarkRows", law="mark"),
     "copy": Helper("copy_turn", "CopyOut", "U.turn", "copy-out"), "turn": Helper("set_turn", "StoreAll", "U.turn", "store-all"),
     "copied": Helper("copy_counts", "CopyOut", "N.counts", "copy-out"), "counts": Helper("set_counts", "StoreAll", "N.counts", "store-all"),
@@ -270,6 +271,10 @@ class Walk(Names):
             row = f"(rowAt ys {index})"
             asked = f"(record {{ ticket = {row} .ticket; stage = 1; snapshot = {row} .snapshot; writes = {row} .writes }})"
             self.writes_table("stage", f"(set ys {index} {asked})", f"(length-set ys {index} {asked})", f"{index} (is₁ .1) 1 one-fits", operands, local)
+        elif name == "set_writes":
+            written = f"(withWrites (rowAt ys {index}) (r .row .writes))"
+            fits = f"(LL.owed T.the-type T′.the-laws (r .row) _ (fields{call.field('row')}) .1 .1 .1 .0 .1)"
+            self.writes_table("writes", f"(set ys {index} {written})", f"(length-set ys {index} {written})", f"{index} (is₁ .1) (r .row .writes) {fits}", operands, local)
         elif name == "end_rows":
             if call.makes:
                 self.writes_table("ended", "(endRows all-ended ys)", "(ended-length all-ended ys)", "all-ended all-ended-val", operands, local, " all-ended-is")

@@ -1,4 +1,4 @@
--- Document 01's marked cases, computed from the definitions. Assumes nothing.
+-- The lists of calls of `specs/Worked.antt`, computed from the definitions. Assumes nothing.
 use mathlib.Core.Path.{refl}
 use Rattle.block.specs.Numbers.{bytesOf, numberFrom, valueBytes, valueOf}
 use Rattle.block.specs.Check.{word, sumTo, weightedTo, firstCheck, secondCheck, checkBytes, checkMatches}
@@ -7,7 +7,6 @@ use Rattle.block.specs.Bytes.{entryBytes, entriesBytes, recordBytes, recordsByt
 use Rattle.block.specs.Form.{entryOf, entriesOf, recordOf, recordsOf, messageOf, allZero, entriesPadded, recordPadded, recordsPadded, padded, wellFormed}
 use Rattle.block.specs.Answers.{firstOf, headerOf, recordAt, entryAt}
 use Rattle.block.specs.Writing.{entriesFrom}
-use Rattle.block.proofs.Worked.{worked-blocks}
 use Rattle.memory.specs.Memory.{bump}
 use Rattle.memory.specs.Rows.{openCount, rowFrom, rowOf, freeRow, indexFrom, has, holderFrom, countBelow}
 use Rattle.memory.specs.Turns.{placeStart}
@@ -16,27 +15,13 @@ use Rattle.engine.specs.Classes.{hasClass, classFrom, classToCome, mustW
 use Rattle.engine.specs.Client.{beginRefusal, beginAt, beginRow, readRefusal, valueFor, readRow, writeRefusal, rewriteAt, insertWrite, staleAt, writeRow, askRefusal, readOnlyAt, queueAt, askRow, withdrawRefusal, withdrawAt, withdrawRow}
 use Rattle.engine.specs.Moves.{waiting, writesetOf, messageFor, sendRefusal, sendNow, sendStep, sameBytes, deliverRefusal, deliverNow, deliverStep, entriesFor, applied, stamped, shares, afterAborts, insertRising, hitTickets, without, workRefusal, passNext, commitWriteset, workStep}
 use Rattle.engine.specs.Step.{step}
-use Rattle.engine.specs.Worked.{WorkedCases, answers}
+use Rattle.engine.specs.Worked.{RightAnswers, answers}
 
-pub worked-cases : WorkedCases
+pub right-answers : RightAnswers
 unfolding bytesOf numberFrom valueBytes valueOf word sumTo weightedTo firstCheck secondCheck checkBytes checkMatches ownerOf within kindFits entriesFit recordFits recordsFit ticketAbsent ticketsDiffer valid entryBytes entriesBytes recordBytes recordsBytes headerFor headerBytes bodyBytes blockOf entryOf entriesOf recordOf recordsOf messageOf allZero entriesPadded recordPadded recordsPadded padded wellFormed firstOf headerOf recordAt entryAt entriesFrom bump openCount rowFrom rowOf freeRow indexFrom has holderFrom countBelow placeStart madeMemory placesFit partsFit makeRefusal makeStep beginRefusal beginAt beginRow readRefusal valueFor readRow writeRefusal rewriteAt insertWrite staleAt writeRow askRefusal readOnlyAt queueAt askRow withdrawRefusal withdrawAt withdrawRow waiting writesetOf messageFor sendRefusal sendNow sendStep sameBytes deliverRefusal deliverNow deliverStep entriesFor applied stamped shares afterAborts insertRising hitTickets without workRefusal passNext commitWriteset workStep hasClass classFrom classToCome mustWait areClasses loadRefusal loadStep step answers
-worked-cases = record {
-  blocks = worked-blocks;
-  size-1 = refl;
-  size-7 = refl;
-  size-2 = refl;
-  size-6 = refl;
-  items = refl;
-  ninth = refl;
-  seventh = refl;
-  ahead = refl;
-  twice = refl;
-  own-early = refl;
-  aborted = refl;
-  stale = refl;
-  committed = refl;
+right-answers = record {
+  remote = refl;
+  own = refl;
   early = refl;
-  sent-holds = refl;
   classes = refl;
-  sent-once = refl;
 }

@@ -1,2 +1,3 @@
--- The journals computed.
+-- The cases and the journals computed.
+pub mod Cases
 pub mod Journals

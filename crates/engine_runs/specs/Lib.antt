@@ -1,2 +1,3 @@
--- Document 02's Req 01, worked.
+-- Document 01's marked cases; document 02's Req 01, worked.
+pub mod Cases
 pub mod Journals

@@ -1,1 +1,1 @@
-// Theorems only: restarts from small journals, computed from the definitions.
+// Theorems only: document 01's marked cases and restarts from small journals, computed from the definitions.

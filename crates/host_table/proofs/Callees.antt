@@ -35,7 +35,7 @@ use Rattle.memory.specs.declared.Txn.{Txn}
 use Rattle.memory.specs.declared.Turn.{Turn}
 use Rattle.memory.specs.Rows.{closed, endRows, rowAt, rowFrom, rowOf}
 use Rattle.engine.specs.Moves.{sendRow}
-use Rattle.host_table.specs.Table.{withStage, loaded}
+use Rattle.host_table.specs.Table.{withStage, withWrites, loaded}
 use Rattle.host_table.proofs.Lend.{MutAt, ShrAt, MutOf, ShrOf}
 use Rattle.host_table.proofs.Answers.{answers, leaves-slice, leaves-ref}
 use Rattle.host_table.proofs.Rows.{R, makes}
@@ -50,6 +50,7 @@ use Rattle.host_table.proofs.find as find
 use Rattle.host_table.proofs.row as row
 use Rattle.host_table.proofs.put as put
 use Rattle.host_table.proofs.set_stage as set-stage
+use Rattle.host_table.proofs.set_writes as set-writes
 use Rattle.host_table.proofs.end as end
 use Rattle.host_table.proofs.end_rows as end-rows
 use Rattle.host_table.proofs.mark_rows as mark-rows
@@ -72,6 +73,9 @@ module _ {M : Type 1} (𝓤 : URA M) (H : Heap 𝓤) (A : Atoms 𝓤) (mem : Mem
 
   abbrev pub SetStage : Contract 𝓤
   SetStage = tripleOf 𝓤 H A set-stage.signature (set-stage.spec 𝓤 H A mem run)
+
+  abbrev pub SetWrites : Contract 𝓤
+  SetWrites = tripleOf 𝓤 H A set-writes.signature (set-writes.spec 𝓤 H A mem run)
 
   abbrev pub EndRows : Contract 𝓤
   EndRows = tripleOf 𝓤 H A end-rows.signature (end-rows.spec 𝓤 H A mem run)
@@ -194,6 +198,19 @@ module _ {M : Type 1} (𝓤 : URA M) (H : Heap 𝓤) (A : Atoms 𝓤) (W : Given
 
     pub gives-stage : (ν : ℕ) (δ : GName) (u : Val) → ent 𝓤 (SetStage 𝓤 H A mem run .post (to-stage ν δ) u) (H .⇛ (guard 𝓤 (u ≡ vunit) (sep 𝓤 (A .lft (ν ∷ []) fullShare) (sem 𝓤 H A (finally R δ (set ys n (withStage (rowAt ys n) k)))))))
     gives-stage ν δ u = leaves-slice 𝓤 H A W R (plain (λ _. usize) ∷ plain (λ _. u32) ∷ []) (yes, (yes, tt)) (set-stage.clauses 𝓤 H A mem run) (to-stage ν δ) (set ys n (withStage (rowAt ys n) k)) (λ r e. id⊢ 𝓤 _) u
+
+  -- ---- set_writes, of row n, to k
+  module _ (b o : ℕ) (ys : List Txn) (n : ℕ) (gn : n < 2 ^ 64) (k : ℕ) (gk : k < 2 ^ 32) where
+    abbrev pub to-writes : ℕ → GName → SetWrites 𝓤 H A mem run .Ghost
+    to-writes ν δ = (((ν ∷ [], tt), (fullShare, tt), tt, (at-ref b o δ ys, (n, (k, tt))), (of-slice b o ys, (vint w64 n ∷ [], (vint w32 k ∷ [], tt)))), tt)
+
+    pub asks-writes : (ν : ℕ) (δ : GName) → ent 𝓤 (sep 𝓤 (A .lft (ν ∷ []) fullShare) (sem 𝓤 H A (MutAt R b o (ν ∷ []) δ (length ys) ys))) (SetWrites 𝓤 H A mem run .pre (to-writes ν δ))
+    asks-writes ν δ =
+        qed W (‵ (flft (ν ∷ []) fullShare) ∷ ‵ (MutAt R b o (ν ∷ []) δ (length ys) ys) ∷ []) ∵ nothing ! $ move ! (1 ∷ 0 ∷ []) $ join ! $
+        nothing ! $ owned ! u32 (Is u32) (uint-makes 𝓤 H A W w32) k _ (refl, gk) $ fjoin ! $ owned ! usize (Is usize) (uint-makes 𝓤 H A W w64) n _ (refl, gn) $ fjoin ! $ move ! (2 ∷ 0 ∷ []) $ fjoin ! $ move ! (1 ∷ 0 ∷ []) $ join ! $ frame ! $ done !
+
+    pub gives-writes : (ν : ℕ) (δ : GName) (u : Val) → ent 𝓤 (SetWrites 𝓤 H A mem run .post (to-writes ν δ) u) (H .⇛ (guard 𝓤 (u ≡ vunit) (sep 𝓤 (A .lft (ν ∷ []) fullShare) (sem 𝓤 H A (finally R δ (set ys n (withWrites (rowAt ys n) k)))))))
+    gives-writes ν δ u = leaves-slice 𝓤 H A W R (plain (λ _. usize) ∷ plain (λ _. u32) ∷ []) (yes, (yes, tt)) (set-writes.clauses 𝓤 H A mem run) (to-writes ν δ) (set ys n (withWrites (rowAt ys n) k)) (λ r e. id⊢ 𝓤 _) u
 
   -- ---- end_rows, by the marks ms whose machine value is v
   module _ (b o : ℕ) (ys : List Txn) (ms : List Bool) (v : Val) where

@@ -1,4 +1,4 @@
--- The laws of a row of the table under short names, a free row's value, a row with another stage, and that a table of six is its six rows.
+-- The laws of a row of the table under short names, a free row's value, a row with another stage or number of written items, and that a table of six is its six rows.
 -- Assumes nothing.
 use mathlib.Core.Path.{_≡_, refl}
 use Prim.Native.Nat.{ℕ, _<_, _^_}
@@ -16,7 +16,7 @@ use denote.Laws.{Is, Tells, Copy, Makes, Lawful}
 use denote.Struct.Laws as LL
 use Rattle.memory.specs.declared.Txn.{Txn}
 use Rattle.memory.specs.Rows.{closed}
-use Rattle.host_table.specs.Table.{withStage}
+use Rattle.host_table.specs.Table.{withStage, withWrites}
 use Rattle.memory.proofs.Txn as T
 use Rattle.memory.proofs.Txn.Laws as T′
 
@@ -51,6 +51,9 @@ free-is = LL.owes T.the-type T′.the-laws closed ((refl, omega arith), ((refl, 
 
 pub staged-is : (t : Txn) (s : ℕ) → s < 2 ^ 32 → Is R t (vals t) → Is R (withStage t s) (vals (withStage t s))
 staged-is t s fits was = let g = LL.owed T.the-type T′.the-laws t (vals t) was in LL.owes T.the-type T′.the-laws (withStage t s) (g .0, ((refl, fits), g .1 .1))
+
+pub written-is : (t : Txn) (n : ℕ) → n < 2 ^ 32 → Is R t (vals t) → Is R (withWrites t n) (vals (withWrites t n))
+written-is t n fits was = let g = LL.owed T.the-type T′.the-laws t (vals t) was in LL.owes T.the-type T′.the-laws (withWrites t n) (g .0, (g .1 .0, (g .1 .1 .0, ((refl, fits), g .1 .1 .1 .1))))
 
 pub stage-fits : (t : Txn) → Is R t (vals t) → t .stage < 2 ^ 32
 stage-fits t was = LL.owed T.the-type T′.the-laws t (vals t) was .1 .0 .1

@@ -11,7 +11,7 @@ use lib.ListN.{length, getD, set, take}
 use Rattle.memory.specs.declared.Txn.{Txn}
 use Rattle.memory.specs.Rows.{closed, endRows, rowAt}
 use Rattle.engine.specs.Moves.{sendRow}
-use Rattle.host_table.specs.Table.{withStage, loaded}
+use Rattle.host_table.specs.Table.{withStage, withWrites, loaded}
 
 pub loaded-six : (t : List Txn) → length t ≡ 6 → loaded t ≡ t
 unfolding loaded
@@ -90,3 +90,16 @@ sent-all zero [] h = refl
 sent-all (suc i) [] h = refl
 sent-all zero (y ∷ ys) h = absurd (not-suc-le-zero h)
 sent-all (suc i) (y ∷ ys) h = ap (λ (l : List Txn). sendRow y ∷ l) (sent-all i ys (le-of-suc-le-suc h))
+
+-- ---- one row's number of written items, stored where it lies
+
+pub written-same : (l : List Txn) (i : ℕ) → set l i (withWrites (rowAt l i) (rowAt l i .writes)) ≡ l
+written-same [] i = refl
+written-same (y ∷ ys) zero = refl
+written-same (y ∷ ys) (suc i) = ap (λ (l : List Txn). y ∷ l) (written-same ys i)
+
+-- as many as the row that was put there has
+pub written-put : (l : List Txn) (i : ℕ) (u : Txn) → set l i (withWrites (rowAt l i) (rowAt (set l i u) i .writes)) ≡ set l i (withWrites (rowAt l i) (u .writes))
+written-put [] i u = refl
+written-put (y ∷ ys) zero u = refl
+written-put (y ∷ ys) (suc i) u = ap (λ (l : List Txn). y ∷ l) (written-put ys i u)

@@ -6,7 +6,7 @@ ghost use lib.ListN.{set};
 ghost use Rattle.memory.specs.Memory.{withTickets, withReadOnly, withAborted, withWithdrawn};
 ghost use Rattle.memory.specs.Rows.{closed, endRows, rowAt, rowFrom, rowOf};
 ghost use Rattle.engine.specs.Moves.{sendRow};
-ghost use Rattle.host_table.specs.Table.{withStage, loaded};
+ghost use Rattle.host_table.specs.Table.{withStage, withWrites, loaded};
 use memory::Counts;
 use memory::Turn;
 use memory::Txn;
@@ -66,6 +66,15 @@ pub fn set_stage(table: &mut [Txn], at: usize, stage: u32)
 {
     if at < table.len() {
         table[at].stage = stage;
+    }
+}
+
+// How many items one row has written, and nothing else of it; a row past the last is none.
+pub fn set_writes(table: &mut [Txn], at: usize, writes: u32)
+    ensures { λ _. ⌜ now (table .exit) ≡ set (now (table .entry)) at (withWrites (rowAt (now (table .entry)) at) writes) ⌝ }
+{
+    if at < table.len() {
+        table[at].writes = writes;
     }
 }
 

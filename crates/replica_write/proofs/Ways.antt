@@ -1,7 +1,7 @@
 -- How each return of a write meets what the call says, from what the call by value says and the tests that led there. Assumes nothing.
 --     …-kept      refused: what is held stays
 --     …-did and the like      accepted: what was written to the table and the counts where they lie is what the step says
-use Prim.Native.Nat.{ℕ}
+use Prim.Native.Nat.{ℕ, _+_}
 use mathlib.Core.Path.{_≡_, refl, sym, ap, _∙_}
 use mathlib.Core.List.{List}
 use native.Mathlib.Omega.{arith}
@@ -12,7 +12,7 @@ use Rattle.memory.specs.declared.Counts.{Counts}
 use Rattle.memory.specs.declared.Turn.{Turn}
 use Rattle.memory.specs.declared.Txn.{Txn}
 use Rattle.memory.specs.Memory.{Memory, withAborted}
-use Rattle.memory.specs.Rows.{closed, rowOf, rowAt}
+use Rattle.memory.specs.Rows.{closed, rowOf, rowAt, writeCount}
 use Rattle.engine.specs.Calls.{Outcome, outcome}
 use Rattle.engine.specs.Calls.Answer.{refused}
 use Rattle.engine.specs.Client.{isOwn, ownIndex, writeRefusal, rewriteAt, insertWrite, staleAt, writeRow, writeStep}
@@ -22,8 +22,8 @@ use Rattle.call_reply.specs.declared.Changed.{Changed}
 use Rattle.call_reply.specs.Parts.{writeParts}
 use Rattle.call_reply.specs.Replies.{number, Gives}
 use Rattle.call_reply.proofs.CalledLaws.{called-six}
-use Rattle.host_table.specs.Table.{loaded}
-use Rattle.host_table.proofs.TableLaws.{loaded-six}
+use Rattle.host_table.specs.Table.{withWrites, loaded}
+use Rattle.host_table.proofs.TableLaws.{loaded-six, written-same, written-put}
 use Rattle.replica_write.proofs.Facts.{WriteOn, WriteDid}
 
 module _ (table : List Txn) (turn : Turn) (counts : Counts) (ticket : ℕ) (items : List ℕ) (writes : List ℤ) (stamps classes places : List ℕ) (item : ℕ) (value : ℤ) (r : Changed) (items′ : List ℕ) (writes′ : List ℤ) (six : length table ≡ 6)
@@ -41,6 +41,17 @@ module _ (table : List Txn) (turn : Turn) (counts : Counts) (ticket : ℕ) (item
     write-way : (n : ℕ) (t : List Txn) (c : Counts) → WriteWay n t c (writeRow before₃ at₃ item value)
         → Gives number (Rattle.call_reply.specs.Called.called (λ (x : Memory). writeStep x ticket item value) before₃) n (writeParts m turn c t items′ writes′ stamps classes places)
     write-way n t c way = rw (called-six (λ (x : Memory). writeStep x ticket item value) before₃ six) (way ((rw (loaded-six table six) at said .0) m refl))
+
+    -- a memory's parts with this table
+    abbrev written : List Txn → Memory → Memory
+    written l x = writeParts m turn counts l (x .txns .items) (x .txns .writes) stamps classes places
+
+    -- what the call by value leaves
+    abbrev said-left : Memory
+    said-left = writeParts m turn (r .counts) (set table at₃ (r .row)) items′ writes′ stamps classes places
+
+    put-back : (x : Memory) (u : Txn) → written (set table at₃ (withWrites (rowAt table at₃) (rowAt (set table at₃ u) at₃ .writes))) x ≡ written (set table at₃ (withWrites (rowAt table at₃) (u .writes))) x
+    put-back x u = ap (λ (l : List Txn). written l x) (written-put table at₃ u)
 
     -- by the four ends of a write
     write-by : (P : Outcome → Type 0) → P (staleAt before₃ at₃) → P (rewriteAt before₃ at₃ (ownIndex before₃ at₃ item) value) → P (insertWrite before₃ at₃ (rowAt table at₃) item value)
@@ -68,9 +79,14 @@ module _ (table : List Txn) (turn : Turn) (counts : Counts) (ticket : ℕ) (item
         (λ g. absurd (other (g .0))) (λ g. absurd (z (g .0))) (λ g. absurd (z (g .0)))
         (λ n y w g. (g .0, ap (λ (x : Memory). writeParts m turn counts table (x .txns .items) (x .txns .writes) stamps classes places) (g .1))))
 
-    pub write-did : r .number ≡ 0 → WriteDid table turn counts ticket items writes stamps classes places item value 0 (set table at₃ (r .row)) counts items′ writes′
+    -- of the row put back only the number of its written items is another
+    pub write-did : r .number ≡ 0 → WriteDid table turn counts ticket items writes stamps classes places item value 0 (set table at₃ (withWrites (rowAt table at₃) (r .row .writes))) counts items′ writes′
     unfolding staleAt rewriteAt insertWrite
     write-did z = λ m.
-        let t = set table at₃ (r .row) in
-        let only : Memory → Memory = λ x. writeParts m turn counts (x .txns .table) (x .txns .items) (x .txns .writes) stamps classes places in
-        write-way m 0 t counts (write-by m (WriteWay m 0 t counts) (λ g. absurd (other (g .0))) (λ g. (refl, ap only (g .1))) (λ g. (refl, ap only (g .1))) (λ n y w g. absurd (y (sym (g .0) ∙ z))))
+        let t = set table at₃ (withWrites (rowAt table at₃) (r .row .writes)) in
+        let before = before₃ m in
+        let only : Memory → Memory = λ x. written m (set table at₃ (withWrites (rowAt table at₃) (rowAt (x .txns .table) at₃ .writes))) x in
+        write-way m 0 t counts (write-by m (WriteWay m 0 t counts) (λ g. absurd (other (g .0)))
+        (λ g. (refl, sym (put-back m (said-left m) (r .row)) ∙ ap only (g .1) ∙ ap (λ (l : List Txn). written m l (rewriteAt before at₃ (ownIndex before at₃ item) value .memory)) (written-same table at₃)))
+        (λ g. (refl, sym (put-back m (said-left m) (r .row)) ∙ ap only (g .1) ∙ put-back m (insertWrite before at₃ (rowAt table at₃) item value .memory) (withWrites (rowAt table at₃) (writeCount (rowAt table at₃) + 1))))
+        (λ n y w g. absurd (y (sym (g .0) ∙ z))))

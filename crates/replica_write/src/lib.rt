@@ -12,9 +12,9 @@ use host_table::copy_turn;
 use host_table::end;
 use host_table::find;
 use host_table::load;
-use host_table::put;
 use host_table::row;
 use host_table::set_aborted;
+use host_table::set_writes;
 use memory::Counts;
 use memory::Turn;
 use memory::Txn;
@@ -69,7 +69,7 @@ pub extern "C" fn stemline_write(
     if done.number != 0 {
         return done.number;
     }
-    put(table, at, done.row);
+    set_writes(table, at, done.row.writes);
     0
 }
 

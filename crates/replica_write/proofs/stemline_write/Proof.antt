@@ -51,7 +51,8 @@ use Rattle.memory.specs.Rows.{closed, rowOf, rowAt}
 use Rattle.memory.proofs.Counts as Q
 use Rattle.memory.proofs.Counts.Laws as Q′
 use Rattle.memory.proofs.Txn as T
-use Rattle.host_table.specs.Table.{loaded}
+use Rattle.memory.proofs.Txn.Laws as T′
+use Rattle.host_table.specs.Table.{withWrites, loaded}
 use Rattle.host_table.proofs.Lend.{MutAt, MutOf, ShrOf, slice-lent, slice-read, ref-lent, ref-read, ref-shared, calls-lending}
 use Rattle.host_table.proofs.Steps.{when, equal, unequal, missed, unit-typed, frees-all}
 use Rattle.host_table.proofs.Steps.Held.{cell, room}
@@ -73,12 +74,12 @@ use Rattle.host_table.proofs.find.Met as find-thm
 use Rattle.host_table.proofs.row.Symbol as row-def
 use Rattle.host_table.proofs.row.Symbol.{name as #row}
 use Rattle.host_table.proofs.row.Met as row-thm
-use Rattle.host_table.proofs.put.Symbol as put-def
-use Rattle.host_table.proofs.put.Symbol.{name as #put}
-use Rattle.host_table.proofs.put.Met as put-thm
 use Rattle.host_table.proofs.end.Symbol as end-def
 use Rattle.host_table.proofs.end.Symbol.{name as #end}
 use Rattle.host_table.proofs.end.Met as end-thm
+use Rattle.host_table.proofs.set_writes.Symbol as writes-def
+use Rattle.host_table.proofs.set_writes.Symbol.{name as #writes}
+use Rattle.host_table.proofs.set_writes.Met as writes-thm
 use Rattle.host_table.proofs.copy_turn.Symbol as copy-def
 use Rattle.host_table.proofs.copy_turn.Symbol.{name as #copy}
 use Rattle.host_table.proofs.copy_turn.Met as copy-thm
@@ -92,7 +93,7 @@ use Rattle.call_write.proofs.write as call
 use Rattle.call_write.proofs.write.Symbol as call-def
 use Rattle.call_write.proofs.write.Symbol.{name as #call}
 use Rattle.call_write.proofs.write.Met as call-thm
-use Rattle.host_table.proofs.Callees.{CopyOut, End, Find, Load, Put, Row, StoreOne, to-copy-out, asks-copy-out, gives-copy-out, to-end, asks-end, gives-end, to-find, asks-find, gives-find, to-load, asks-load, gives-load, to-put, asks-put, gives-put, to-row, asks-row, gives-row, to-store-one, asks-store-one, gives-store-one}
+use Rattle.host_table.proofs.Callees.{CopyOut, End, Find, Load, Row, SetWrites, StoreOne, to-copy-out, asks-copy-out, gives-copy-out, to-end, asks-end, gives-end, to-find, asks-find, gives-find, to-load, asks-load, gives-load, to-row, asks-row, gives-row, to-store-one, asks-store-one, gives-store-one, to-writes, asks-writes, gives-writes}
 use Rattle.replica_write.proofs.stemline_write.Key.{name as #own}
 use Rattle.replica_write.proofs.stemline_write as own
 use Rattle.replica_write.proofs.stemline_write.Statement as stated
@@ -155,7 +156,7 @@ module _ {M : Type 1} (𝓤 : URA M) (H : Heap 𝓤) (A : Atoms 𝓤) (W : Given
       qed W (‵ (MutAt R b₀ o₀ κ₀ γ₀ (length ys) ys) ∷ ‵ (flft κ₀ q₀) ∷ ‵ (ShrOf U.R b₁ o₁ κ₁ γ₁ h) ∷ ‵ (flft κ₁ q₁) ∷ ‵ (MutOf N.R b₂ o₂ κ₂ γ₂ c) ∷ ‵ (flft κ₂ q₂) ∷ ‵ Rest ∷ Toks ∷ []) ∵ updating ! $ move ! (6 ∷ []) $ use1 W (later (‵ (fsep ftrue (fsep (left (MutSlice (named 0) κ₄ u8 .exit yes) (record { ptr = (b₄, o₄); name = γ₄; now = items }) items) (fsep (left (MutSlice (named 0) κ₅ i32 .exit yes) (record { ptr = (b₅, o₅); name = γ₅; now = writes }) writes) (fsep ftrue (fsep ftrue (fsep ftrue (fsep ftrue (fsep ftrue ftrue)))))))))) (go-all 𝓤 H A W 8 ((plain (λ _. u32)) ∷ (mutSliceOf (3 ∷ []) tt (plain (λ _. u8))) ∷ (mutSliceOf (4 ∷ []) tt (plain (λ _. i32))) ∷ (shrSliceOf (5 ∷ []) tt (plain (λ _. u32))) ∷ (shrSliceOf (6 ∷ []) tt (plain (λ _. u8))) ∷ (shrSliceOf (7 ∷ []) tt (plain (λ _. u8))) ∷ (plain (λ _. u32)) ∷ (plain (λ _. i32)) ∷ []) (yes, (yes, (yes, (yes, (yes, (yes, (yes, (yes, tt)))))))) (stay-none (λ _. u32) yes, (stay-slice (3 ∷ []) tt (plain (λ _. u8)), (stay-slice (4 ∷ []) tt (plain (λ _. i32)), (stay-none-slice (5 ∷ []) tt (plain (λ _. u32)) yes, (stay-none-slice (6 ∷ []) tt (plain (λ _. u8)) yes, (stay-none-slice (7 ∷ []) tt (plain (λ _. u8)) yes, (stay-none (λ _. u32) yes, (stay-none (λ _. i32) yes, tt)))))))) (goes-none 𝓤 H A W 8 (λ _. u32) yes (λ κs x f. refl), (goes-slice 𝓤 H A W 8 3 tt (plain (λ _. u8)), (goes-slice 𝓤 H A W 8 4 tt (plain (λ _. i32)), (goes-none-slice 𝓤 H A W 8 (5 ∷ []) tt (plain (λ _. u32)) yes, (goes-none-slice 𝓤 H A W 8 (6 ∷ []) tt (plain (λ _. u8)) yes, (goes-none-slice 𝓤 H A W 8 (7 ∷ []) tt (plain (λ _. u8)) yes, (goes-none 𝓤 H A W 8 (λ _. u32) yes (λ κs x f. refl), (goes-none 𝓤 H A W 8 (λ _. i32) yes (λ κs x f. refl), tt)))))))) (κ₀, (κ₁, (κ₂, (κ₄, (κ₅, (κ₆, (κ₇, (κ₈, tt)))))))) rest (tt, (items, (writes, (tt, (tt, (tt, (tt, (tt, tt)))))))) rest-at (tt, (refl, (refl, (tt, (tt, (tt, (tt, (tt, tt))))))))) $ await ! tt $ move ! (1 ∷ 2 ∷ 3 ∷ 4 ∷ 5 ∷ 6 ∷ 0 ∷ []) $
       by ! (ends v (1) ys c items writes is refl (write-not ys h c ticket items writes stamps classes places item value other))
 
-  module _ (C : Calls 𝓤 H) (Λ : Loops 𝓤 H) (fm : FmC 𝓤 H (W .laws) C) (known-load : Triple 𝓤 (C #load) (Load 𝓤 H A mem run)) (known-find : Triple 𝓤 (C #find) (Find 𝓤 H A mem run)) (known-row : Triple 𝓤 (C #row) (Row 𝓤 H A mem run)) (known-put : Triple 𝓤 (C #put) (Put 𝓤 H A mem run)) (known-end : Triple 𝓤 (C #end) (End 𝓤 H A mem run)) (known-copy : Triple 𝓤 (C #copy) (CopyOut 𝓤 H A mem run U.turn)) (known-copied : Triple 𝓤 (C #copied) (CopyOut 𝓤 H A mem run N.counts)) (known-aborted : Triple 𝓤 (C #aborted) (StoreOne 𝓤 H A mem run N.counts N.aborted)) (known-call : Triple 𝓤 (C #call) (ByValue 𝓤 H A mem run)) where
+  module _ (C : Calls 𝓤 H) (Λ : Loops 𝓤 H) (fm : FmC 𝓤 H (W .laws) C) (known-load : Triple 𝓤 (C #load) (Load 𝓤 H A mem run)) (known-find : Triple 𝓤 (C #find) (Find 𝓤 H A mem run)) (known-row : Triple 𝓤 (C #row) (Row 𝓤 H A mem run)) (known-end : Triple 𝓤 (C #end) (End 𝓤 H A mem run)) (known-writes : Triple 𝓤 (C #writes) (SetWrites 𝓤 H A mem run)) (known-copy : Triple 𝓤 (C #copy) (CopyOut 𝓤 H A mem run U.turn)) (known-copied : Triple 𝓤 (C #copied) (CopyOut 𝓤 H A mem run N.counts)) (known-aborted : Triple 𝓤 (C #aborted) (StoreOne 𝓤 H A mem run N.counts N.aborted)) (known-call : Triple 𝓤 (C #call) (ByValue 𝓤 H A mem run)) where
     walk : ent 𝓤 (onEntry 𝓤 H A own.signature (κ₀, (κ₁, (κ₂, (κ₄, (κ₅, (κ₆, (κ₇, (κ₈, tt)))))))) (q₀, (q₁, (q₂, (q₄, (q₅, (q₆, (q₇, (q₈, tt)))))))) a at) (WpFn 𝓤 H C Λ code.function (sliceVal (b₀, o₀) (length ys) ∷ vptr b₁ o₁ ∷ vptr b₂ o₂ ∷ vint w32 ticket ∷ sliceVal (b₄, o₄) (length items) ∷ sliceVal (b₅, o₅) (length writes) ∷ sliceVal (b₆, o₆) (length stamps) ∷ sliceVal (b₇, o₇) (length classes) ∷ sliceVal (b₈, o₈) (length places) ∷ vint w32 item ∷ vint w32 (ofZ w32 value) ∷ []) Post)
     walk =
         qed W ((‵ (flft κ₀ q₀) ⊛ (‵ (flft κ₁ q₁) ⊛ (‵ (flft κ₂ q₂) ⊛ (‵ (flft κ₄ q₄) ⊛ (‵ (flft κ₅ q₅) ⊛ (‵ (flft κ₆ q₆) ⊛ (‵ (flft κ₇ q₇) ⊛ (‵ (flft κ₈ q₈) ⊛ ‵ ftrue)))))))) ∷ ‵ (owns (MutSlice (named 0) κ₀ R ∷ ShrRef (named 1) κ₁ U.R ∷ MutRef (named 2) κ₂ N.R ∷ u32 ∷ MutSlice (named 3) κ₄ u8 ∷ MutSlice (named 4) κ₅ i32 ∷ ShrSlice (named 5) κ₆ u32 ∷ ShrSlice (named 6) κ₇ u8 ∷ ShrSlice (named 7) κ₈ u8 ∷ u32 ∷ i32 ∷ []) a at) ∷ []) ∵ enter ! C Λ code.function (sliceVal (b₀, o₀) (length ys) ∷ vptr b₁ o₁ ∷ vptr b₂ o₂ ∷ vint w32 ticket ∷ sliceVal (b₄, o₄) (length items) ∷ sliceVal (b₅, o₅) (length writes) ∷ sliceVal (b₆, o₆) (length stamps) ∷ sliceVal (b₇, o₇) (length classes) ∷ sliceVal (b₈, o₈) (length places) ∷ vint w32 item ∷ vint w32 (ofZ w32 value) ∷ []) _ $
@@ -243,19 +244,19 @@ module _ {M : Type 1} (𝓤 : URA M) (H : Heap 𝓤) (A : Atoms 𝓤) (W : Given
         assigns ! (addr ! (from ! (fld ! refl (hop ! (look-in ! 80 (sub ! 0 refl (whole !))) (stop !))))) (from ! (stop !)) (init ! 10 refl (tt, tt)) $
         assigns ! (agg ! (and-then ! (load ! (from ! (stop !)) (look ! 10 refl)) (and-then ! (load ! (from ! (fld ! refl (stop !))) (look-in ! 80 (sub ! 1 refl (whole !)))) (no-more !)))) (from ! (stop !)) (init ! 8 refl (tt, (tt, (record { fits = room₀ .0 }, tt)))) $
         move ! (6 ∷ 7 ∷ []) $
-        calls-lending ! fm (slice-lent R b₀ o₀ κ₀ q₀ γ₀ ys W room₀ (set ys (rowOf ticket ys) (r .row)) (length-set ys (rowOf ticket ys) (r .row))) (Put 𝓤 H A mem run) known-put (to-put 𝓤 H A W mem run b₀ o₀ ys (rowOf ticket ys) (is₁ .1) (r .row) (D′.the-laws .1 .1 .0 .val (T.the-type .to (r .row)))) (asks-put 𝓤 H A W mem run b₀ o₀ ys (rowOf ticket ys) (is₁ .1) (r .row) (D′.the-laws .1 .1 .0 .val (T.the-type .to (r .row))) (fields .1 .1 .0)) (λ u. u ≡ vunit) (gives-put 𝓤 H A W mem run b₀ o₀ ys (rowOf ticket ys) (is₁ .1) (r .row) (D′.the-laws .1 .1 .0 .val (T.the-type .to (r .row))))
-        (λ ν δ i j. (and-then ! (load ! (from ! (stop !)) (look ! 8 refl)) (and-then ! (load ! (from ! (stop !)) (look ! 58 refl)) (and-then ! (load ! (from ! (fld ! refl (stop !))) (look-in ! 48 (sub ! 2 refl (whole !)))) (no-more !))))) (λ w₁ e₁. land ! (from ! (stop !)) (init ! 12 refl (unit-typed w₁ e₁)) $
+        calls-lending ! fm (slice-lent R b₀ o₀ κ₀ q₀ γ₀ ys W room₀ (set ys (rowOf ticket ys) (withWrites (rowAt ys (rowOf ticket ys)) (r .row .writes))) (length-set ys (rowOf ticket ys) (withWrites (rowAt ys (rowOf ticket ys)) (r .row .writes)))) (SetWrites 𝓤 H A mem run) known-writes (to-writes 𝓤 H A W mem run b₀ o₀ ys (rowOf ticket ys) (is₁ .1) (r .row .writes) (LL.owed T.the-type T′.the-laws (r .row) _ (fields .1 .1 .0) .1 .1 .1 .0 .1)) (asks-writes 𝓤 H A W mem run b₀ o₀ ys (rowOf ticket ys) (is₁ .1) (r .row .writes) (LL.owed T.the-type T′.the-laws (r .row) _ (fields .1 .1 .0) .1 .1 .1 .0 .1)) (λ u. u ≡ vunit) (gives-writes 𝓤 H A W mem run b₀ o₀ ys (rowOf ticket ys) (is₁ .1) (r .row .writes) (LL.owed T.the-type T′.the-laws (r .row) _ (fields .1 .1 .0) .1 .1 .1 .0 .1))
+        (λ ν δ i j. (and-then ! (load ! (from ! (stop !)) (look ! 8 refl)) (and-then ! (load ! (from ! (stop !)) (look ! 58 refl)) (and-then ! (load ! (from ! (fld ! refl (fld ! refl (stop !)))) (look-in ! 48 (sub ! 3 refl (sub ! 2 refl (whole !))))) (no-more !))))) (λ w₁ e₁. land ! (from ! (stop !)) (init ! 12 refl (unit-typed w₁ e₁)) $
         assigns ! (of-opd ! (lit ! tt)) (from ! (stop !)) (init ! 82 refl (tt, record { fits = omega arith })) $
         returns ! (look ! 82 refl) $
         frees-all ! (_ ∷ _ ∷ _ ∷ _ ∷ _ ∷ _ ∷ _ ∷ _ ∷ []) (cell _ _ _ ∷ cell _ _ _ ∷ cell _ _ _ ∷ room _ _ ∷ room _ _ ∷ room _ _ ∷ room _ _ ∷ cell _ _ _ ∷ cell _ _ _ ∷ cell _ _ _ ∷ cell _ _ _ ∷ cell _ _ _ ∷ cell _ _ _ ∷ cell _ _ _ ∷ cell _ _ _ ∷ cell _ _ _ ∷ cell _ _ _ ∷ cell _ _ _ ∷ cell _ _ _ ∷ cell _ _ _ ∷ cell _ _ _ ∷ cell _ _ _ ∷ cell _ _ _ ∷ cell _ _ _ ∷ cell _ _ _ ∷ cell _ _ _ ∷ cell _ _ _ ∷ cell _ _ _ ∷ cell _ _ _ ∷ cell _ _ _ ∷ cell _ _ _ ∷ cell _ _ _ ∷ cell _ _ _ ∷ cell _ _ _ ∷ cell _ _ _ ∷ cell _ _ _ ∷ cell _ _ _ ∷ cell _ _ _ ∷ []) $ free0 ! $
         move ! (0 ∷ 1 ∷ 6 ∷ 7 ∷ 4 ∷ 5 ∷ 3 ∷ 2 ∷ []) $
-        by ! (ends _ (0) (set ys (rowOf ticket ys) (r .row)) c (ws .1 .1 .1 .1 .1 .0) (ws .1 .1 .1 .1 .1 .1 .0) (refl, omega arith) (length-set ys (rowOf ticket ys) (r .row)) (write-did ys h c ticket items writes stamps classes places item value r (ws .1 .1 .1 .1 .1 .0) (ws .1 .1 .1 .1 .1 .1 .0) six said (missed (r .number) 9 over₀) (equal (r .number) 0 over₁)))))))))))))))))))))))))))))))))))))))))))))))))))))))
+        by ! (ends _ (0) (set ys (rowOf ticket ys) (withWrites (rowAt ys (rowOf ticket ys)) (r .row .writes))) c (ws .1 .1 .1 .1 .1 .0) (ws .1 .1 .1 .1 .1 .1 .0) (refl, omega arith) (length-set ys (rowOf ticket ys) (withWrites (rowAt ys (rowOf ticket ys)) (r .row .writes))) (write-did ys h c ticket items writes stamps classes places item value r (ws .1 .1 .1 .1 .1 .0) (ws .1 .1 .1 .1 .1 .1 .0) six said (missed (r .number) 9 over₀) (equal (r .number) 0 over₁)))))))))))))))))))))))))))))))))))))))))))))))))))))))
 
 module _ {M : Type 1} (𝓤 : URA M) (H : Heap 𝓤) (A : Atoms 𝓤) (W : Given 𝓤 H A) (mem : Memory → SProp 𝓤) (run : Routine → Fun 𝓤) (𝓣 : Tables 𝓤 H)
-    (g-load : Triple 𝓤 (𝓣 .C #load) (Load 𝓤 H A mem run)) (g-find : Triple 𝓤 (𝓣 .C #find) (Find 𝓤 H A mem run)) (g-row : Triple 𝓤 (𝓣 .C #row) (Row 𝓤 H A mem run)) (g-put : Triple 𝓤 (𝓣 .C #put) (Put 𝓤 H A mem run)) (g-end : Triple 𝓤 (𝓣 .C #end) (End 𝓤 H A mem run)) (g-copy : Triple 𝓤 (𝓣 .C #copy) (CopyOut 𝓤 H A mem run U.turn)) (g-copied : Triple 𝓤 (𝓣 .C #copied) (CopyOut 𝓤 H A mem run N.counts)) (g-aborted : Triple 𝓤 (𝓣 .C #aborted) (StoreOne 𝓤 H A mem run N.counts N.aborted)) (g-call : Triple 𝓤 (𝓣 .C #call) (ByValue 𝓤 H A mem run)) where
+    (g-load : Triple 𝓤 (𝓣 .C #load) (Load 𝓤 H A mem run)) (g-find : Triple 𝓤 (𝓣 .C #find) (Find 𝓤 H A mem run)) (g-row : Triple 𝓤 (𝓣 .C #row) (Row 𝓤 H A mem run)) (g-end : Triple 𝓤 (𝓣 .C #end) (End 𝓤 H A mem run)) (g-writes : Triple 𝓤 (𝓣 .C #writes) (SetWrites 𝓤 H A mem run)) (g-copy : Triple 𝓤 (𝓣 .C #copy) (CopyOut 𝓤 H A mem run U.turn)) (g-copied : Triple 𝓤 (𝓣 .C #copied) (CopyOut 𝓤 H A mem run N.counts)) (g-aborted : Triple 𝓤 (𝓣 .C #aborted) (StoreOne 𝓤 H A mem run N.counts N.aborted)) (g-call : Triple 𝓤 (𝓣 .C #call) (ByValue 𝓤 H A mem run)) where
   walks : Walks 𝓤 H A own.ended stayed (WpFn 𝓤 H (𝓣 .C) (𝓣 .Λ) code.function) (own.clauses 𝓤 H A mem run)
   walks = walked 𝓤 H A own.ended stayed (own.clauses 𝓤 H A mem run) (WpFn 𝓤 H (𝓣 .C) (𝓣 .Λ) code.function) (λ κs. (slice-vals, (ptr-vals, (ptr-vals, (uint-vals w32, (slice-vals, (slice-vals, (slice-vals, (slice-vals, (slice-vals, (uint-vals w32, (sint-vals w32, tt)))))))))))) (λ κs. (mut-slice-tells (named 0) (κs .0) R, (shr-tells (named 1) (κs .1 .0) U.R, (mut-tells (named 2) (κs .1 .1 .0) N.R, (uint-tells w32, (mut-slice-tells (named 3) (κs .1 .1 .1 .0) u8, (mut-slice-tells (named 4) (κs .1 .1 .1 .1 .0) i32, (shr-slice-tells (named 5) (κs .1 .1 .1 .1 .1 .0) u32, (shr-slice-tells (named 6) (κs .1 .1 .1 .1 .1 .1 .0) u8, (shr-slice-tells (named 7) (κs .1 .1 .1 .1 .1 .1 .1 .0) u8, (uint-tells w32, (sint-tells w32, tt))))))))))))
-      (λ κs qs bounds a _ are. via 𝓤 _ (fst∗ 𝓤 _ (emp 𝓤)) (walk 𝓤 H A W mem run (κs .0) (qs .0) (κs .1 .0) (qs .1 .0) (κs .1 .1 .0) (qs .1 .1 .0) (κs .1 .1 .1 .0) (qs .1 .1 .1 .0) (κs .1 .1 .1 .1 .0) (qs .1 .1 .1 .1 .0) (κs .1 .1 .1 .1 .1 .0) (qs .1 .1 .1 .1 .1 .0) (κs .1 .1 .1 .1 .1 .1 .0) (qs .1 .1 .1 .1 .1 .1 .0) (κs .1 .1 .1 .1 .1 .1 .1 .0) (qs .1 .1 .1 .1 .1 .1 .1 .0) (a .0 .ptr .0) (a .0 .ptr .1) (a .0 .name) (a .0 .now) (are .0 .0 .1) (a .1 .0 .ptr .0) (a .1 .0 .ptr .1) (a .1 .0 .name) (a .1 .0 .now) (a .1 .1 .0 .ptr .0) (a .1 .1 .0 .ptr .1) (a .1 .1 .0 .name) (a .1 .1 .0 .now) (a .1 .1 .1 .0) (are .1 .1 .1 .0 .1) (a .1 .1 .1 .1 .0 .ptr .0) (a .1 .1 .1 .1 .0 .ptr .1) (a .1 .1 .1 .1 .0 .name) (a .1 .1 .1 .1 .0 .now) (are .1 .1 .1 .1 .0 .0 .1) (a .1 .1 .1 .1 .1 .0 .ptr .0) (a .1 .1 .1 .1 .1 .0 .ptr .1) (a .1 .1 .1 .1 .1 .0 .name) (a .1 .1 .1 .1 .1 .0 .now) (are .1 .1 .1 .1 .1 .0 .0 .1) (a .1 .1 .1 .1 .1 .1 .0 .ptr .0) (a .1 .1 .1 .1 .1 .1 .0 .ptr .1) (a .1 .1 .1 .1 .1 .1 .0 .name) (a .1 .1 .1 .1 .1 .1 .0 .now) (are .1 .1 .1 .1 .1 .1 .0 .0 .1) (a .1 .1 .1 .1 .1 .1 .1 .0 .ptr .0) (a .1 .1 .1 .1 .1 .1 .1 .0 .ptr .1) (a .1 .1 .1 .1 .1 .1 .1 .0 .name) (a .1 .1 .1 .1 .1 .1 .1 .0 .now) (are .1 .1 .1 .1 .1 .1 .1 .0 .0 .1) (a .1 .1 .1 .1 .1 .1 .1 .1 .0 .ptr .0) (a .1 .1 .1 .1 .1 .1 .1 .1 .0 .ptr .1) (a .1 .1 .1 .1 .1 .1 .1 .1 .0 .name) (a .1 .1 .1 .1 .1 .1 .1 .1 .0 .now) (are .1 .1 .1 .1 .1 .1 .1 .1 .0 .0 .1) (a .1 .1 .1 .1 .1 .1 .1 .1 .1 .0) (are .1 .1 .1 .1 .1 .1 .1 .1 .1 .0 .1) (a .1 .1 .1 .1 .1 .1 .1 .1 .1 .1 .0) (are .1 .1 .1 .1 .1 .1 .1 .1 .1 .1 .0) (𝓣 .C) (𝓣 .Λ) (fmOf 𝓤 H (W .laws) 𝓣) g-load g-find g-row g-put g-end g-copy g-copied g-aborted g-call))
+      (λ κs qs bounds a _ are. via 𝓤 _ (fst∗ 𝓤 _ (emp 𝓤)) (walk 𝓤 H A W mem run (κs .0) (qs .0) (κs .1 .0) (qs .1 .0) (κs .1 .1 .0) (qs .1 .1 .0) (κs .1 .1 .1 .0) (qs .1 .1 .1 .0) (κs .1 .1 .1 .1 .0) (qs .1 .1 .1 .1 .0) (κs .1 .1 .1 .1 .1 .0) (qs .1 .1 .1 .1 .1 .0) (κs .1 .1 .1 .1 .1 .1 .0) (qs .1 .1 .1 .1 .1 .1 .0) (κs .1 .1 .1 .1 .1 .1 .1 .0) (qs .1 .1 .1 .1 .1 .1 .1 .0) (a .0 .ptr .0) (a .0 .ptr .1) (a .0 .name) (a .0 .now) (are .0 .0 .1) (a .1 .0 .ptr .0) (a .1 .0 .ptr .1) (a .1 .0 .name) (a .1 .0 .now) (a .1 .1 .0 .ptr .0) (a .1 .1 .0 .ptr .1) (a .1 .1 .0 .name) (a .1 .1 .0 .now) (a .1 .1 .1 .0) (are .1 .1 .1 .0 .1) (a .1 .1 .1 .1 .0 .ptr .0) (a .1 .1 .1 .1 .0 .ptr .1) (a .1 .1 .1 .1 .0 .name) (a .1 .1 .1 .1 .0 .now) (are .1 .1 .1 .1 .0 .0 .1) (a .1 .1 .1 .1 .1 .0 .ptr .0) (a .1 .1 .1 .1 .1 .0 .ptr .1) (a .1 .1 .1 .1 .1 .0 .name) (a .1 .1 .1 .1 .1 .0 .now) (are .1 .1 .1 .1 .1 .0 .0 .1) (a .1 .1 .1 .1 .1 .1 .0 .ptr .0) (a .1 .1 .1 .1 .1 .1 .0 .ptr .1) (a .1 .1 .1 .1 .1 .1 .0 .name) (a .1 .1 .1 .1 .1 .1 .0 .now) (are .1 .1 .1 .1 .1 .1 .0 .0 .1) (a .1 .1 .1 .1 .1 .1 .1 .0 .ptr .0) (a .1 .1 .1 .1 .1 .1 .1 .0 .ptr .1) (a .1 .1 .1 .1 .1 .1 .1 .0 .name) (a .1 .1 .1 .1 .1 .1 .1 .0 .now) (are .1 .1 .1 .1 .1 .1 .1 .0 .0 .1) (a .1 .1 .1 .1 .1 .1 .1 .1 .0 .ptr .0) (a .1 .1 .1 .1 .1 .1 .1 .1 .0 .ptr .1) (a .1 .1 .1 .1 .1 .1 .1 .1 .0 .name) (a .1 .1 .1 .1 .1 .1 .1 .1 .0 .now) (are .1 .1 .1 .1 .1 .1 .1 .1 .0 .0 .1) (a .1 .1 .1 .1 .1 .1 .1 .1 .1 .0) (are .1 .1 .1 .1 .1 .1 .1 .1 .1 .0 .1) (a .1 .1 .1 .1 .1 .1 .1 .1 .1 .1 .0) (are .1 .1 .1 .1 .1 .1 .1 .1 .1 .1 .0) (𝓣 .C) (𝓣 .Λ) (fmOf 𝓤 H (W .laws) 𝓣) g-load g-find g-row g-end g-writes g-copy g-copied g-aborted g-call))
 
   meets : Meets 𝓤 H A own.signature (WpFn 𝓤 H (𝓣 .C) (𝓣 .Λ) code.function) (own.spec 𝓤 H A mem run)
   meets = walk-meets 𝓤 H A own.ended stayed W (goes-slice 𝓤 H A W 8 0 tt (plain (λ _. R)), (goes-handed 𝓤 H A W 8 (shrRefTo (1 ∷ []) tt (plain (λ _. U.R))) yes, (goes-ref 𝓤 H A W 8 2 tt (plain (λ _. N.R)), (goes-handed 𝓤 H A W 8 (plain (λ _. u32)) yes, (goes-handed 𝓤 H A W 8 (mutSliceOf (3 ∷ []) tt (plain (λ _. u8))) yes, (goes-handed 𝓤 H A W 8 (mutSliceOf (4 ∷ []) tt (plain (λ _. i32))) yes, (goes-handed 𝓤 H A W 8 (shrSliceOf (5 ∷ []) tt (plain (λ _. u32))) yes, (goes-handed 𝓤 H A W 8 (shrSliceOf (6 ∷ []) tt (plain (λ _. u8))) yes, (goes-handed 𝓤 H A W 8 (shrSliceOf (7 ∷ []) tt (plain (λ _. u8))) yes, (goes-handed 𝓤 H A W 8 (plain (λ _. u32)) yes, (goes-handed 𝓤 H A W 8 (plain (λ _. i32)) yes, tt))))))))))) (own.clauses 𝓤 H A mem run)
@@ -270,8 +271,8 @@ stemline-write-spec 𝓤 H 𝓜 𝓖 𝓡 =
     (cited 𝓤 H (Load 𝓤 H (𝓖 .A) (𝓜 .mem) (𝓡 .run)) 𝓜 𝓡 code.env #load load-def.routine code.calls-host-table·load (load-thm.met 𝓤 H 𝓜 𝓖 𝓡))
     (cited 𝓤 H (Find 𝓤 H (𝓖 .A) (𝓜 .mem) (𝓡 .run)) 𝓜 𝓡 code.env #find find-def.routine code.calls-host-table·find (find-thm.met 𝓤 H 𝓜 𝓖 𝓡))
     (cited 𝓤 H (Row 𝓤 H (𝓖 .A) (𝓜 .mem) (𝓡 .run)) 𝓜 𝓡 code.env #row row-def.routine code.calls-host-table·row (row-thm.met 𝓤 H 𝓜 𝓖 𝓡))
-    (cited 𝓤 H (Put 𝓤 H (𝓖 .A) (𝓜 .mem) (𝓡 .run)) 𝓜 𝓡 code.env #put put-def.routine code.calls-host-table·put (put-thm.met 𝓤 H 𝓜 𝓖 𝓡))
     (cited 𝓤 H (End 𝓤 H (𝓖 .A) (𝓜 .mem) (𝓡 .run)) 𝓜 𝓡 code.env #end end-def.routine code.calls-host-table·end (end-thm.met 𝓤 H 𝓜 𝓖 𝓡))
+    (cited 𝓤 H (SetWrites 𝓤 H (𝓖 .A) (𝓜 .mem) (𝓡 .run)) 𝓜 𝓡 code.env #writes writes-def.routine code.calls-host-table·set-writes (writes-thm.met 𝓤 H 𝓜 𝓖 𝓡))
     (cited 𝓤 H (CopyOut 𝓤 H (𝓖 .A) (𝓜 .mem) (𝓡 .run) U.turn) 𝓜 𝓡 code.env #copy copy-def.routine code.calls-host-table·copy-turn (copy-thm.met 𝓤 H 𝓜 𝓖 𝓡))
     (cited 𝓤 H (CopyOut 𝓤 H (𝓖 .A) (𝓜 .mem) (𝓡 .run) N.counts) 𝓜 𝓡 code.env #copied copied-def.routine code.calls-host-table·copy-counts (copied-thm.met 𝓤 H 𝓜 𝓖 𝓡))
     (cited 𝓤 H (StoreOne 𝓤 H (𝓖 .A) (𝓜 .mem) (𝓡 .run) N.counts N.aborted) 𝓜 𝓡 code.env #aborted aborted-def.routine code.calls-host-table·set-aborted (aborted-thm.met 𝓤 H 𝓜 𝓖 𝓡))
