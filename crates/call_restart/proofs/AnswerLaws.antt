@@ -22,8 +22,9 @@ use Rattle.call_reply.specs.Parts.{allParts}
 use Rattle.call_reply.specs.Replies.{number, Gives}
 use Rattle.call_make.specs.Made.{ifMade}
 use Rattle.call_make.proofs.MakeLaws.{Given, given}
-use Rattle.call_restart.specs.declared.Tally.{Tally}
-use Rattle.call_restart.specs.Replays.{replayed, blockNumber, Replays, answered}
+use Rattle.call_journal.specs.declared.Tally.{Tally}
+use Rattle.call_journal.specs.Replays.{replayed, blockNumber, Replays}
+use Rattle.call_restart.specs.Answered.{answered}
 
 module _ (m : Memory) (n own : ℕ) (start : List ℤ) (journal block : List ℕ) where
   pub restart-other : (length block ≡ 512 → ⊥) → outcome (refused 1) m ≡ restartStep m n own start journal block

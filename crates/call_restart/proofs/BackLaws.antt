@@ -6,7 +6,7 @@ use native.Mathlib.Omega.{arith}
 use lib.ListN.{length, getD, set, take, drop, replicate, length-drop, drop-of-length-le}
 use lib.Seq.{paste, getD-drop}
 use Rattle.memory.proofs.RowLaws.{paste-turn}
-use Rattle.call_restart.specs.Replays.{blockNumber}
+use Rattle.call_journal.specs.Replays.{blockNumber}
 
 pub back-none : (k : ℕ) (journal : List ℕ) → k ≡ 0 → replicate 512 0 ≡ blockNumber k journal
 unfolding blockNumber

@@ -1,6 +1,3 @@
--- Laws over plain lists and numbers: one writeset more, one block more, and the answers of a restart.
-pub mod WritesetLaws
-pub mod ReadLaws
+-- Laws over plain lists and numbers: the block given back, and the answers of a restart.
 pub mod BackLaws
-pub mod JournalLaws
 pub mod AnswerLaws

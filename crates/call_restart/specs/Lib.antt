@@ -1,2 +1,2 @@
 -- What the functions of a restart say beside the definition of the call.
-pub mod Replays
+pub mod Answered

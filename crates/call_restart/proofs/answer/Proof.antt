@@ -2,7 +2,7 @@
 use Prim.Native.Nat.{_-_}
 use mathlib.Core.Path.{_≡_, refl}
 use native.Mathlib.Omega.{arith}
-use Rattle.call_restart.specs.Replays.{answered}
+use Rattle.call_restart.specs.Answered.{answered}
 use borrow.Author.Needs.{needs}
 use Rattle.call_restart.proofs.answer.Statement.{statement}
 use Rattle.call_restart.proofs.answer.Tie as tie

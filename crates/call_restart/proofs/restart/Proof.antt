@@ -13,7 +13,7 @@ use Rattle.call_reply.specs.Parts.{allParts}
 use Rattle.call_reply.specs.Replies.{restartReply}
 use Rattle.call_reply.proofs.ReplyLaws.{gives-with}
 use Rattle.call_make.proofs.MakeLaws.{Given}
-use Rattle.call_restart.specs.Replays.{answered}
+use Rattle.call_restart.specs.Answered.{answered}
 use Rattle.call_restart.proofs.AnswerLaws.{restart-other, restart-refused, restart-given, restart-taken}
 use borrow.Author.Needs.{needs}
 use Rattle.call_restart.proofs.restart.Statement.{statement}

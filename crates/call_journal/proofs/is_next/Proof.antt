@@ -1,9 +1,9 @@
 -- `is_next` meets its contract: by what the reader answers.
 use borrow.Author.Tests.{eq-eqb, ne-eqb}
-use Rattle.call_restart.proofs.ReadLaws.{not-good, good-header, good-by}
+use Rattle.call_journal.proofs.ReadLaws.{not-good, good-header, good-by}
 use borrow.Author.Needs.{needs}
-use Rattle.call_restart.proofs.is_next.Statement.{statement}
-use Rattle.call_restart.proofs.is_next.Tie as tie
+use Rattle.call_journal.proofs.is_next.Statement.{statement}
+use Rattle.call_journal.proofs.is_next.Tie as tie
 
 read-block-requires : tie.Need-read-block-requires
 read-block-requires c κs = search needs

@@ -4,11 +4,11 @@ use mathlib.Core.Path.{_≡_, refl, sym, _∙_}
 use native.Mathlib.Omega.{arith}
 use lib.ListN.{length}
 use Rattle.engine.specs.Restart.{writesetsIn, commitAll}
-use Rattle.call_restart.specs.Replays.{replayed}
-use Rattle.call_restart.proofs.WritesetLaws.{rest, commit-start, commit-turn, commit-end}
+use Rattle.call_journal.specs.Replays.{replayed}
+use Rattle.call_journal.proofs.WritesetLaws.{rest, commit-start, commit-turn, commit-end}
 use borrow.Author.Needs.{needs}
-use Rattle.call_restart.proofs.commit_block.Statement.{statement}
-use Rattle.call_restart.proofs.commit_block.Tie as tie
+use Rattle.call_journal.proofs.commit_block.Statement.{statement}
+use Rattle.call_journal.proofs.commit_block.Tie as tie
 
 abbrev Inv-loop : tie.InvT-loop
 Inv-loop values₀ stamps₀ block commits count after₀ j₀ values stamps after j =

@@ -11,7 +11,7 @@ use Rattle.block.specs.Answers.{recordAt}
 use Rattle.memory.specs.Memory.{bump}
 use Rattle.engine.specs.Moves.{writesetAt, applied, stamped}
 use Rattle.engine.specs.Restart.{writesetsFrom, writesetsIn, Replayed, commitAll, highestTicket}
-use Rattle.call_restart.specs.Replays.{replayed}
+use Rattle.call_journal.specs.Replays.{replayed}
 
 -- the writesets of a block from the j-th up to the n-th
 abbrev pub rest : List ℕ → ℕ → ℕ → List Record

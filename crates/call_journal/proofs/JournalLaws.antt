@@ -16,8 +16,8 @@ use Rattle.engine.specs.Restart.{Replayed, isGood, blocksFrom, blocksIn, writes
 use Rattle.engine.proofs.Tests.{bool-by}
 use Rattle.engine.proofs.BlockFacts.{taken-block}
 use Rattle.engine.proofs.RestartLaws.{good-taken, reads-good, reads-few, count-few, own-few}
-use Rattle.call_restart.specs.declared.Tally.{Tally}
-use Rattle.call_restart.specs.Replays.{replayed, blockNumber, counted, Replays}
+use Rattle.call_journal.specs.declared.Tally.{Tally}
+use Rattle.call_journal.specs.Replays.{replayed, blockNumber, counted, Replays}
 
 -- block i of a journal, and the blocks read from it on
 abbrev pub blockAt : List ℕ → ℕ → List ℕ

@@ -5,10 +5,10 @@ use mathlib.Core.Logic.{⊎-elim}
 use native.Mathlib.Omega.{arith}
 use Rattle.block.specs.Answers.{recordAt}
 use Rattle.engine.specs.Restart.{writesetsIn, highestTicket}
-use Rattle.call_restart.proofs.WritesetLaws.{rest, highest-start, highest-turn, highest-end}
+use Rattle.call_journal.proofs.WritesetLaws.{rest, highest-start, highest-turn, highest-end}
 use borrow.Author.Needs.{needs}
-use Rattle.call_restart.proofs.highest_ticket.Statement.{statement}
-use Rattle.call_restart.proofs.highest_ticket.Tie as tie
+use Rattle.call_journal.proofs.highest_ticket.Statement.{statement}
+use Rattle.call_journal.proofs.highest_ticket.Tie as tie
 
 abbrev Inv-loop : tie.InvT-loop
 Inv-loop ticket block count highest₀ j₀ highest j = (j ≤ count) × (max ticket (highestTicket (writesetsIn block)) ≡ max highest (highestTicket (rest block count j)))

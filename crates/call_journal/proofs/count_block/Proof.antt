@@ -1,10 +1,10 @@
 -- `count_block` meets its contract.
 use native.Mathlib.Omega.{arith}
 use borrow.Author.Tests.{eq-eqb, ne-eqb}
-use Rattle.call_restart.specs.Replays.{counted}
+use Rattle.call_journal.specs.Replays.{counted}
 use borrow.Author.Needs.{needs}
-use Rattle.call_restart.proofs.count_block.Statement.{statement}
-use Rattle.call_restart.proofs.count_block.Tie as tie
+use Rattle.call_journal.proofs.count_block.Statement.{statement}
+use Rattle.call_journal.proofs.count_block.Tie as tie
 
 add-next : tie.Need-add-next
 add-next c = search needs

@@ -5,12 +5,12 @@ use mathlib.Core.Bool.{true}
 use native.Mathlib.Omega.{arith}
 use borrow.Author.Tests.{not-true, not-false}
 use lib.ListN.{length}
-use Rattle.call_restart.specs.declared.Tally.{Tally}
-use Rattle.call_restart.specs.Replays.{replayed, counted}
-use Rattle.call_restart.proofs.JournalLaws.{isNext, lent-block, block-long, next-is, rest-stop, rest-none, Replaying, replay-start, replay-end, replay-room, replay-turn}
+use Rattle.call_journal.specs.declared.Tally.{Tally}
+use Rattle.call_journal.specs.Replays.{replayed, counted}
+use Rattle.call_journal.proofs.JournalLaws.{isNext, lent-block, block-long, next-is, rest-stop, rest-none, Replaying, replay-start, replay-end, replay-room, replay-turn}
 use borrow.Author.Needs.{needs}
-use Rattle.call_restart.proofs.replay.Statement.{statement}
-use Rattle.call_restart.proofs.replay.Tie as tie
+use Rattle.call_journal.proofs.replay.Statement.{statement}
+use Rattle.call_journal.proofs.replay.Tie as tie
 
 abbrev Inv-loop : tie.InvT-loop
 Inv-loop n own journal values₀ stamps₀ most tally₀ values stamps tally =

@@ -1,13 +1,12 @@
 -- What a restart knows of the journal's blocks while it reads them.
-use Prim.Native.Nat.{ℕ, zero, suc, _+_, _-_, _*_, _≤_, max}
+use Prim.Native.Nat.{ℕ, zero, suc, _+_, _*_, _≤_, max}
 use mathlib.Core.Path.{_≡_}
 use mathlib.Core.Bool.{cond}
 use mathlib.Core.List.{List}
 use lib.IntN.{ℤ}
 use lib.ListN.{length, getD, take, drop, replicate}
-use Rattle.call_reply.specs.declared.Restarted.{Restarted}
 use Rattle.engine.specs.Restart.{Replayed, blocksIn, writesetsIn, commitBlocks, isFrom, highestTicket, highestOwn, ownWritesets, lastOwn}
-use Rattle.call_restart.specs.declared.Tally.{Tally}
+use Rattle.call_journal.specs.declared.Tally.{Tally}
 
 -- commit count, values and stamps; no table of classes
 abbrev pub replayed : ℕ → List ℤ → List ℕ → Replayed
@@ -36,21 +35,3 @@ pub record Replays (n own : ℕ) (journal : List ℕ) (before : Replayed) (value
   pub committed : r .committed ≡ ownWritesets own (blocksIn n journal)
   pub last : blockNumber (r .last) journal ≡ lastOwn own (replicate 512 0) (blocksIn n journal)
   pub last-there : 512 * r .last ≤ length journal
-
--- what the restart is then answered
-unfoldable pub answered : ℕ → ℕ → Tally → Restarted
-answered n own r = record {
-  reply = record { number = 0; count = r .blocks };
-  turn = record { slot = r .blocks; sent = 0; applying = 0 };
-  counts = record {
-    replicas = n;
-    own = own;
-    commits = r .commits;
-    done = 0;
-    tickets = r .highest;
-    committed = r .committed;
-    «read_only» = 0;
-    aborted = r .highest - r .committed;
-    withdrawn = 0;
-  };
-}

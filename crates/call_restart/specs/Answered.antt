@@ -1,0 +1,21 @@
+-- What a restart is answered, by what was read of the journal.
+use Prim.Native.Nat.{ℕ, _-_}
+use Rattle.call_reply.specs.declared.Restarted.{Restarted}
+use Rattle.call_journal.specs.declared.Tally.{Tally}
+
+unfoldable pub answered : ℕ → ℕ → Tally → Restarted
+answered n own r = record {
+  reply = record { number = 0; count = r .blocks };
+  turn = record { slot = r .blocks; sent = 0; applying = 0 };
+  counts = record {
+    replicas = n;
+    own = own;
+    commits = r .commits;
+    done = 0;
+    tickets = r .highest;
+    committed = r .committed;
+    «read_only» = 0;
+    aborted = r .highest - r .committed;
+    withdrawn = 0;
+  };
+}
