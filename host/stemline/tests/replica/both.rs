@@ -133,7 +133,7 @@ pub fn report(report: Report) -> second::Report {
 }
 
 /// One call at the library's replica, its answer as the model's. Appends what the journal is to get.
-fn play(replica: &mut Replica, call: &Call, journal: &mut Vec<u8>) -> Result<Answer, u8> {
+pub fn play(replica: &mut Replica, call: &Call, journal: &mut Vec<u8>) -> Result<Answer, u8> {
     let played: Result<Answer, Refusal> = match *call {
         Call::Begin => replica.begin().map(Answer::Ticket),
         Call::Read { ticket, item } => replica.read(ticket, item).map(Answer::Value),

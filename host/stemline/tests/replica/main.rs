@@ -18,6 +18,7 @@ mod lines;
 mod marks;
 mod prototypes;
 mod restarts;
+mod scenes;
 mod seeds;
 mod story;
 mod studio;
