@@ -43,12 +43,14 @@ mod durable;
 pub mod ffi;
 mod journal;
 mod memory;
+mod recorder;
 mod refusal;
 
 pub use durable::{Durable, Failure};
 pub use ffi::Report;
 pub use journal::{DiskError, Journal};
 pub use memory::Memory;
+pub use recorder::Recorder;
 pub use refusal::Refusal;
 
 // The limits, by the names and with the numbers that they have in C (`STEMLINE_` in front).
@@ -388,19 +390,24 @@ impl Replica {
     /// [`STEPS`] steps, of which the rest is left to the next take.
     pub fn take(&mut self, bytes: &[u8]) -> Result<Taken, Refusal> {
         self.deliver(bytes)?;
-        let mut taken = Taken {
-            steps: Vec::new(),
-            refused: None,
-        };
-        while taken.steps.len() < STEPS {
-            match self.work() {
-                Ok(work) => taken.steps.push(work),
-                Err(refusal) => {
-                    taken.refused = Some(refusal).filter(|&r| r != Refusal::NothingWaits);
-                    break;
-                }
+        Ok(works(|| self.work()))
+    }
+}
+
+/// The works behind the deliver of a take.
+fn works(mut work: impl FnMut() -> Result<Work, Refusal>) -> Taken {
+    let mut taken = Taken {
+        steps: Vec::new(),
+        refused: None,
+    };
+    while taken.steps.len() < STEPS {
+        match work() {
+            Ok(work) => taken.steps.push(work),
+            Err(refusal) => {
+                taken.refused = Some(refusal).filter(|&r| r != Refusal::NothingWaits);
+                break;
             }
         }
-        Ok(taken)
     }
+    taken
 }

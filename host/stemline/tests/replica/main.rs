@@ -17,6 +17,7 @@ mod lent;
 mod lines;
 mod marks;
 mod prototypes;
+mod recorder;
 mod restarts;
 mod scenes;
 mod seeds;
