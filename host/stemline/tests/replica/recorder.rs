@@ -299,48 +299,57 @@ fn long_list(random: &mut Random) -> (String, String) {
     lists.into_iter().unzip()
 }
 
+/// What the script says of two lists, and its status. The files have the test's name.
+fn told(test: &str, calls: &str, answers: &str) -> (Option<i32>, String) {
+    let folder = Path::new(env!("CARGO_TARGET_TMPDIR"));
+    let [one, other] = ["calls", "answers"].map(|kind| folder.join(format!("{test}.{kind}")));
+    fs::write(&one, calls).unwrap();
+    fs::write(&other, answers).unwrap();
+    let output = recorded(&[&one, &other]);
+    let text = String::from_utf8(output.stdout).unwrap();
+    (output.status.code(), text)
+}
+
 #[test]
 fn the_proved_program_plays_the_same() {
     let (calls, answers) = long_list(&mut Random::new(1));
     let lines = calls.lines().count();
     assert!(lines > 6_000, "{lines}");
-    let folder = Path::new(env!("CARGO_TARGET_TMPDIR"));
-    let [one, other] = ["recorded.calls", "recorded.answers"].map(|name| folder.join(name));
-    fs::write(&one, &calls).unwrap();
-    let told = |answers: &str| {
-        fs::write(&other, answers).unwrap();
-        let output = recorded(&[&one, &other]);
-        let text = String::from_utf8(output.stdout).unwrap();
-        (output.status.code(), text)
-    };
     let same = format!("{lines} calls, all answered as by the program\n");
-    assert_eq!(told(&answers), (Some(0), same));
+    assert_eq!(told("same", &calls, &answers), (Some(0), same));
     for line in [1, 2, lines / 2, lines] {
-        let (call, answer) = iter::zip(calls.lines(), answers.lines())
-            .nth(line - 1)
-            .unwrap();
+        let mut pairs = iter::zip(calls.lines(), answers.lines());
+        let (call, answer) = pairs.nth(line - 1).unwrap();
         let words = format!(
             "line {line} differs\n  call:     {call}\n  replica:  {answer}0\n  program:  {answer}\n"
         );
-        assert_eq!(told(&altered(&answers, line)), (Some(1), words));
+        let altered = altered(&answers, line);
+        assert_eq!(told("altered", &calls, &altered), (Some(1), words));
     }
-    // Without its last answer, and with one more than calls.
-    let (short, _) = answers.trim_end().rsplit_once('\n').unwrap();
-    let (code, text) = told(short);
-    assert!(
-        code == Some(1) && text.contains("no answer was recorded"),
-        "{text}"
-    );
-    let (code, text) = told(&format!("{answers}0\n"));
-    assert!(
-        code == Some(1) && text.contains("none was recorded"),
-        "{text}"
-    );
+}
+
+/// An answer is missing, or a call.
+#[test]
+fn lists_of_other_lengths() {
+    let calls = "M 0 2 0 0\n".repeat(3);
+    for (answers, line) in [(0, 1), (1, 2), (2, 3), (4, 4)] {
+        let (code, text) = told("lengths", &calls, &"0\n".repeat(answers));
+        assert_eq!(code, Some(1), "{text}");
+        let words = match line {
+            4 => "call:     none was recorded",
+            _ => "replica:  no answer was recorded",
+        };
+        assert!(text.contains(words), "{text}");
+        assert!(
+            text.starts_with(&format!("line {line} differs\n")),
+            "{text}"
+        );
+    }
+    assert_eq!(told("lengths", &calls, "0\n0\n0").0, Some(0));
 }
 
 #[test]
 fn wrong_use_of_the_script() {
-    let here = Path::new(file!());
     let there = top().join("README.md");
     let none = there.with_file_name("no such file");
     for files in [
@@ -352,7 +361,7 @@ fn wrong_use_of_the_script() {
     ] {
         let files: Vec<&Path> = files.iter().map(|path: &&PathBuf| path.as_path()).collect();
         let output = recorded(&files);
-        assert_eq!(output.status.code(), Some(2), "{here:?}: {files:?}");
+        assert_eq!(output.status.code(), Some(2), "{files:?}");
         let words = String::from_utf8(output.stderr).unwrap();
         assert_eq!(words.lines().count(), 1, "{words}");
     }
