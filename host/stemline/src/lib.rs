@@ -37,6 +37,9 @@
 //! [`Replica::restart`] makes a replica from a journal. What waited at it before is gone: every other
 //! replica hands it its last block once more. The header for C says what else such a host does, where the
 //! disk fails and where a journal is damaged.
+//!
+//! A [`Recorder`] is a replica that writes its calls and answers down, so that what it answered can be
+//! compared with what the proved program `replay` answers.
 
 mod disk;
 mod durable;

@@ -8,10 +8,10 @@ use std::io::Write;
 use self::list::{answered, hex, List};
 use crate::{works, Asked, Refusal, Replica, Report, Restarted, Taken, Work, BLOCK, ITEMS};
 
-/// The most bytes of a block, a journal and a table of classes that a line of the list takes.
-const MOST: (usize, usize, usize) = (520, 2_100, 130);
-/// The most blocks of a journal that the program keeps.
-const KEPT: usize = 128;
+/// The most bytes that a line of the list delivers, restarts from, and loads.
+const DELIVERED: usize = 520;
+const RESTARTED: usize = 2_100;
+const LOADED: usize = 130;
 
 /// A replica that writes each call and its answer as it makes them: the call into one sink, the answer
 /// into another, a line to each, in the format of the program `replay` (`host/model/src/replay.rs`).
@@ -79,7 +79,8 @@ impl<C: Write, A: Write> Recorder<C, A> {
     /// asks as they have them; then the list restarts it from these blocks. The program keeps 128. Behind
     /// more the second replica goes on as it is, which differs from the restarted one in how its tickets
     /// ended, if in anything: then reports are left out. A journal that no replica could have written
-    /// stops the recording, which [`Recorder::stopped`] tells.
+    /// stops the recording, which [`Recorder::stopped`] tells; so does one from which more than 1,000,000
+    /// tickets are missing, each of which the list would begin and withdraw.
     pub fn restart(
         n: u32,
         own: u32,
@@ -94,7 +95,7 @@ impl<C: Write, A: Write> Recorder<C, A> {
             restarted.blocks,
             hex(&restarted.last.unwrap_or([0; BLOCK]))
         );
-        let list = if journal.len() <= MOST.1 {
+        let list = if journal.len() <= RESTARTED {
             let mut list = List::new(own, values, calls, answers);
             let lent = format!(" {n} {own} {} {}", list.value, hex(journal));
             list.record('Y', &lent, &answer);
@@ -215,7 +216,7 @@ impl<C: Write, A: Write> Recorder<C, A> {
     /// As [`Replica::deliver`].
     pub fn deliver(&mut self, bytes: &[u8]) -> Result<(), Refusal> {
         let answer = self.replica.deliver(bytes);
-        self.list.record_bytes('H', bytes, MOST.0, &answer);
+        self.list.record_bytes('H', bytes, DELIVERED, &answer);
         answer
     }
 
@@ -229,7 +230,7 @@ impl<C: Write, A: Write> Recorder<C, A> {
     /// As [`Replica::load`].
     pub fn load(&mut self, classes: &[u8]) -> Result<(), Refusal> {
         let answer = self.replica.load(classes);
-        self.list.record_bytes('P', classes, MOST.2, &answer);
+        self.list.record_bytes('P', classes, LOADED, &answer);
         answer
     }
 

@@ -158,14 +158,9 @@ fn folders() {
 #[test]
 fn the_example() {
     let text = include_str!("../../testdata/README.md");
-    let (_, file) = text.split_once("## A file\n\n").unwrap();
-    let lines = file
-        .lines()
-        .take_while(|line| line.is_empty() || line.starts_with("    "));
-    let lines: Vec<&str> = lines
-        .map(|line| line.get(4..).unwrap_or_default())
-        .collect();
-    let example = scene(&format!("{}\n", lines.join("\n").trim_end()));
+    let (_, file) = text.split_once("## A file\n\n```text\n").unwrap();
+    let (file, _) = file.split_once("```\n").unwrap();
+    let example = scene(file);
     let played = played(&example.text).unwrap();
     assert_eq!(difference(&example, &played), None);
 }

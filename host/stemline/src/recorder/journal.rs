@@ -3,8 +3,13 @@
 use std::collections::BTreeSet;
 use std::io::Write;
 
-use super::{Recorder, KEPT};
+use super::Recorder;
 use crate::{Replica, BLOCK};
+
+/// The most blocks of a journal that the program keeps.
+const KEPT: usize = 128;
+/// The most tickets, of those that no own block has, that are begun to come to the others.
+const MISSING: usize = 1_000_000;
 
 /// A writeset of a block: its ticket, and items with their values.
 type Writeset = (u32, Vec<(u32, i32)>);
@@ -14,9 +19,8 @@ impl<C: Write, A: Write> Recorder<C, A> {
     /// answered this.
     pub(super) fn take_up(&mut self, journal: &[u8], restarted: &Replica, answer: &str) {
         let (blocks, _) = journal.as_chunks();
-        if let Err(at) = self.write_again(blocks) {
-            let words = "is none that a replica writes, so that no list says it";
-            self.stop(format!("block {at} of the journal {words}"));
+        if let Err(words) = self.write_again(blocks) {
+            self.stop(words);
         } else if blocks.len() <= KEPT {
             let lent = format!(" {} {}", journal.len(), self.list.value);
             self.list.record('Z', &lent, answer);
@@ -39,23 +43,35 @@ impl<C: Write, A: Write> Recorder<C, A> {
             && (a.values, a.stamps, a.classes) == (b.values, b.stamps, b.classes)
     }
 
-    /// Takes the blocks of others, and sends the own ones. Gives the block at which that fails.
-    fn write_again(&mut self, blocks: &[[u8; BLOCK]]) -> Result<(), usize> {
+    /// Takes the blocks of others, and sends the own ones; or says why not.
+    fn write_again(&mut self, blocks: &[[u8; BLOCK]]) -> Result<(), String> {
         let own = self.replica.memory().counts.own;
         let sent = blocks.iter().filter(|block| block[1] == own);
-        let sets = sent.flat_map(writesets);
-        let tickets: BTreeSet<u32> = sets.map(|(ticket, _)| ticket).collect();
+        let writesets = sent.flat_map(writesets);
+        let tickets: BTreeSet<u32> = writesets.map(|(ticket, _)| ticket).collect();
+        let highest = tickets.last().map_or(0, |&ticket| ticket as usize);
+        if highest - tickets.len() > MISSING {
+            return Err(format!(
+                "more than {MISSING} tickets are not in the journal"
+            ));
+        }
         for (at, block) in blocks.iter().enumerate() {
-            let mut taken = || {
-                if block[1] == own {
-                    self.send_again(block, &tickets)?;
-                }
-                let taken = self.take(block).ok()?;
-                taken.steps.last().filter(|work| work.moved).map(|_| ())
+            let taken = match block[1] == own {
+                true => self
+                    .send_again(block, &tickets)
+                    .and_then(|()| self.takes(block)),
+                false => self.takes(block),
             };
-            taken().ok_or(at)?;
+            let words = "is none that a replica writes, so that no list says it";
+            taken.ok_or_else(|| format!("block {at} of the journal {words}"))?;
         }
         Ok(())
+    }
+
+    /// Takes the block of the turn.
+    fn takes(&mut self, block: &[u8; BLOCK]) -> Option<()> {
+        let taken = self.take(block).ok()?;
+        taken.steps.last()?.moved.then_some(())
     }
 
     /// Sends a block with the writesets of this one. Tickets that no block has are withdrawn at once.

@@ -174,6 +174,31 @@ fn a_journal_that_no_replica_wrote() {
     assert_eq!(differs(&calls, &answers), None);
 }
 
+/// Tickets that no block has are begun, but not without end.
+#[test]
+fn a_journal_with_few_of_its_tickets() {
+    let calls_of = |ticket| {
+        let own: &[_] = &[(ticket, &[(5, 50)][..])];
+        let blocks = (0..5).map(|slot| block_of(2, slot, if slot == 2 { own } else { &[] }));
+        let journal: Vec<u8> = blocks.flatten().collect();
+        let values = &start_values();
+        let made = Recorder::restart(2, 0, values, &journal, Vec::new(), Vec::new());
+        let (recorder, restarted) = made.unwrap();
+        assert_eq!(
+            (restarted.blocks, recorder.replica().report().tickets),
+            (5, ticket)
+        );
+        let words = recorder.stopped().map(str::to_string);
+        let (calls, answers) = text(recorder);
+        assert_eq!(differs(&calls, &answers), None);
+        (calls.lines().count(), words)
+    };
+    let (lines, words) = calls_of(1_000_001);
+    assert!(lines > 2_000_000 && words.is_none(), "{lines}: {words:?}");
+    let words = "more than 1000000 tickets are not in the journal".to_string();
+    assert_eq!(calls_of(1_000_002), (1, Some(words)));
+}
+
 #[test]
 fn what_is_left_out() {
     let mut values = [0; ITEMS];
