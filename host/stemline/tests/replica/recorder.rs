@@ -37,6 +37,7 @@ fn drive<C: Write, A: Write>(
         assert!((&answer, appended) == (&due, due_appended), "{call:?}");
         peers.feed(&call, &answer);
     }
+    assert_eq!(recorder.is_turn(), plain.is_turn());
     assert_eq!(recorder.report(), plain.report());
     assert_eq!(recorder.values(), plain.values());
     assert!(*recorder.replica() == plain);
@@ -103,12 +104,15 @@ fn the_model_plays_the_same() {
     assert!(seeds.runs < 60 || left_out > 300, "{left_out}");
 }
 
-/// What a member of a group of `n` has on its disk after so many calls, maybe cut.
+/// What a member of a group of `n` has on its disk after so many calls and some cuts, maybe cut itself.
 fn journal(n: u32, own: u32, calls: usize, random: &mut Random) -> Vec<u8> {
     let members = (0..n).map(|own| Machine::make(n, own, &start_values()).unwrap());
     let mut group = Group::new(members.collect(), STYLES[random.below(4)]);
     for _ in 0..calls {
-        group.random_call(random);
+        match random.below(60) {
+            0 => group.random_cut(random),
+            _ => group.random_call(random),
+        }
     }
     group.settle(1);
     let disk = group.members[own as usize].disk();
@@ -126,7 +130,7 @@ fn restarts() {
         let mut random = Random::new(seed);
         let n = 2 + seed as u32 % 5;
         let own = random.below(n as usize) as u32;
-        let calls = random.pick(&[0, 10, 100, 500, 12_000]);
+        let calls = random.pick(&[0, 10, 300, 20_000]);
         let journal = journal(n, own, calls, &mut random);
         let lists = (Vec::new(), Vec::new());
         let made = Recorder::restart(n, own, &start_values(), &journal, lists.0, lists.1);
@@ -306,7 +310,7 @@ fn recorded(files: &[&Path]) -> Output {
 
 /// Makes and restarts of all kinds, in one list.
 fn long_list(random: &mut Random) -> (String, String) {
-    let lists = [None, Some(10), Some(500), Some(12_000)].map(|calls| {
+    let lists = [None, Some(10), Some(500), Some(20_000)].map(|calls| {
         let (calls_out, answers_out) = (Vec::new(), Vec::new());
         let mut recorder = match calls {
             None => Recorder::new(3, 2, &values(random), calls_out, answers_out).unwrap(),
@@ -340,6 +344,14 @@ fn the_proved_program_plays_the_same() {
     let (calls, answers) = long_list(&mut Random::new(1));
     let lines = calls.lines().count();
     assert!(lines > 6_000, "{lines}");
+    // A make, a restart of each kind.
+    let count = |letter| {
+        calls
+            .lines()
+            .filter(|line| line.starts_with(letter))
+            .count()
+    };
+    assert_eq!(['M', 'Y', 'Z'].map(count), [3, 1, 1]);
     let same = format!("{lines} calls, all answered as by the program\n");
     assert_eq!(told("same", &calls, &answers), (Some(0), same));
     for line in [1, 2, lines / 2, lines] {

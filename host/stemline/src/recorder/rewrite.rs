@@ -1,4 +1,4 @@
-//! A journal that is longer than a line: the calls that write it once more.
+//! A journal that is longer than a line of the list: the calls that write it once more.
 
 use std::collections::BTreeSet;
 use std::io::Write;
