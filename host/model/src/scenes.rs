@@ -91,12 +91,12 @@ pub fn play<P: Player>(
 ) -> Result<String, String> {
     let named = |(line, error): (usize, String)| format!("{}, line {line}: {error}", scene.name);
     let lines = parse::lines(&scene.text).map_err(named)?;
-    let mut stage = play::Stage::new(make, words);
+    let mut playing = play::Playing::new(make, words);
     let mut text = String::new();
     let mut answers = Vec::new();
     for (at, line) in lines.iter().enumerate() {
         if let parse::Line::Command(command) = &line.content {
-            let answer = stage
+            let answer = playing
                 .play(command)
                 .map_err(|error| named((at + 1, error)))?;
             answers.extend(answer);

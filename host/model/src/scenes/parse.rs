@@ -11,7 +11,7 @@ use crate::trace::Call;
 const LENGTHS: RangeInclusive<usize> = 0..=2 * BLOCK;
 
 /// A line of a file, and what it is.
-pub(super) struct Entry<'a> {
+pub(super) struct FileLine<'a> {
     pub text: &'a str,
     pub content: Line,
 }
@@ -19,7 +19,7 @@ pub(super) struct Entry<'a> {
 #[derive(Debug)]
 pub(super) enum Line {
     /// A comment, or an empty line.
-    Words,
+    Remark,
     Command(Command),
     Dashes,
     Answer,
@@ -37,12 +37,12 @@ pub(super) enum Command {
         slot: u32,
         range: RangeInclusive<usize>,
     },
-    At(usize, Step),
+    At(usize, Local),
 }
 
 /// What is done at one replica.
 #[derive(Debug)]
-pub(super) enum Step {
+pub(super) enum Local {
     Call(Call),
     Deliver(Carried),
     Take(Carried),
@@ -93,44 +93,41 @@ pub(super) enum Change {
 }
 
 /// The lines of a scene; or the number of a wrong one, counted from 1, and what is wrong with it.
-pub(super) fn lines(text: &str) -> Result<Vec<Entry<'_>>, (usize, String)> {
+pub(super) fn lines(text: &str) -> Result<Vec<FileLine<'_>>, (usize, String)> {
+    let wrong = |line: usize, words: &str| Err((line, words.to_string()));
     if !text.starts_with("# ") {
         let words = "the file begins with what it shows, behind a # and a space";
-        return Err((1, words.to_string()));
+        return wrong(1, words);
     }
-    let mut entries = Vec::new();
-    // The commands that have no dashes yet, and whether answers follow.
-    let (mut open, mut answers) = (0, false);
-    for (at, text) in text.lines().enumerate() {
-        let wrong = |words: &str| (at + 1, words.to_string());
+    let mut lines = Vec::new();
+    // The commands that have no dashes yet; whether answers follow; the dashes so far.
+    let (mut open, mut answers, mut dashes) = (0, false, 0);
+    for (text, number) in text.lines().zip(1..) {
         let content = match text {
-            "----" if open == 0 => return Err(wrong("no command stands before the dashes")),
+            "----" if open == 0 => return wrong(number, "no command stands before the dashes"),
             "----" => {
-                (open, answers) = (0, true);
+                (open, answers, dashes) = (0, true, dashes + 1);
                 Line::Dashes
             }
-            "" if open > 0 => return Err(wrong("dashes stand behind commands")),
+            "" if open > 0 => return wrong(number, "dashes stand behind commands"),
             "" => {
                 answers = false;
-                Line::Words
+                Line::Remark
             }
             _ if answers => Line::Answer,
-            _ if text.starts_with('#') => Line::Words,
+            _ if text.starts_with('#') => Line::Remark,
             _ => {
                 open += 1;
-                Line::Command(command(text).map_err(|words| (at + 1, words))?)
+                Line::Command(command(text).map_err(|words| (number, words))?)
             }
         };
-        entries.push(Entry { text, content });
+        lines.push(FileLine { text, content });
     }
-    let last = entries.len();
-    if open > 0 {
-        return Err((last, "dashes stand behind commands".to_string()));
+    match (open, dashes) {
+        (1.., _) => wrong(lines.len(), "dashes stand behind commands"),
+        (0, 0) => wrong(lines.len(), "the scene has no dashes, and so no answers"),
+        _ => Ok(lines),
     }
-    if !entries.iter().any(|e| matches!(e.content, Line::Dashes)) {
-        return Err((last, "the scene has no dashes, and so no answers".into()));
-    }
-    Ok(entries)
 }
 
 /// What is left of a line, word by word.
@@ -207,7 +204,7 @@ impl<'a> Rest<'a> {
 }
 
 /// The commands at one replica, whose number stands behind them.
-const STEPS: [&str; 16] = [
+const LOCAL: [&str; 16] = [
     "begin", "read", "write", "ask", "withdraw", "report", "send", "deliver", "take", "work",
     "load", "restart", "journal", "values", "late", "lose",
 ];
@@ -227,7 +224,7 @@ fn command(line: &str) -> Result<Command, String> {
             slot: rest.named("slot")?,
             range: rest.range("from", BLOCK - 1)?,
         },
-        _ if STEPS.contains(&name) => Command::At(rest.number()?, step(name, &mut rest)?),
+        _ if LOCAL.contains(&name) => Command::At(rest.number()?, local(name, &mut rest)?),
         _ => return Err(unknown(name)),
     };
     rest.end()?;
@@ -238,24 +235,24 @@ fn unknown(name: &str) -> String {
     format!("{name:?} is no command")
 }
 
-fn step(name: &str, rest: &mut Rest) -> Result<Step, String> {
+fn local(name: &str, rest: &mut Rest) -> Result<Local, String> {
     Ok(match name {
-        "deliver" => Step::Deliver(carried(rest)?),
-        "take" => Step::Take(carried(rest)?),
-        "restart" => Step::Restart {
+        "deliver" => Local::Deliver(carried(rest)?),
+        "take" => Local::Take(carried(rest)?),
+        "restart" => Local::Restart {
             bytes: rest.maybe("bytes")?,
             bit: rest.maybe("bit")?,
         },
-        "journal" => Step::Journal,
-        "values" => Step::Values,
-        "late" => Step::Late {
+        "journal" => Local::Journal,
+        "values" => Local::Values,
+        "late" => Local::Late {
             slots: rest.named("slots")?,
             tickets: rest.named("tickets")?,
         },
-        "lose" => Step::Lose {
+        "lose" => Local::Lose {
             ticket: rest.named("ticket")?,
         },
-        _ => Step::Call(call(name, rest)?),
+        _ => Local::Call(call(name, rest)?),
     })
 }
 

@@ -2,7 +2,7 @@
 
 use std::collections::BTreeMap;
 
-use super::parse::{Carried, Change, Command, Source, Step};
+use super::parse::{Carried, Change, Command, Local, Source};
 use super::words;
 use super::{Player, Words};
 use crate::block::{self, BLOCK};
@@ -14,7 +14,7 @@ use crate::trace::{Answer, Call, Restart};
 /// The most passes of one `stabilize`: far more than any scene needs.
 const PASSES: usize = 1_000;
 
-pub(super) struct Stage<P, M> {
+pub(super) struct Playing<P, M> {
     make: M,
     words: Words,
     players: Vec<P>,
@@ -24,9 +24,9 @@ pub(super) struct Stage<P, M> {
     blocks: BTreeMap<u32, Box<[u8; BLOCK]>>,
 }
 
-impl<P: Player, M: Fn(u32, u32, &[i32; ITEMS]) -> Result<P, u8>> Stage<P, M> {
-    pub fn new(make: M, words: Words) -> Stage<P, M> {
-        Stage {
+impl<P: Player, M: Fn(u32, u32, &[i32; ITEMS]) -> Result<P, u8>> Playing<P, M> {
+    pub fn new(make: M, words: Words) -> Playing<P, M> {
+        Playing {
             make,
             words,
             players: Vec::new(),
@@ -46,8 +46,8 @@ impl<P: Player, M: Fn(u32, u32, &[i32; ITEMS]) -> Result<P, u8>> Stage<P, M> {
                 let digits: Vec<String> = bytes.iter().map(|b| format!("{b:02x}")).collect();
                 Ok(vec![format!("slot {slot} has {}", digits.join(" "))])
             }
-            Command::At(k, ref step) => match k < self.players.len() {
-                true => self.step(k, step),
+            Command::At(k, ref local) => match k < self.players.len() {
+                true => self.local(k, local),
                 false => Err(format!("replica {k} is not made")),
             },
         }
@@ -71,28 +71,28 @@ impl<P: Player, M: Fn(u32, u32, &[i32; ITEMS]) -> Result<P, u8>> Stage<P, M> {
         }
     }
 
-    fn step(&mut self, k: usize, step: &Step) -> Result<Vec<String>, String> {
-        let line = match step {
-            Step::Call(call) => self.call(k, call).0,
-            Step::Deliver(carried) => {
+    fn local(&mut self, k: usize, local: &Local) -> Result<Vec<String>, String> {
+        let line = match local {
+            Local::Call(call) => self.call(k, call).0,
+            Local::Deliver(carried) => {
                 let bytes = self.bytes(carried)?;
                 self.call(k, &Call::Deliver { bytes }).0
             }
-            Step::Take(carried) => {
+            Local::Take(carried) => {
                 let bytes = self.bytes(carried)?;
                 return Ok(self.take(k, bytes));
             }
-            Step::Restart { bytes, bit } => self.restart(k, *bytes, *bit)?,
-            Step::Journal => words::journal(k, self.players[k].disk()),
-            Step::Values => {
+            Local::Restart { bytes, bit } => self.restart(k, *bytes, *bit)?,
+            Local::Journal => words::journal(k, self.players[k].disk()),
+            Local::Values => {
                 let who = format!("replica {k} holds");
                 words::values(&who, &self.players[k].values(), self.start)
             }
-            Step::Late { slots, tickets } => {
+            Local::Late { slots, tickets } => {
                 self.players[k].late(*slots, *tickets);
                 format!("replica {k} is as after {slots} slots and {tickets} tickets")
             }
-            Step::Lose { ticket } => {
+            Local::Lose { ticket } => {
                 self.players[k].lose(*ticket);
                 format!("ticket {ticket} is gone from the memory of replica {k}")
             }

@@ -20,7 +20,7 @@ fn played(text: &str) -> Result<String, String> {
     play(&scene(text), Machine::make, words)
 }
 
-/// The error of a scene in which this is the third line, and begins a step.
+/// The error of a scene in which this is the third line.
 fn wrong(line: &str) -> String {
     let error = played(&format!("# A scene.\nmake 2\n{line}\n----\n")).unwrap_err();
     let (place, words) = error.split_once(": ").unwrap();
@@ -92,6 +92,10 @@ fn wrong_commands() {
     ] {
         assert_eq!(wrong(line), words, "{line}");
     }
+}
+
+#[test]
+fn forged_blocks_have_room() {
     let items = (0..9).map(|item| format!(" item {item} value 1"));
     let many = format!(
         "take 0 forged slot 0 of 2 ticket 1{}",
