@@ -13,5 +13,6 @@ pub mod refusal;
 pub mod replay;
 pub mod replica;
 pub mod samples;
+pub mod scenes;
 pub mod trace;
 pub mod workload;

@@ -141,34 +141,43 @@ pub fn report(report: Report) -> second::Report {
     }
 }
 
+/// One call at a replica, or at what has its calls; its answer as the model's. Appends what the journal is
+/// to get.
+macro_rules! played {
+    ($replica:expr, $call:expr, $journal:expr) => {{
+        let played: Result<Answer, Refusal> = match *$call {
+            Call::Begin => $replica.begin().map(Answer::Ticket),
+            Call::Read { ticket, item } => $replica.read(ticket, item).map(Answer::Value),
+            Call::Write {
+                ticket,
+                item,
+                value,
+            } => $replica.write(ticket, item, value).map(|()| Answer::Done),
+            Call::Ask { ticket } => {
+                let asked = $replica.ask(ticket);
+                asked.map(|asked| Answer::ReadOnly(asked == Asked::ReadOnly))
+            }
+            Call::Withdraw { ticket } => $replica.withdraw(ticket).map(|()| Answer::Done),
+            Call::Report => Ok(Answer::Report(report($replica.report()))),
+            Call::Send => $replica.send().map(|block| {
+                $journal.extend(block);
+                Answer::Block(Box::new(block))
+            }),
+            Call::Deliver { ref bytes } => $replica.deliver(bytes).map(|()| Answer::Done),
+            Call::Work => $replica.work().map(|work| {
+                $journal.extend(work.append().into_iter().flatten());
+                Answer::Work(worked(&work))
+            }),
+            Call::Load { ref classes } => $replica.load(classes).map(|()| Answer::Done),
+        };
+        played.map_err(Refusal::number)
+    }};
+}
+pub(crate) use played;
+
 /// One call at the library's replica, its answer as the model's. Appends what the journal is to get.
-fn play(replica: &mut Replica, call: &Call, journal: &mut Vec<u8>) -> Result<Answer, u8> {
-    let played: Result<Answer, Refusal> = match *call {
-        Call::Begin => replica.begin().map(Answer::Ticket),
-        Call::Read { ticket, item } => replica.read(ticket, item).map(Answer::Value),
-        Call::Write {
-            ticket,
-            item,
-            value,
-        } => replica.write(ticket, item, value).map(|()| Answer::Done),
-        Call::Ask { ticket } => {
-            let asked = replica.ask(ticket);
-            asked.map(|asked| Answer::ReadOnly(asked == Asked::ReadOnly))
-        }
-        Call::Withdraw { ticket } => replica.withdraw(ticket).map(|()| Answer::Done),
-        Call::Report => Ok(Answer::Report(report(replica.report()))),
-        Call::Send => replica.send().map(|block| {
-            journal.extend(block);
-            Answer::Block(Box::new(block))
-        }),
-        Call::Deliver { ref bytes } => replica.deliver(bytes).map(|()| Answer::Done),
-        Call::Work => replica.work().map(|work| {
-            journal.extend(work.append().into_iter().flatten());
-            Answer::Work(worked(&work))
-        }),
-        Call::Load { ref classes } => replica.load(classes).map(|()| Answer::Done),
-    };
-    played.map_err(Refusal::number)
+pub fn play(replica: &mut Replica, call: &Call, journal: &mut Vec<u8>) -> Result<Answer, u8> {
+    played!(replica, call, journal)
 }
 
 /// A step, as the model gives it.

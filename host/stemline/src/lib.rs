@@ -40,6 +40,9 @@
 //!
 //! To look at what is sent and kept: [`Block`] is a block with its slot, sender and records, [`Blocks`] those
 //! of a journal. Blocks and [`Report`]s print as one line.
+//!
+//! A [`Recorder`] is a replica that writes its calls and answers down, so that what it answered can be
+//! compared with what the proved program `replay` answers.
 
 #![warn(missing_docs)]
 
@@ -50,6 +53,7 @@ mod durable;
 pub mod ffi;
 mod journal;
 mod memory;
+mod recorder;
 mod refusal;
 
 pub use block::{Block, DigitsError, Record};
@@ -58,6 +62,7 @@ pub use durable::{Durable, Failure};
 pub use ffi::{Entry, Report};
 pub use journal::{DiskError, Journal};
 pub use memory::Memory;
+pub use recorder::Recorder;
 pub use refusal::Refusal;
 
 // The limits, by the names and with the numbers that they have in C (`STEMLINE_` in front).
@@ -398,19 +403,24 @@ impl Replica {
     /// [`STEPS`] steps, of which the rest is left to the next take.
     pub fn take(&mut self, bytes: &[u8]) -> Result<Taken, Refusal> {
         self.deliver(bytes)?;
-        let mut taken = Taken {
-            steps: Vec::new(),
-            refused: None,
-        };
-        while taken.steps.len() < STEPS {
-            match self.work() {
-                Ok(work) => taken.steps.push(work),
-                Err(refusal) => {
-                    taken.refused = Some(refusal).filter(|&r| r != Refusal::NothingWaits);
-                    break;
-                }
+        Ok(works(|| self.work()))
+    }
+}
+
+/// The works behind the deliver of a take.
+fn works(mut work: impl FnMut() -> Result<Work, Refusal>) -> Taken {
+    let mut taken = Taken {
+        steps: Vec::new(),
+        refused: None,
+    };
+    while taken.steps.len() < STEPS {
+        match work() {
+            Ok(work) => taken.steps.push(work),
+            Err(refusal) => {
+                taken.refused = Some(refusal).filter(|&r| r != Refusal::NothingWaits);
+                break;
             }
         }
-        Ok(taken)
     }
+    taken
 }

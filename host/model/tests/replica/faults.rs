@@ -10,7 +10,7 @@ use crate::single::Pair;
 
 /// Each fault, and whether demand 3 forbids it. Where not, only the contracts of the calls do:
 /// what a write answers, what a report counts, when a number may be returned.
-const FAULTS: [(Fault, bool); 15] = [
+pub const FAULTS: [(Fault, bool); 15] = [
     (Fault::ArrivalOrder, true),
     (Fault::SparesAsked, true),
     (Fault::StaleAtAsk, false),

@@ -12,5 +12,6 @@ mod orders;
 mod refusals;
 mod restart_faults;
 mod restarts;
+mod scenes;
 mod single;
 mod story;

@@ -12,7 +12,7 @@ use crate::common::make;
 
 /// What a machine does wrong.
 #[derive(Clone, Copy, Debug, PartialEq, Eq)]
-enum Fault {
+pub enum Fault {
     None,
     /// An own block is appended only when the turn leaves its slot.
     OwnWhenLeft,
@@ -41,7 +41,7 @@ enum Fault {
 /// Each fault, and whether demand 3 forbids it. Where not, only the contract of a restart does: what
 /// tickets it leaves, what is reported, the stamps, which no call shows before the next commit, and which
 /// classes wait.
-const FAULTS: [(Fault, bool); 11] = [
+pub const FAULTS: [(Fault, bool); 11] = [
     (Fault::OwnWhenLeft, true),
     (Fault::TornTailKept, true),
     (Fault::LastOwnSentAgain, true),
@@ -55,18 +55,23 @@ const FAULTS: [(Fault, bool); 11] = [
     (Fault::TableKept, false),
 ];
 
-struct Faulty {
+pub struct Faulty {
     fault: Fault,
-    machine: Machine,
+    pub machine: Machine,
     /// The own block that is not appended yet.
     held: Option<Box<[u8; BLOCK]>>,
 }
 
 impl Faulty {
     fn make(n: u32, own: u32, fault: Fault) -> Faulty {
+        Faulty::of(Machine::new(make(n, own)), fault)
+    }
+
+    /// Of a machine just made.
+    pub fn of(machine: Machine, fault: Fault) -> Faulty {
         Faulty {
             fault,
-            machine: Machine::new(make(n, own)),
+            machine,
             held: None,
         }
     }

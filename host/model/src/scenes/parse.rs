@@ -1,0 +1,354 @@
+//! The lines of a scene, and its commands.
+
+use std::ops::RangeInclusive;
+use std::str::{FromStr, SplitWhitespace};
+
+use crate::block::{BLOCK, ENTRIES, RECORDS};
+use crate::replica::ITEMS;
+use crate::trace::Call;
+
+/// The lengths that bytes can be brought to.
+const LENGTHS: RangeInclusive<usize> = 0..=2 * BLOCK;
+
+/// A line of a file, and what it is.
+pub(super) struct FileLine<'a> {
+    pub text: &'a str,
+    pub content: Line,
+}
+
+#[derive(Debug)]
+pub(super) enum Line {
+    /// A comment, or an empty line.
+    Remark,
+    Command(Command),
+    Dashes,
+    Answer,
+}
+
+#[derive(Debug)]
+pub(super) enum Command {
+    Make {
+        n: u32,
+        value: i32,
+    },
+    Stabilize,
+    Values,
+    Bytes {
+        slot: u32,
+        range: RangeInclusive<usize>,
+    },
+    At(usize, Local),
+}
+
+/// What is done at one replica.
+#[derive(Debug)]
+pub(super) enum Local {
+    Call(Call),
+    Deliver(Carried),
+    Take(Carried),
+    Restart {
+        bytes: Option<usize>,
+        bit: Option<usize>,
+    },
+    Journal,
+    Values,
+    Late {
+        slots: u32,
+        tickets: u32,
+    },
+    Lose {
+        ticket: u32,
+    },
+}
+
+/// Bytes on their way to a replica.
+#[derive(Debug)]
+pub(super) struct Carried {
+    pub block: Source,
+    pub changes: Vec<Change>,
+}
+
+/// Ticket and entries of a writeset.
+pub(super) type Writeset = (u32, Vec<(u8, i32)>);
+
+#[derive(Debug)]
+pub(super) enum Source {
+    /// The block handed out for a slot.
+    Slot(u32),
+    /// One that nobody sent.
+    Forged {
+        slot: u32,
+        n: u32,
+        records: Vec<Writeset>,
+    },
+}
+
+#[derive(Debug)]
+pub(super) enum Change {
+    Bit(usize),
+    Byte(usize, u8),
+    Word(usize, u16),
+    Checked,
+    Length(usize),
+}
+
+/// The lines of a scene; or the number of a wrong one, counted from 1, and what is wrong with it.
+pub(super) fn lines(text: &str) -> Result<Vec<FileLine<'_>>, (usize, String)> {
+    let wrong = |line: usize, words: &str| Err((line, words.to_string()));
+    if !text.starts_with("# ") {
+        let words = "the file begins with what it shows, behind a # and a space";
+        return wrong(1, words);
+    }
+    let mut lines = Vec::new();
+    // The commands that have no dashes yet; whether answers follow; the dashes so far.
+    let (mut open, mut answers, mut dashes) = (0, false, 0);
+    for (text, number) in text.lines().zip(1..) {
+        let content = match text {
+            "----" if open == 0 => return wrong(number, "no command stands before the dashes"),
+            "----" => {
+                (open, answers, dashes) = (0, true, dashes + 1);
+                Line::Dashes
+            }
+            "" if open > 0 => return wrong(number, "dashes stand behind commands"),
+            "" => {
+                answers = false;
+                Line::Remark
+            }
+            _ if answers => Line::Answer,
+            _ if text.starts_with('#') => Line::Remark,
+            _ => {
+                open += 1;
+                Line::Command(command(text).map_err(|words| (number, words))?)
+            }
+        };
+        lines.push(FileLine { text, content });
+    }
+    match (open, dashes) {
+        (1.., _) => wrong(lines.len(), "dashes stand behind commands"),
+        (0, 0) => wrong(lines.len(), "the scene has no dashes, and so no answers"),
+        _ => Ok(lines),
+    }
+}
+
+/// What is left of a line, word by word.
+struct Rest<'a> {
+    words: SplitWhitespace<'a>,
+}
+
+impl<'a> Rest<'a> {
+    fn peek(&self) -> Option<&'a str> {
+        self.words.clone().next()
+    }
+
+    /// Whether this word is next; then it is taken.
+    fn takes(&mut self, word: &str) -> bool {
+        let is = self.peek() == Some(word);
+        if is {
+            self.words.next();
+        }
+        is
+    }
+
+    fn word(&mut self, word: &str) -> Result<(), String> {
+        match self.words.next() {
+            Some(found) if found == word => Ok(()),
+            Some(found) => Err(format!("{word:?} is due, and not {found:?}")),
+            None => Err(format!("{word:?} is due, and not the line's end")),
+        }
+    }
+
+    fn number<T: FromStr>(&mut self) -> Result<T, String> {
+        let word = self.words.next();
+        let word = word.ok_or("a number is due, and not the line's end")?;
+        let number = word.parse();
+        number.map_err(|_| format!("{word:?} is no number, or out of range here"))
+    }
+
+    /// A number behind its name.
+    fn named<T: FromStr>(&mut self, name: &str) -> Result<T, String> {
+        self.word(name)?;
+        self.number()
+    }
+
+    /// A number behind its name, if the name is next.
+    fn maybe<T: FromStr>(&mut self, name: &str) -> Result<Option<T>, String> {
+        match self.takes(name) {
+            true => self.number().map(Some),
+            false => Ok(None),
+        }
+    }
+
+    fn within(&mut self, range: RangeInclusive<usize>) -> Result<usize, String> {
+        let number = self.number()?;
+        let (first, last) = (range.start(), range.end());
+        match range.contains(&number) {
+            true => Ok(number),
+            false => Err(format!("{number} is not {first} to {last}")),
+        }
+    }
+
+    /// From one number to another, at most to the last, behind a name.
+    fn range(&mut self, name: &str, last: usize) -> Result<RangeInclusive<usize>, String> {
+        self.word(name)?;
+        let first = self.within(0..=last)?;
+        self.word("to")?;
+        Ok(first..=self.within(first..=last)?)
+    }
+
+    fn end(&mut self) -> Result<(), String> {
+        match self.words.next() {
+            None => Ok(()),
+            Some(word) => Err(format!("{word:?} is one word too many, or no such word")),
+        }
+    }
+}
+
+/// The commands at one replica, whose number stands behind them.
+const LOCAL: [&str; 16] = [
+    "begin", "read", "write", "ask", "withdraw", "report", "send", "deliver", "take", "work",
+    "load", "restart", "journal", "values", "late", "lose",
+];
+
+fn command(line: &str) -> Result<Command, String> {
+    let words = line.split_whitespace();
+    let mut rest = Rest { words };
+    let name = rest.words.next().unwrap_or_default();
+    let command = match name {
+        "make" => Command::Make {
+            n: rest.number()?,
+            value: rest.maybe("value")?.unwrap_or(0),
+        },
+        "stabilize" => Command::Stabilize,
+        "values" if rest.peek().is_none() => Command::Values,
+        "bytes" => Command::Bytes {
+            slot: rest.named("slot")?,
+            range: rest.range("from", BLOCK - 1)?,
+        },
+        _ if LOCAL.contains(&name) => Command::At(rest.number()?, local(name, &mut rest)?),
+        _ => return Err(unknown(name)),
+    };
+    rest.end()?;
+    Ok(command)
+}
+
+fn unknown(name: &str) -> String {
+    format!("{name:?} is no command")
+}
+
+fn local(name: &str, rest: &mut Rest) -> Result<Local, String> {
+    Ok(match name {
+        "deliver" => Local::Deliver(carried(rest)?),
+        "take" => Local::Take(carried(rest)?),
+        "restart" => Local::Restart {
+            bytes: rest.maybe("bytes")?,
+            bit: rest.maybe("bit")?,
+        },
+        "journal" => Local::Journal,
+        "values" => Local::Values,
+        "late" => Local::Late {
+            slots: rest.named("slots")?,
+            tickets: rest.named("tickets")?,
+        },
+        "lose" => Local::Lose {
+            ticket: rest.named("ticket")?,
+        },
+        _ => Local::Call(call(name, rest)?),
+    })
+}
+
+/// The calls that have all their arguments in the line.
+fn call(name: &str, rest: &mut Rest) -> Result<Call, String> {
+    Ok(match name {
+        "read" => Call::Read {
+            ticket: rest.named("ticket")?,
+            item: rest.named("item")?,
+        },
+        "write" => Call::Write {
+            ticket: rest.named("ticket")?,
+            item: rest.named("item")?,
+            value: rest.named("value")?,
+        },
+        "ask" => Call::Ask {
+            ticket: rest.named("ticket")?,
+        },
+        "withdraw" => Call::Withdraw {
+            ticket: rest.named("ticket")?,
+        },
+        "report" => Call::Report,
+        "send" => Call::Send,
+        "work" => Call::Work,
+        "load" => Call::Load {
+            classes: classes(rest)?,
+        },
+        "begin" => Call::Begin,
+        _ => return Err(unknown(name)),
+    })
+}
+
+/// Bytes to deliver: whose block, and what is changed of it.
+fn carried(rest: &mut Rest) -> Result<Carried, String> {
+    let block = match rest.takes("forged") {
+        false => Source::Slot(rest.named("slot")?),
+        true => Source::Forged {
+            slot: rest.named("slot")?,
+            n: {
+                rest.word("of")?;
+                // It is one byte of the block.
+                rest.within(1..=255)? as u32
+            },
+            records: records(rest)?,
+        },
+    };
+    let mut changes = Vec::new();
+    while let Some(change) = change(rest)? {
+        changes.push(change);
+    }
+    Ok(Carried { block, changes })
+}
+
+fn records(rest: &mut Rest) -> Result<Vec<Writeset>, String> {
+    let mut records = Vec::new();
+    while let Some(ticket) = rest.maybe("ticket")? {
+        let mut entries = Vec::new();
+        while let Some(item) = rest.maybe("item")? {
+            entries.push((item, rest.named("value")?));
+        }
+        if entries.len() > ENTRIES {
+            return Err(format!("a record has room for {ENTRIES} items"));
+        }
+        records.push((ticket, entries));
+    }
+    match records.len() > RECORDS {
+        true => Err(format!("a block has room for {RECORDS} tickets")),
+        false => Ok(records),
+    }
+}
+
+fn change(rest: &mut Rest) -> Result<Option<Change>, String> {
+    Ok(Some(if rest.takes("bit") {
+        Change::Bit(rest.within(0..=8 * BLOCK - 1)?)
+    } else if rest.takes("byte") {
+        Change::Byte(rest.within(0..=BLOCK - 1)?, rest.named("to")?)
+    } else if rest.takes("word") {
+        Change::Word(rest.within(0..=BLOCK / 2 - 1)?, rest.named("to")?)
+    } else if rest.takes("checked") {
+        Change::Checked
+    } else if rest.takes("length") {
+        Change::Length(rest.within(LENGTHS)?)
+    } else {
+        return Ok(None);
+    }))
+}
+
+/// A table of classes: one for all items, then others for some.
+fn classes(rest: &mut Rest) -> Result<Vec<u8>, String> {
+    let mut classes = vec![rest.named("class")?; ITEMS];
+    while rest.peek() == Some("items") {
+        let items = rest.range("items", ITEMS - 1)?;
+        classes[items].fill(rest.named("class")?);
+    }
+    if rest.takes("length") {
+        classes.resize(rest.within(LENGTHS)?, 1);
+    }
+    Ok(classes)
+}

@@ -1,0 +1,170 @@
+use super::*;
+use crate::refusal::LOCKED;
+
+fn words(number: u8) -> &'static str {
+    match number {
+        LOCKED => "held",
+        _ => "another",
+    }
+}
+
+fn scene(text: &str) -> Scene {
+    Scene {
+        name: "some.txt".to_string(),
+        path: PathBuf::new(),
+        text: text.to_string(),
+    }
+}
+
+fn played(text: &str) -> Result<String, String> {
+    play(&scene(text), Machine::make, words)
+}
+
+/// The error of a scene in which this is the third line.
+fn wrong(line: &str) -> String {
+    let error = played(&format!("# A scene.\nmake 2\n{line}\n----\n")).unwrap_err();
+    let (place, words) = error.split_once(": ").unwrap();
+    assert_eq!(place, "some.txt, line 3", "{error}");
+    words.to_string()
+}
+
+#[test]
+fn what_a_file_must_have() {
+    let error = |text| played(text).unwrap_err();
+    let heading = "the file begins with what it shows, behind a # and a space";
+    for text in ["", "make 2\n----\n", "\n# Late.\nmake 2\n----\n"] {
+        assert_eq!(error(text), format!("some.txt, line 1: {heading}"));
+    }
+    let none = "the scene has no dashes, and so no answers";
+    assert_eq!(error("# A scene.\n"), format!("some.txt, line 1: {none}"));
+    let open = "dashes stand behind commands";
+    for text in ["# A scene.\nmake 2\n", "# A scene.\nmake 2\n\n----\n"] {
+        let line = text.lines().take(3).count();
+        assert_eq!(error(text), format!("some.txt, line {line}: {open}"));
+    }
+    let text = "# A scene.\nmake 2\n----\n\n----\n";
+    let words = "no command stands before the dashes";
+    assert_eq!(error(text), format!("some.txt, line 5: {words}"));
+}
+
+#[test]
+fn wrong_commands() {
+    for (line, words) in [
+        ("beginn 0", r#""beginn" is no command"#),
+        ("begin", "a number is due, and not the line's end"),
+        ("begin 0 0", r#""0" is one word too many, or no such word"#),
+        ("begin zero", r#""zero" is no number, or out of range here"#),
+        ("begin 2", "replica 2 is not made"),
+        ("ask 0 ticket", "a number is due, and not the line's end"),
+        ("ask 0 1", r#""ticket" is due, and not "1""#),
+        (
+            "write 0 ticket 1 item 2",
+            r#""value" is due, and not the line's end"#,
+        ),
+        (
+            "write 0 ticket 1 item 2 value 2147483648",
+            r#""2147483648" is no number, or out of range here"#,
+        ),
+        (
+            "stabilize 0",
+            r#""0" is one word too many, or no such word"#,
+        ),
+        ("deliver 0 slot 0", "no block of slot 0 was handed out"),
+        ("deliver 0 forged slot 0 of 0", "0 is not 1 to 255"),
+        (
+            "deliver 0 forged slot 0 of 2 bit 4096",
+            "4096 is not 0 to 4095",
+        ),
+        (
+            "deliver 0 forged slot 0 of 2 twice",
+            r#""twice" is one word too many, or no such word"#,
+        ),
+        (
+            "load 0 class 1 items 5 to 128 class 2",
+            "128 is not 5 to 127",
+        ),
+        ("restart 0 bytes 1", "the journal of replica 0 has 0 bytes"),
+        ("bytes slot 0 from 1 to 0", "0 is not 1 to 511"),
+        (
+            "bytes slot 0 from 1 to 1",
+            "no block of slot 0 was handed out",
+        ),
+    ] {
+        assert_eq!(wrong(line), words, "{line}");
+    }
+}
+
+#[test]
+fn forged_blocks_have_room() {
+    let items = (0..9).map(|item| format!(" item {item} value 1"));
+    let many = format!(
+        "take 0 forged slot 0 of 2 ticket 1{}",
+        items.collect::<String>()
+    );
+    assert_eq!(wrong(&many), "a record has room for 8 items");
+    let tickets = (1..8).map(|ticket| format!(" ticket {ticket} item 1 value 1"));
+    let many = format!("take 0 forged slot 0 of 2{}", tickets.collect::<String>());
+    assert_eq!(wrong(&many), "a block has room for 6 tickets");
+}
+
+/// What stands under the dashes is written anew, and nothing else.
+#[test]
+fn answers_are_written() {
+    let commands =
+        "begin 0\nbegin 0\nwrite 0 ticket 1 item 5 value 1\nwrite 0 ticket 2 item 5 value 1\n";
+    let text = format!("# A scene.\n\nmake 2\n----\nan old answer\n\n# More.\n{commands}----\n");
+    let due = format!(
+        "# A scene.\n\nmake 2\n----\nreplicas 0 to 1 hold all items at 0\n\n# More.\n{commands}----\n\
+         replica 0 begins ticket 1\nreplica 0 begins ticket 2\n\
+         replica 0 writes 1 to item 5 under ticket 1\nreplica 0 refuses by 8: held\n"
+    );
+    assert_eq!(played(&text), Ok(due.clone()));
+    assert_eq!(played(&due), Ok(due.clone()));
+    assert_eq!(difference(&scene(&due), &due), None);
+    let line_5 = "some.txt, line 5:\n  expected: an old answer\n  got:      replicas 0 to 1 hold all items at 0";
+    assert_eq!(difference(&scene(&text), &due).as_deref(), Some(line_5));
+    let short = due.strip_suffix("replica 0 refuses by 8: held\n").unwrap();
+    let line_16 = "some.txt, line 16:\n  expected: the end of the file\n  got:      replica 0 refuses by 8: held";
+    assert_eq!(difference(&scene(short), &due).as_deref(), Some(line_16));
+    assert!(difference(&scene(due.trim_end()), &due).is_some());
+}
+
+/// A group of one slot each, with nothing lost: what is handed round, and what is not told.
+#[test]
+fn stabilize_tells_the_steps() {
+    let text = "# A scene.\nmake 2\nsend 0\nstabilize\nstabilize\n----\n";
+    let played = played(text).unwrap();
+    let (_, answers) = played.split_once("----\n").unwrap();
+    let lines: Vec<&str> = answers.lines().skip(2).collect();
+    let passes = |k| format!("replica {k} passes over the block of replica 0; the turn moves");
+    assert_eq!(lines, [&passes(0), &passes(1), "nothing moves"]);
+}
+
+#[test]
+fn folders() {
+    let room = std::env::temp_dir().join(format!("scenes-{}", std::process::id()));
+    let error = |room: &Path| folder(room).unwrap_err();
+    assert!(error(&room.join("none")).contains("none"));
+    fs::create_dir_all(&room).unwrap();
+    assert!(error(&room).ends_with("no scene is there"));
+    fs::write(room.join("README.md"), "").unwrap();
+    assert!(error(&room).ends_with("no scene is there"));
+    fs::write(room.join("b.txt"), "# B.\n").unwrap();
+    fs::write(room.join("a.txt"), "# A.\n").unwrap();
+    let names: Vec<String> = folder(&room).unwrap().into_iter().map(|s| s.name).collect();
+    assert_eq!(names, ["a.txt", "b.txt"]);
+    fs::write(room.join("c.text"), "# C.\n").unwrap();
+    assert_eq!(error(&room), "c.text: a scene's name ends in .txt");
+    fs::remove_dir_all(room).unwrap();
+}
+
+/// The example of the text that says what a scene is.
+#[test]
+fn the_example() {
+    let text = include_str!("../../testdata/README.md");
+    let (_, file) = text.split_once("## A file\n\n```text\n").unwrap();
+    let (file, _) = file.split_once("```\n").unwrap();
+    let example = scene(file);
+    let played = played(&example.text).unwrap();
+    assert_eq!(difference(&example, &played), None);
+}

@@ -1,0 +1,136 @@
+//! Answers in words.
+
+use super::Words;
+use crate::block::{self, Message, BLOCK};
+use crate::replica::{Report, Restarted, Work, ITEMS};
+use crate::trace::{Answer, Call};
+
+/// What a replica answers to a call.
+pub(super) fn answer(k: usize, call: &Call, answer: &Result<Answer, u8>, words: Words) -> String {
+    let said = match answer {
+        Err(number) => return refusal(k, *number, words),
+        Ok(Answer::Done) => done(call),
+        Ok(Answer::Ticket(ticket)) => format!("begins ticket {ticket}"),
+        Ok(Answer::Value(value)) => format!("reads {value}"),
+        Ok(Answer::ReadOnly(read_only)) => asked(call, *read_only),
+        Ok(Answer::Report(numbers)) => report(numbers),
+        Ok(Answer::Block(block)) => format!("sends {}", contents(block)),
+        Ok(Answer::Work(work)) => worked(work),
+    };
+    format!("replica {k} {said}")
+}
+
+pub(super) fn refusal(k: usize, number: u8, words: Words) -> String {
+    format!("replica {k} refuses by {number}: {}", words(number))
+}
+
+/// A call that is accepted, and no more.
+fn done(call: &Call) -> String {
+    match call {
+        Call::Write {
+            ticket,
+            item,
+            value,
+        } => format!("writes {value} to item {item} under ticket {ticket}"),
+        Call::Withdraw { ticket } => format!("ends ticket {ticket} as withdrawn"),
+        Call::Deliver { bytes } => match bytes.as_slice().try_into() {
+            Ok(block) => format!("keeps the block of slot {}", block::header(block).slot),
+            Err(_) => "keeps bytes that are no block".to_string(),
+        },
+        Call::Load { .. } => "loads the classes".to_string(),
+        other => format!("accepts {other:?}"),
+    }
+}
+
+fn asked(call: &Call, read_only: bool) -> String {
+    let ticket = match call {
+        Call::Ask { ticket } => *ticket,
+        _ => 0,
+    };
+    match read_only {
+        true => format!("ends ticket {ticket} as read-only: it wrote nothing"),
+        false => format!("keeps ticket {ticket} for its next block"),
+    }
+}
+
+fn report(of: &Report) -> String {
+    format!(
+        "reports turn {}, commits {}, tickets {}: open {}, committed {}, read-only {}, aborted {}, withdrawn {}",
+        of.turn, of.commits, of.tickets, of.open, of.committed, of.read_only, of.aborted, of.withdrawn
+    )
+}
+
+fn worked(work: &Work) -> String {
+    let mut said = match work.ticket {
+        0 => format!("passes over the block of replica {}", work.sender),
+        ticket => format!("commits ticket {ticket} of replica {}", work.sender),
+    };
+    if !work.aborted.is_empty() {
+        said += &format!("; aborts {}", list(&work.aborted));
+    }
+    said += match work.moved {
+        true => "; the turn moves",
+        false => "; the turn stays",
+    };
+    said
+}
+
+/// Slot and writesets of a block that was handed out.
+fn contents(bytes: &[u8; BLOCK]) -> String {
+    let header = block::header(bytes);
+    let Ok(Message { slot, records, .. }) = block::decode(bytes) else {
+        return format!("a block of slot {} that is not well formed", header.slot);
+    };
+    if records.is_empty() {
+        return format!("the block of slot {slot}, without writesets");
+    }
+    let writesets = records.iter().map(|record| {
+        let entries = record.entries.iter();
+        let sets = entries.map(|e| format!("item {} to {}", e.item, e.value));
+        format!("ticket {} sets {}", record.ticket, list(sets))
+    });
+    let writesets: Vec<String> = writesets.collect();
+    format!("the block of slot {slot}: {}", writesets.join("; "))
+}
+
+pub(super) fn restarted(k: usize, answer: &Restarted) -> String {
+    let blocks = match answer.count {
+        1 => "1 block".to_string(),
+        count => format!("{count} blocks"),
+    };
+    let last = match answer.gave_back() {
+        true => format!("hands out once more {}", contents(&answer.block)),
+        false => "has no own block to hand out".to_string(),
+    };
+    format!("replica {k} restarts with {blocks} of its journal, and {last}")
+}
+
+pub(super) fn journal(k: usize, disk: &[u8]) -> String {
+    let (blocks, rest) = disk.as_chunks::<BLOCK>();
+    let mut held: Vec<String> = blocks
+        .iter()
+        .map(|block| format!("slot {}", block::header(block).slot))
+        .collect();
+    if !rest.is_empty() {
+        held.push(format!("{} bytes", rest.len()));
+    }
+    match held.is_empty() {
+        true => format!("the journal of replica {k} is empty"),
+        false => format!("the journal of replica {k} has {}", list(held)),
+    }
+}
+
+/// The values that are not those of the make.
+pub(super) fn values(who: &str, values: &[i32; ITEMS], start: i32) -> String {
+    let changed = values.iter().enumerate().filter(|(_, &v)| v != start);
+    let changed: Vec<String> = changed.map(|(i, v)| format!("item {i} at {v}")).collect();
+    match changed.is_empty() {
+        true => format!("{who} all items at {start}"),
+        false => format!("{who} {}, the others at {start}", list(changed)),
+    }
+}
+
+fn list<T: ToString>(things: impl IntoIterator<Item = T>) -> String {
+    let things: Vec<String> = things.into_iter().map(|thing| thing.to_string()).collect();
+    things.join(", ")
+}

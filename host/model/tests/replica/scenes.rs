@@ -1,0 +1,177 @@
+//! The scenes of `testdata`: the model answers what stands there, and wrong replicas do not.
+
+use std::collections::BTreeSet;
+use std::env;
+use std::fs;
+use std::sync::OnceLock;
+
+use model::drive::{Machine, Powered, Subject};
+use model::replica::{Replica, Report, Restarted, ITEMS};
+use model::scenes::{self, Player, Scene};
+use model::trace::{Answer, Call, Restart};
+
+use crate::faults::FAULTS;
+use crate::history::{Fault, Historical};
+use crate::restart_faults::{self, Faulty};
+
+// The words of the crate for hosts: a file that stands alone.
+#[allow(dead_code)]
+#[path = "../../../stemline/src/refusal.rs"]
+mod refusal;
+
+/// What a number says to a host.
+fn words(number: u8) -> &'static str {
+    refusal::Refusal::from_number(number).map_or("accepted", refusal::Refusal::words)
+}
+
+/// All scenes; written anew first, where that is asked for.
+fn all() -> &'static [Scene] {
+    static SCENES: OnceLock<Vec<Scene>> = OnceLock::new();
+    SCENES.get_or_init(|| read().unwrap_or_else(|error| panic!("{error}")))
+}
+
+fn read() -> Result<Vec<Scene>, String> {
+    let mut scenes = scenes::files()?;
+    let said = env::var_os("SCENES_REWRITE").map(|said| said.to_string_lossy().into_owned());
+    if rewrite(said.as_deref())? {
+        for scene in &mut scenes {
+            scene.text = scenes::play(scene, Machine::make, words)?;
+            fs::write(&scene.path, &scene.text).map_err(|e| format!("{}: {e}", scene.name))?;
+        }
+    }
+    Ok(scenes)
+}
+
+/// Whether `SCENES_REWRITE` asks for the files to be written anew.
+fn rewrite(said: Option<&str>) -> Result<bool, String> {
+    match said {
+        None | Some("0") => Ok(false),
+        Some("1") => Ok(true),
+        Some(other) => Err(format!("SCENES_REWRITE is {other:?}: not 0 or 1")),
+    }
+}
+
+#[test]
+fn the_model_answers_them() {
+    let played = |scene| match scenes::play(scene, Machine::make, words) {
+        Ok(played) => scenes::difference(scene, &played),
+        Err(error) => Some(error),
+    };
+    let found: Vec<String> = all().iter().filter_map(played).collect();
+    assert!(found.is_empty(), "\n{}", found.join("\n"));
+}
+
+#[test]
+fn the_flag() {
+    for (said, due) in [(None, false), (Some("0"), false), (Some("1"), true)] {
+        assert_eq!(rewrite(said), Ok(due));
+    }
+    let error = "SCENES_REWRITE is \"yes\": not 0 or 1";
+    assert_eq!(rewrite(Some("yes")), Err(error.to_string()));
+}
+
+/// Every number of document 01's table, and 23, refuses a call in some scene.
+#[test]
+fn every_refusal_is_shown() {
+    let lines = all().iter().flat_map(|scene| scene.text.lines());
+    let refused = lines.filter_map(|line| line.split_once(" refuses by ")?.1.split_once(':'));
+    let numbers: BTreeSet<u8> = refused.map(|(n, _)| n.parse().unwrap()).collect();
+    assert!(numbers.into_iter().eq(1..=23));
+}
+
+/// A replica by history, which has no disk.
+struct ByHistory(Historical);
+
+impl ByHistory {
+    fn make(n: u32, own: u32, values: &[i32; ITEMS], fault: Fault) -> Result<ByHistory, u8> {
+        Replica::make(n, own, values)?;
+        Ok(ByHistory(Historical::make(n, own, *values, fault)))
+    }
+
+    /// Whether a scene asks for nothing that it has not.
+    fn can_play(scene: &Scene) -> bool {
+        let beyond = ["restart", "journal", "late", "lose"];
+        let mut lines = scene.text.lines();
+        !lines.any(|line| beyond.iter().any(|word| line.starts_with(word)))
+    }
+}
+
+impl Subject for ByHistory {
+    fn call(&mut self, call: &Call) -> Result<Answer, u8> {
+        self.0.call(call)
+    }
+    fn report(&self) -> Report {
+        self.0.report()
+    }
+    fn values(&self) -> [i32; ITEMS] {
+        self.0.values()
+    }
+}
+
+impl Powered for ByHistory {
+    fn disk(&self) -> &[u8] {
+        &[]
+    }
+    fn floor(&self) -> usize {
+        0
+    }
+    fn restart(&mut self, _: &Restart) -> Result<Restarted, u8> {
+        unreachable!("it has no disk")
+    }
+}
+
+impl Player for ByHistory {
+    fn late(&mut self, _: u32, _: u32) {
+        unreachable!("it has all its history")
+    }
+    fn lose(&mut self, _: u32) {
+        unreachable!("it has all its history")
+    }
+}
+
+impl Player for Faulty {
+    fn late(&mut self, slots: u32, tickets: u32) {
+        self.machine.late(slots, tickets);
+    }
+    fn lose(&mut self, ticket: u32) {
+        self.machine.lose(ticket);
+    }
+}
+
+/// Whether such replicas do not answer what stands in the scene.
+fn differs<P: Player>(
+    scene: &Scene,
+    make: impl Fn(u32, u32, &[i32; ITEMS]) -> Result<P, u8>,
+) -> bool {
+    let played = scenes::play(scene, make, words);
+    played.map_or(true, |played| scenes::difference(scene, &played).is_some())
+}
+
+/// Document 01's wrong replicas, and those about classes: some scene tells each.
+#[test]
+fn wrong_replicas_are_told() {
+    let playable = || all().iter().filter(|scene| ByHistory::can_play(scene));
+    let told = |fault| {
+        let make = |n, own, values: &_| ByHistory::make(n, own, values, fault);
+        playable().any(|scene| differs(scene, make))
+    };
+    assert!(playable().count() >= 12 && !told(Fault::None));
+    for (fault, _) in FAULTS {
+        assert!(told(fault), "no scene tells {fault:?}");
+    }
+}
+
+/// Machines that keep a journal or restart from it wrongly. Stamps that are gone after a restart no
+/// answer shows before the next commit.
+#[test]
+fn wrong_machines_are_told() {
+    let told = |fault| {
+        let make = |n, own, values: &_| Ok(Faulty::of(Machine::make(n, own, values)?, fault));
+        all().iter().any(|scene| differs(scene, make))
+    };
+    assert!(!told(restart_faults::Fault::None));
+    for (fault, _) in restart_faults::FAULTS {
+        let shown = fault != restart_faults::Fault::NoStamps;
+        assert_eq!(told(fault), shown, "{fault:?}");
+    }
+}
