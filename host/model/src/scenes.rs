@@ -49,7 +49,9 @@ impl Player for Machine {
 pub struct Scene {
     /// Its name in the folder.
     pub name: String,
+    /// Where it is.
     pub path: PathBuf,
+    /// All of it.
     pub text: String,
 }
 

@@ -143,6 +143,7 @@ pub fn report(report: Report) -> second::Report {
 
 /// One call at a replica, or at what has its calls; its answer as the model's. Appends what the journal is
 /// to get.
+#[macro_export]
 macro_rules! played {
     ($replica:expr, $call:expr, $journal:expr) => {{
         let played: Result<Answer, Refusal> = match *$call {
@@ -173,7 +174,6 @@ macro_rules! played {
         played.map_err(Refusal::number)
     }};
 }
-pub(crate) use played;
 
 /// One call at the library's replica, its answer as the model's. Appends what the journal is to get.
 pub fn play(replica: &mut Replica, call: &Call, journal: &mut Vec<u8>) -> Result<Answer, u8> {

@@ -26,7 +26,9 @@ pub struct Block {
 /// The writeset of one transaction: its ticket at the sender, and what it sets, by rising items.
 #[derive(Clone, Debug, PartialEq, Eq)]
 pub struct Record {
+    /// The ticket, at the replica that sent the block.
     pub ticket: u32,
+    /// What it sets.
     pub entries: Vec<Entry>,
 }
 

@@ -29,9 +29,19 @@ pub enum Stop {
     /// The next block is refused: by 14 or 15.
     Refused(Refusal),
     /// The next block is of a group of `found` replicas, and the first one of `due`.
-    Group { found: u8, due: u8 },
+    Group {
+        /// The size that the block names.
+        found: u8,
+        /// The size that the first block names.
+        due: u8,
+    },
     /// The next block is of slot `found`, in the place of `due`.
-    Slot { found: u32, due: u32 },
+    Slot {
+        /// The slot that the block names.
+        found: u32,
+        /// The slot that comes next.
+        due: u32,
+    },
 }
 
 impl<R: Read> Blocks<R> {

@@ -173,17 +173,25 @@ pub struct RestartReply {
 #[repr(C)]
 #[derive(Clone, Copy, Debug, Default, PartialEq, Eq)]
 pub struct Header {
+    /// 1 or 2.
     pub kind: u8,
+    /// The number of the replica that sent it.
     pub sender: u8,
+    /// The size of the group.
     pub replicas: u8,
+    /// How many records it has.
     pub count: u8,
+    /// The slot that it is for.
     pub slot: u32,
 }
 
+/// What reading a block answers.
 #[repr(C)]
 #[derive(Clone, Copy, Debug, Default, PartialEq, Eq)]
 pub struct BlockReply {
+    /// 0, or why the block is refused: 1, 14, 15.
     pub number: u8,
+    /// Its header, zeros where it is refused.
     pub header: Header,
 }
 
@@ -191,7 +199,9 @@ pub struct BlockReply {
 #[repr(C)]
 #[derive(Clone, Copy, Debug, Default, PartialEq, Eq)]
 pub struct RecordHead {
+    /// The ticket, at the replica that sent the block.
     pub ticket: u32,
+    /// How many entries it has.
     pub writes: u8,
 }
 
@@ -199,7 +209,9 @@ pub struct RecordHead {
 #[repr(C)]
 #[derive(Clone, Copy, Debug, Default, PartialEq, Eq)]
 pub struct Entry {
+    /// The item, 0 to 127.
     pub item: u8,
+    /// Its value.
     pub value: i32,
 }
 

@@ -4,15 +4,12 @@ use std::collections::BTreeSet;
 use std::io::Write;
 
 use super::Recorder;
-use crate::{Replica, BLOCK};
+use crate::{Block, Replica, BLOCK};
 
 /// The most blocks of a journal that the program keeps.
 const KEPT: usize = 128;
 /// The most tickets, of those that no own block has, that are begun to come to the others.
 const MISSING: usize = 1_000_000;
-
-/// A writeset of a block: its ticket, and items with their values.
-type Writeset = (u32, Vec<(u32, i32)>);
 
 impl<C: Write, A: Write> Recorder<C, A> {
     /// Brings a replica just made, in the list too, to where a restart from these blocks leaves one, which
@@ -45,10 +42,16 @@ impl<C: Write, A: Write> Recorder<C, A> {
 
     /// Takes the blocks of others, and sends the own ones; or says why not.
     fn write_again(&mut self, blocks: &[[u8; BLOCK]]) -> Result<(), String> {
+        let none = |at| {
+            let words = "is none that a replica writes, so that no list says it";
+            format!("block {at} of the journal {words}")
+        };
+        let read = blocks.iter().enumerate();
+        let read = read.map(|(at, bytes)| Block::read(bytes).map_err(|_| none(at)));
+        let blocks: Vec<Block> = read.collect::<Result<_, _>>()?;
         let own = self.replica.memory().counts.own;
-        let sent = blocks.iter().filter(|block| block[1] == own);
-        let writesets = sent.flat_map(writesets);
-        let tickets: BTreeSet<u32> = writesets.map(|(ticket, _)| ticket).collect();
+        let sent = blocks.iter().filter(|block| block.sender() == own);
+        let tickets: BTreeSet<u32> = sent.flat_map(Block::records).map(|r| r.ticket).collect();
         let highest = tickets.last().map_or(0, |&ticket| ticket as usize);
         if highest - tickets.len() > MISSING {
             return Err(format!(
@@ -56,52 +59,37 @@ impl<C: Write, A: Write> Recorder<C, A> {
             ));
         }
         for (at, block) in blocks.iter().enumerate() {
-            let taken = match block[1] == own {
-                true => self
-                    .send_again(block, &tickets)
-                    .and_then(|()| self.takes(block)),
-                false => self.takes(block),
+            let sent = match block.sender() == own {
+                true => self.send_again(block, &tickets),
+                false => Some(()),
             };
-            let words = "is none that a replica writes, so that no list says it";
-            taken.ok_or_else(|| format!("block {at} of the journal {words}"))?;
+            sent.and_then(|()| self.takes(block))
+                .ok_or_else(|| none(at))?;
         }
         Ok(())
     }
 
     /// Takes the block of the turn.
-    fn takes(&mut self, block: &[u8; BLOCK]) -> Option<()> {
-        let taken = self.take(block).ok()?;
+    fn takes(&mut self, block: &Block) -> Option<()> {
+        let taken = self.take(block.bytes()).ok()?;
         taken.steps.last()?.moved.then_some(())
     }
 
     /// Sends a block with the writesets of this one. Tickets that no block has are withdrawn at once.
-    fn send_again(&mut self, block: &[u8; BLOCK], tickets: &BTreeSet<u32>) -> Option<()> {
-        for (ticket, entries) in writesets(block) {
-            while self.replica.memory().counts.tickets < ticket {
+    fn send_again(&mut self, block: &Block, tickets: &BTreeSet<u32>) -> Option<()> {
+        for record in block.records() {
+            while self.replica.memory().counts.tickets < record.ticket {
                 let begun = self.begin().ok()?;
                 if !tickets.contains(&begun) {
                     self.withdraw(begun).ok()?;
                 }
             }
-            for (item, value) in entries {
-                self.write(ticket, item, value).ok()?;
+            for entry in record.entries {
+                self.write(record.ticket, entry.item.into(), entry.value)
+                    .ok()?;
             }
-            self.ask(ticket).ok()?;
+            self.ask(record.ticket).ok()?;
         }
-        (self.send().ok()? == *block).then_some(())
+        (self.send().ok()? == *block.bytes()).then_some(())
     }
-}
-
-/// The writesets of a well-formed block.
-fn writesets(block: &[u8; BLOCK]) -> Vec<Writeset> {
-    let (records, _) = block[16..].as_chunks::<72>();
-    let number = |bytes: &[u8]| u32::from_le_bytes([bytes[0], bytes[1], bytes[2], bytes[3]]);
-    let writeset = |record: &[u8; 72]| {
-        let (entries, _) = record[8..].as_chunks::<8>();
-        let entries = entries.iter().take(usize::from(record[4]));
-        let entries = entries.map(|entry| (u32::from(entry[0]), number(&entry[4..]) as i32));
-        (number(record), entries.collect())
-    };
-    let count = usize::from(block[3]);
-    records.iter().take(count).map(writeset).collect()
 }

@@ -11,9 +11,10 @@ use model::replay;
 use model::replica::ITEMS;
 use model::samples::{block_of, Random};
 use model::trace::{Answer, Call};
+use soak::played;
 use stemline::{Asked, Recorder, Refusal, Replica};
 
-use crate::both::{play, played, report, worked};
+use crate::both::{play, report, worked};
 use crate::seeds::Seeds;
 
 type Lists = Recorder<Vec<u8>, Vec<u8>>;
