@@ -169,7 +169,7 @@ MODULES = [
       ["BeginReply", "ReadReply", "AskReply", "ReportReply", "WorkReply", "RestartReply", "Changed", "Begun", "Asked", "Made", "Restarted", "Sent", "Worked"]),
     ("Rattle.call_reply.specs.Called", "called, withBlock"),
     ("Rattle.call_make.specs.Made", "ifMade"),
-    ("Rattle.call_work.specs.Writesets", "endedMarks"),
+    ("Rattle.call_work.specs.Works", "endedMarks"),
     ("Rattle.host_table.specs.Table", "loaded"),
     ("Rattle.call_reply.proofs.CalledLaws", "called-six, called-other"),
     ("Rattle.host_table.proofs.TableLaws", "loaded-six"),

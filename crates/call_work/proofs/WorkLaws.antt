@@ -1,16 +1,15 @@
--- Each refusal of a work, from the tests that lead to it; what a work does where it is not refused; and a writeset's end from its parts. Assumes nothing.
-use Prim.Native.Nat.{ℕ, _+_, _*_, _-_, _≤_, _<_, min}
+-- Each refusal of a work, from the tests that lead to it; and what a work does where it is not refused. Assumes nothing.
+use Prim.Native.Nat.{ℕ, _+_, _*_, _≤_, _<_}
 use mathlib.Core.Path.{_≡_, refl, sym, ap, _∙_}
 use mathlib.Core.Bool.{Bool, true, false, cond, not, _&&_}
-use mathlib.Core.Logic.{_⊎_, ⊎-elim}
-use mathlib.Core.List.{List, [], _∷_, _++_, append-nil}
+use mathlib.Core.List.{List, []}
 use native.Mathlib.Nat.{add-zero}
 use native.Mathlib.Omega.{arith}
 use borrow.Author.Tests.{eq-eqb, ne-eqb, eqb-true, eqb-false, not-false}
 use lib.Dec.{eqb, leb}
 use lib.IntN.{ℤ}
-use lib.ListN.{length, getD, set, take, drop, replicate, take-append-drop, List·getD-eq-default}
-use lib.Seq.{slice, set-out, length-slice, length-take-le}
+use lib.ListN.{length, getD, set, replicate, List·getD-eq-default}
+use lib.Seq.{slice, set-out, length-slice}
 use Rattle.block.specs.Answers.{firstOf, recordAt}
 use Rattle.block.specs.Message.{Record}
 use Rattle.block.proofs.BoolLaws.{both}
@@ -18,9 +17,9 @@ use Rattle.block.proofs.ListLaws.{getD-slice}
 use Rattle.memory.specs.declared.Counts.{Counts}
 use Rattle.memory.specs.declared.Turn.{Turn}
 use Rattle.memory.specs.declared.Txn.{Txn}
-use Rattle.memory.specs.Memory.{Memory, bump, withDone, withCommit, withTurn}
-use Rattle.memory.specs.Rows.{closed, rowOf, endRows, has}
-use Rattle.memory.specs.Turns.{markApplying, advance, placeStart}
+use Rattle.memory.specs.Memory.{Memory, withDone, withTurn}
+use Rattle.memory.specs.Rows.{closed, rowOf, endRows}
+use Rattle.memory.specs.Turns.{advance, placeStart}
 use Rattle.engine.proofs.Passed.{work-passed}
 use Rattle.engine.proofs.PlaceLaws.{place-fits}
 use Rattle.engine.proofs.ShapeWriteset.{committed}
@@ -28,13 +27,13 @@ use Rattle.engine.proofs.Tests.{less-by, passes}
 use Rattle.engine.specs.Calls.{Outcome, outcome}
 use Rattle.engine.specs.Calls.Outcome.{memory}
 use Rattle.engine.specs.Calls.Answer.{refused, worked}
-use Rattle.engine.specs.Moves.{workLent, workRefusal, isSent, blockAtTurn, writesetAt, applied, stamped, hitTickets, without, queueWithout, isLast, appending, passNext, commitWriteset, workStep}
-use Rattle.call_commit.specs.Marks.{hitMarks}
+use Rattle.engine.specs.Moves.{workLent, workRefusal, isSent, blockAtTurn, writesetAt, applied, stamped, hitTickets, isLast, appending, passNext, commitWriteset, workStep}
 use Rattle.call_commit.proofs.EndLaws.{end-none, end-mark, end-hit}
 use Rattle.call_reply.specs.Parts.{workParts}
 use Rattle.call_reply.specs.Replies.{workReply, Gives, blockLeft, GivesWith}
-use Rattle.call_work.specs.declared.Ended.{Ended}
-use Rattle.call_work.specs.Writesets.{noMarks, endedMarks, endedOf, queueLeft}
+use Rattle.call_ending.specs.declared.Ended.{Ended}
+use Rattle.call_ending.specs.Writesets.{noMarks, endedOf, queueLeft}
+use Rattle.call_work.specs.Works.{endedMarks}
 
 -- what an outcome gives, the same outcome by another name gives
 pub same-gives : {R : Type 0} (of : Outcome → R) {p o : Outcome} → p ≡ o → (lent : List ℕ) {r : R} {left : Memory} {block : List ℕ}
@@ -180,49 +179,6 @@ own-rows rows k six =
     less-by k 6
     (λ h. end-mark noMarks rows k h ∙ rw (end-none 6 rows))
     (λ h. rw (set-out noMarks k true h, end-none 6 rows) (sym (set-out rows k closed (omega arith))))
-
-without-none : (l : List ℕ) → without [] l ≡ l
-unfolding without has
-without-none [] = refl
-without-none (t ∷ l) = rw (without-none l)
-
-queue-all : (queue : List ℕ) → queueWithout [] queue ≡ queue
-queue-all queue = let z : length queue - length queue ≡ 0 = omega arith in rw (without-none queue, z) (append-nil queue)
-
-module _ (w : Record) (turn : Turn) (counts : Counts) (rows : List Txn) (items : List ℕ) where
-  pub own-ended : counts .aborted ≤ 4_294_967_295
-      → _≡_ {A = Ended}
-      (record {
-        ticket = w .ticket;
-        turn = turn;
-        counts = withCommit counts (bump (counts .commits)) (bump (counts .committed)) (counts .aborted);
-        marks = set noMarks (rowOf (w .ticket) rows) true;
-        aborted = replicate 6 0;
-        count = 0;
-      })
-      (endedOf true w turn counts rows items)
-  unfolding endedOf
-  own-ended h = let e : min (counts .aborted + 0) 4_294_967_295 ≡ counts .aborted = omega arith in rw e
-
-  -- the first n of the tickets are those of the rows hit
-  module _ (tickets : List ℕ) (n : ℕ) (few : n ≤ 6) (hit : take n tickets ≡ hitTickets (w .entries) items 0 rows) where
-    pub other-ended : length tickets ≡ 6 → drop n tickets ≡ replicate (6 - n) 0
-        → (marks : List Bool) → marks ≡ hitMarks (w .entries) items 0 rows → (commits aborted : ℕ) → commits ≡ bump (counts .commits) → aborted ≡ min (counts .aborted + n) 4_294_967_295
-        → _≡_ {A = Ended}
-        (record { ticket = w .ticket; turn = markApplying turn; counts = withCommit counts commits (counts .committed) aborted; marks = marks; aborted = tickets; count = n })
-        (endedOf false w turn counts rows items)
-    unfolding endedOf
-    other-ended six zeros marks em commits aborted ec ea =
-        let l : length (hitTickets (w .entries) items 0 rows) ≡ n = ap length (sym hit) ∙ length-take-le n tickets (omega arith) in
-        let s : hitTickets (w .entries) items 0 rows ++ replicate (6 - n) 0 ≡ tickets = rw (← hit, ← zeros) (take-append-drop n tickets) in
-        rw (em, ec, ea, l, s)
-
-    -- where no row is hit the queue is left as it is
-    pub other-queue : (q queue : List ℕ) → (q ≡ queueWithout (take (min n 6) tickets) queue) ⊎ ((n ≡ 0) × (q ≡ queue)) → q ≡ queueLeft false w rows items queue
-    other-queue q queue =
-        ⊎-elim
-        (λ e. let k : min n 6 ≡ n = omega arith in e ∙ rw (k, hit))
-        (λ e. e .1 ∙ sym (queue-all queue) ∙ rw (← hit, e .0))
 
 module _ (m : Memory) (turn : Turn) (counts : Counts) (rows : List Txn) (queue items : List ℕ) (values : List ℤ) (stamps places : List ℕ) (six : length rows ≡ 6) where
   abbrev before : Memory

@@ -1,2 +1,2 @@
 -- What the functions of a work say beside the definition of the call.
-pub mod Writesets
+pub mod Works

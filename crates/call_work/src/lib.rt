@@ -12,32 +12,21 @@ ghost use Rattle.engine.specs.Moves.{workLent, workRefusal, passNext, workStep}
 ghost use Rattle.call_reply.specs.Parts.{workParts};
 ghost use Rattle.call_reply.specs.Replies.{workReply, GivesWith};
 ghost use Rattle.call_reply.specs.Called.{withBlock};
-ghost use Rattle.call_work.specs.Writesets.{turnParts, noMarks, endedMarks};
+ghost use Rattle.call_ending.specs.Writesets.{noMarks};
+ghost use Rattle.call_work.specs.Works.{turnParts, endedMarks};
 use block_reader::record_at;
+use call_ending::Ended;
+use call_ending::end_writeset;
 use call_reply::WorkReply;
 use call_reply::Worked;
 use call_reply::blocks::byte_at;
 use call_reply::blocks::copy_bytes;
 use call_reply::replies::no_work;
-use ending::end_writeset;
 use memory::Counts;
 use memory::Turn;
 use memory::Txn;
 use memory::cursor::place_start;
 use memory::rows::row_of;
-
-mod ending;
-
-// What a writeset leaves of turn and counts, and the marks of the rows ended; its ticket, and the tickets that it aborted. The tickets stand first: behind
-// six bytes of marks a copy of them would begin in padding, and read bytes just written in another width.
-struct Ended {
-    aborted: [u32; 6],
-    ticket: u32,
-    counts: Counts,
-    turn: Turn,
-    count: u8,
-    marks: [bool; 6],
-}
 
 // Whether the slices lent have their lengths.
 fn lengths_fit(

@@ -17,7 +17,7 @@ use Rattle.call_reply.specs.declared.WorkReply.{WorkReply}
 use Rattle.call_reply.specs.declared.Sent.{Sent}
 use Rattle.call_reply.specs.declared.Worked.{Worked}
 use Rattle.call_reply.specs.Called.{called, withBlock}
-use Rattle.call_work.specs.Writesets.{endedMarks}
+use Rattle.call_work.specs.Works.{endedMarks}
 use Rattle.call_reply.proofs.CalledLaws.{called-other}
 
 abbrev pub SendOn : List Txn → Turn → Counts → List ℕ → List ℕ → List ℤ → List ℕ → List ℕ → Sent → List ℕ → List ℕ → List ℕ → Type 0

@@ -4,7 +4,7 @@ use mathlib.Core.Path.{refl, sym, _∙_}
 use native.Mathlib.Omega.{arith}
 use borrow.Rule.Slice.PartMut.{mid-len}
 use Rattle.block.proofs.ListLaws.{lent-slice}
-use Rattle.call_work.specs.Writesets.{turnParts}
+use Rattle.call_work.specs.Works.{turnParts}
 use Rattle.call_work.proofs.WorkLaws.{next-passed}
 use borrow.Author.Needs.{needs}
 use Rattle.call_work.proofs.pass_next.Statement.{statement}

@@ -8,7 +8,7 @@ use lib.Seq.{slice}
 use Rattle.block.specs.Answers.{recordAt}
 use Rattle.block.proofs.ListLaws.{lent-slice}
 use Rattle.memory.specs.Memory.{Memory}
-use Rattle.call_work.specs.Writesets.{turnParts}
+use Rattle.call_work.specs.Works.{turnParts}
 use Rattle.call_work.proofs.WorkLaws.{place-within, refused-lengths, refused-empty, refused-next, refused-unsent, refused-not}
 use borrow.Author.Needs.{needs}
 use Rattle.call_work.proofs.refusal.Statement.{statement}

@@ -1,12 +1,12 @@
--- `ending::end_other` meets its contract: what the rows hit leave.
+-- `end_other` meets its contract: what the rows hit leave.
 use mathlib.Core.Path.{_≡_, ap, _∙_}
 use mathlib.Core.Logic.{⊎-elim, inl, inr}
 use lib.ListN.{length}
 use Rattle.engine.specs.Moves.{writesetAt}
-use Rattle.call_work.proofs.WorkLaws.{other-ended, other-queue}
+use Rattle.call_ending.proofs.EndingLaws.{other-ended, other-queue}
 use borrow.Author.Needs.{needs}
-use Rattle.call_work.proofs.ending.end_other.Statement.{statement}
-use Rattle.call_work.proofs.ending.end_other.Tie as tie
+use Rattle.call_ending.proofs.end_other.Statement.{statement}
+use Rattle.call_ending.proofs.end_other.Tie as tie
 
 abort-rows-requires : tie.Need-abort-rows-requires
 abort-rows-requires c κs = search needs

@@ -1,10 +1,10 @@
--- `ending::end_own` meets its contract: past the last row nothing is marked.
+-- `end_own` meets its contract: past the last row nothing is marked.
 use mathlib.Core.Bool.{true, false}
 use lib.ListN.{replicate}
 use lib.Seq.{set-out}
 use borrow.Author.Needs.{needs}
-use Rattle.call_work.proofs.ending.end_own.Statement.{statement}
-use Rattle.call_work.proofs.ending.end_own.Tie as tie
+use Rattle.call_ending.proofs.end_own.Statement.{statement}
+use Rattle.call_ending.proofs.end_own.Tie as tie
 
 bump-requires : tie.Need-bump-requires
 bump-requires c κs = search needs

@@ -8,8 +8,7 @@ ghost use Rattle.block.specs.Answers.{recordAt};
 ghost use Rattle.memory.specs.Memory.{bump, withCommit};
 ghost use Rattle.memory.specs.Rows.{rowOf};
 ghost use Rattle.engine.specs.Moves.{writesetAt, applied, stamped};
-ghost use Rattle.call_work.specs.Writesets.{noMarks, endedOf, queueLeft};
-use super::Ended;
+ghost use Rattle.call_ending.specs.Writesets.{noMarks, endedOf, queueLeft};
 use block_reader::record_at;
 use call_commit::abort_rows;
 use call_commit::apply;
@@ -20,6 +19,17 @@ use memory::Turn;
 use memory::Txn;
 use memory::rows::bump;
 use memory::rows::row_of;
+
+// What a writeset leaves of turn and counts, and the marks of the rows ended; its ticket, and the tickets that it aborted. The tickets stand first: behind
+// six bytes of marks a copy of them would begin in padding, and read bytes just written in another width.
+pub struct Ended {
+    pub aborted: [u32; 6],
+    pub ticket: u32,
+    pub counts: Counts,
+    pub turn: Turn,
+    pub count: u8,
+    pub marks: [bool; 6],
+}
 
 // The sum, or the type's limit.
 fn add(n: u32, more: u32) -> u32

@@ -1,11 +1,11 @@
--- `ending::end_transactions` meets its contract: the replica's own, or another's.
+-- `end_transactions` meets its contract: the replica's own, or another's.
 use Prim.Native.Nat.{_≤_}
 use mathlib.Core.Path.{refl}
 use native.Mathlib.Omega.{arith}
-use Rattle.call_work.proofs.WorkLaws.{own-ended}
+use Rattle.call_ending.proofs.EndingLaws.{own-ended}
 use borrow.Author.Needs.{needs}
-use Rattle.call_work.proofs.ending.end_transactions.Statement.{statement}
-use Rattle.call_work.proofs.ending.end_transactions.Tie as tie
+use Rattle.call_ending.proofs.end_transactions.Statement.{statement}
+use Rattle.call_ending.proofs.end_transactions.Tie as tie
 
 end-own-requires : tie.Need-end-own-requires
 end-own-requires c κs = search needs

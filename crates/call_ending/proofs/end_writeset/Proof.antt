@@ -1,7 +1,7 @@
--- `ending::end_writeset` meets its contract: what its calls leave.
+-- `end_writeset` meets its contract: what its calls leave.
 use borrow.Author.Needs.{needs}
-use Rattle.call_work.proofs.ending.end_writeset.Statement.{statement}
-use Rattle.call_work.proofs.ending.end_writeset.Tie as tie
+use Rattle.call_ending.proofs.end_writeset.Statement.{statement}
+use Rattle.call_ending.proofs.end_writeset.Tie as tie
 
 cast-j : tie.Need-cast-j
 cast-j c = search needs

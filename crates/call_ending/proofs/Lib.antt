@@ -1,0 +1,2 @@
+-- A writeset's end from its parts, over plain variables.
+pub mod EndingLaws

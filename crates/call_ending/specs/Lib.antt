@@ -1,0 +1,2 @@
+-- What a writeset's end is.
+pub mod Writesets
