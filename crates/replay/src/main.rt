@@ -2,7 +2,7 @@
 ghost use Prim.Native.Nat.{_≤_, _<_};
 ghost use mathlib.Core.Path.{_≡_};
 ghost use lib.ListN.{length, take};
-ghost use Rattle.replay_text.specs.Text.{answerText, Holds};
+ghost use Rattle.replay_print.specs.Text.{answerText, Holds};
 use call_reply::blocks::copy_bytes;
 use input::Source;
 use output::Output;
@@ -10,10 +10,7 @@ use replay_calls::Played;
 use replay_calls::Replica;
 use replay_calls::nobody;
 use replay_journal::Held;
-use replay_text::Call;
-use replay_text::kept;
-use replay_text::parse;
-use replay_text::print;
+use replay_parse::Call;
 
 mod input;
 mod output;
@@ -90,10 +87,10 @@ fn request_of(line: &[u8], sent: u64, kept: &[u8]) -> Request
     requires { ⌜ length (now kept) ≡ 32768 ⌝ }
     ensures { λ r. ⌜ (r .place < 6) × (r .count ≤ 2100) ⌝ }
 {
-    let place = parse::replica_named(line);
-    let call = parse::call_of(line);
-    let from = kept::start_of(call.first as u64);
-    let delivery = kept::delivered(call, line, sent, &kept[from..from + 512]);
+    let place = replay_parse::replica_named(line);
+    let call = replay_parse::call_of(line);
+    let from = replay_delivery::start_of(call.first as u64);
+    let delivery = replay_delivery::delivered(call, line, sent, &kept[from..from + 512]);
     let bytes = delivery.bytes;
     Request {
         place: at_most_five(place),
@@ -130,7 +127,7 @@ fn put_played(played: Played, block: &[u8], out: &mut [u8]) -> usize
     let count = played.count;
     let values = played.values;
     let shown = played.shown;
-    print::put_answer(
+    replay_print::put_answer(
         &mut *out,
         played.number,
         &numbers[..count],
@@ -227,7 +224,7 @@ fn answer(
     Answered {
         place: place,
         said: Said {
-            length: print::put_unknown(&mut *out),
+            length: replay_print::put_unknown(&mut *out),
             sent: false,
         },
     }
@@ -247,7 +244,7 @@ fn reply(
     ensures { λ r. ⌜ r .output .held ≤ 65536 ⌝ }
 {
     let page = 65536 * request.place;
-    let slot = kept::start_of(output.sent);
+    let slot = replay_delivery::start_of(output.sent);
     let end = output.held;
     let next = answer(
         request,

@@ -11,7 +11,7 @@ use replay_calls::play;
 use replay_journal::give;
 use replay_journal::has_part;
 use replay_journal::keep;
-use replay_text::Call;
+use replay_parse::Call;
 
 // Whether the call's replica is there, or made by the call.
 fn is_there(call: Call, replicas: u8) -> bool

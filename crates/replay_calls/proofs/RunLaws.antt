@@ -13,7 +13,7 @@ use Rattle.engine.specs.Client.{beginStep, readStep, writeStep, askStep, withdr
 use Rattle.engine.specs.Moves.{sendStep, deliverStep, workStep}
 use Rattle.engine.specs.Restart.{restartStep}
 use Rattle.call_reply.specs.Called.{withBlock}
-use Rattle.replay_text.specs.declared.Call.{Call}
+use Rattle.replay_parse.specs.declared.Call.{Call}
 use Rattle.replay_calls.specs.declared.Played.{Played}
 use Rattle.replay_calls.specs.declared.Replica.{Replica}
 use Rattle.replay_calls.specs.Effects.{placesSize, memoryOf, sizeLent, effect, look, show, played, Plays}

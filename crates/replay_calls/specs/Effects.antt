@@ -24,7 +24,7 @@ use Rattle.call_reply.specs.Replies.{blockLeft}
 use Rattle.call_reply.specs.Called.{withBlock}
 use Rattle.call_reply.specs.declared.Restarted.{Restarted}
 use Rattle.call_make.specs.Made.{ifMade}
-use Rattle.replay_text.specs.declared.Call.{Call}
+use Rattle.replay_parse.specs.declared.Call.{Call}
 use Rattle.replay_journal.specs.declared.Change.{Change}
 use Rattle.replay_journal.specs.declared.Change.the-variants.{Stays, Grows, Begins}
 use Rattle.replay_calls.specs.declared.Played.{Played}

@@ -10,7 +10,7 @@ use super::results::bare;
 use super::results::with_values;
 use call_reply::blocks::copy_bytes;
 use replay_journal::Change;
-use replay_text::Call;
+use replay_parse::Call;
 
 // The replica's values.
 fn shown(replica: Replica) -> Played

@@ -11,7 +11,7 @@ use lib.Dec.{eqb, leb}
 use lib.ListN.{length, take, drop, length-take, length-drop, drop-of-length-le}
 use lib.Seq.{paste, slice, take-all, drop-length, length-paste, take-paste}
 use Rattle.block.proofs.ListLaws.{lent, lent-slice}
-use Rattle.replay_text.specs.declared.Call.{Call}
+use Rattle.replay_parse.specs.declared.Call.{Call}
 use Rattle.replay_journal.specs.declared.Held.{Held}
 use Rattle.replay_journal.specs.declared.Held.the-variants.{Bytes, Outgrown}
 use Rattle.replay_journal.specs.Journals.{journalOf, isPart, partStart, partEnd, hasPart, bytesGiven}

@@ -5,7 +5,7 @@ use mathlib.Core.List.{List, _++_}
 use lib.Dec.{eqb, leb}
 use lib.ListN.{length, take}
 use lib.Seq.{slice}
-use Rattle.replay_text.specs.declared.Call.{Call}
+use Rattle.replay_parse.specs.declared.Call.{Call}
 use Rattle.replay_journal.specs.declared.Held.{Held}
 use Rattle.replay_journal.specs.declared.Held.the-variants.{Bytes, Outgrown}
 use Rattle.replay_journal.specs.declared.Change.{Change}

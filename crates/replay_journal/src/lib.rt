@@ -6,7 +6,7 @@ ghost use lib.Seq.{slice};
 ghost use Rattle.replay_journal.specs.Journals.{grown, changed, journalOf, isPart, partStart, partEnd, hasPart, bytesGiven};
 use call_reply::blocks::copy_bytes;
 use memory::rows::lesser;
-use replay_text::Call;
+use replay_parse::Call;
 
 // How many bytes of the page are the journal; `Outgrown` where more was appended than the page has room for.
 pub enum Held {

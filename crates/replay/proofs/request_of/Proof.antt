@@ -5,8 +5,8 @@ use native.Mathlib.Omega.{arith}
 use borrow.Author.Needs.{needs}
 use lib.ListN.{length}
 use Rattle.block.proofs.ListLaws.{lent}
-use Rattle.replay_text.specs.Deliveries.{namesBytes, bytesNamed}
-use Rattle.replay_text.proofs.DeliveryLaws.{delivery-short}
+use Rattle.replay_delivery.specs.Deliveries.{namesBytes, bytesNamed}
+use Rattle.replay_delivery.proofs.DeliveryLaws.{delivery-short}
 use Rattle.replay.proofs.request_of.Statement.{statement}
 use Rattle.replay.proofs.request_of.Tie as tie
 

@@ -1,0 +1,2 @@
+-- Laws of the bytes that a line names, which several proofs cite.
+pub mod DeliveryLaws

@@ -1,0 +1,2 @@
+-- Which bytes a line names.
+pub mod Deliveries

@@ -1,0 +1,2 @@
+-- Laws of a line as a call, which several proofs cite.
+pub mod LineLaws

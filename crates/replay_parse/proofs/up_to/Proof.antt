@@ -1,0 +1,17 @@
+-- `up_to` meets its contract.
+use borrow.Author.Needs.{needs}
+use borrow.Author.Tests.{le-leb, lt-leb}
+use Rattle.replay_parse.proofs.up_to.Statement.{statement}
+use Rattle.replay_parse.proofs.up_to.Tie as tie
+
+returns : tie.Need-returns
+returns c = λ line. rw (lt-leb (c .before .args .n) (c .before .args .most) (c .if1 .taken))
+
+cast-t5 : tie.Need-cast-t5
+cast-t5 c = search needs
+
+returns-2 : tie.Need-returns-2
+returns-2 c = λ line. rw (le-leb (c .before .args .n) (c .before .args .most) (c .if1 .left))
+
+pub up-to-spec : {M : Type 1} → statement M
+up-to-spec = tie.close (tie.spec returns cast-t5 returns-2)

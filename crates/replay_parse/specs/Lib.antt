@@ -1,0 +1,2 @@
+-- What a line of input says.
+pub mod Lines
