@@ -71,7 +71,7 @@ static inline const char *stemline_words(int number) {
     case STEMLINE_ALL_OPEN: return "6 transactions are open";
     case STEMLINE_TICKETS_SPENT: return "all 100,000,000 tickets are given";
     case STEMLINE_APPLYING:
-        return "a block of another replica is being applied, with items of this one's class still to come";
+        return "a block of another replica is being applied, with items of this item's class still to come";
     case STEMLINE_LOCKED: return "another open transaction holds the item";
     case STEMLINE_STALE: return "the item has changed since the snapshot; the transaction is aborted";
     case STEMLINE_WRITESET_FULL: return "the transaction has written 8 items, and this is a ninth";

@@ -249,8 +249,9 @@ uint8_t stemline_load(
  * content. The header of a good block is given with 0; else the number is 1 for a
  * length other than STEMLINE_BLOCK, 14 for the check or 15 for the form. Of a good
  * block record j is read for j below the header's count, and its entry e for e below
- * the record's writes; both count from 0. Past the sixth record and the eighth entry,
- * and at another length, all is 0. */
+ * the record's writes; both count from 0. Of other bytes of that length both are given
+ * as the bytes stand. Past the sixth record and the eighth entry, and at another
+ * length, all is 0. */
 
 stemline_block_reply stemline_block_header(const uint8_t *bytes, size_t bytes_length);
 

@@ -69,7 +69,7 @@ class Facts:
         lead += [("turn", "Turn")] * call.turn_passed + [("counts", "Counts")] * call.counts_passed
         names = lead + self.passed + [("r", den(call.result))] + self.muts
         table = "rows" if call.by_rows else "table"
-        all_of = call.every + "(table : List Txn) → " * (call.row_passed and not call.by_rows) + f"t ≡ rowAt {table} at → " * call.row_passed
+        all_of = call.every + "(table : List Txn) → t ≡ rowAt table at → " * (call.row_passed and not call.by_rows)
         now = {"table": table}
         for field in FIELDS.get(call.result, []):
             if field == "row":
@@ -83,7 +83,8 @@ class Facts:
         if call.makes:
             all_of, number = "(turn : Turn) (counts : Counts) (table : List Txn) → ", "(r .number)" if call.reply == "u8" else "(r .reply .number)"
             now = {what: f"(ifMade {number} {new} {what})" for what, new in [("turn", "(r .turn)"), ("counts", "(r .counts)"), ("table", "(replicate 6 closed)")]}
-        outcome = (call.at_row if call.by_row else call.step).format(m=f"({self.before(table)})")
+        lent = "(set rows at t)" if call.row_passed and call.by_rows else table
+        outcome = (call.at_row if call.by_row else call.step).format(m=f"({self.before(lent)})")
         claim = f"{all_of}{self.claim(reply_of(call), self.after(**now), outcome)}"
         claim = f"({claim}) × {BESIDE[call.name]}" if call.name in BESIDE else claim
         claim += f" × (r .ended ≡ endedMarks block ({self.before(table)}))" * (call.name == "work")

@@ -17,7 +17,7 @@ use Rattle.engine.proofs.Tests.{bool-by}
 use Rattle.engine.proofs.BlockFacts.{taken-block}
 use Rattle.engine.proofs.RestartLaws.{good-taken, reads-good, reads-few, count-few, own-few}
 use Rattle.call_journal.specs.declared.Tally.{Tally}
-use Rattle.call_journal.specs.Replays.{replayed, blockNumber, counted, Replays}
+use Rattle.call_journal.specs.Replays.{replayed, blockNumber, lastNumber, counted, Replays}
 
 -- block i of a journal, and the blocks read from it on
 abbrev pub blockAt : List ℕ → ℕ → List ℕ
@@ -63,7 +63,8 @@ pub record Replaying (n own : ℕ) (journal : List ℕ) (before : Replayed) (val
   pub store : commitBlocks before (blocksIn n journal) ≡ commitBlocks (replayed (t .commits) values stamps) (rest n journal (t .blocks))
   pub highest : highestOwn own (blocksIn n journal) ≡ max (t .highest) (highestOwn own (rest n journal (t .blocks)))
   pub committed : ownWritesets own (blocksIn n journal) ≡ t .committed + ownWritesets own (rest n journal (t .blocks))
-  pub last : lastOwn own (replicate 512 0) (blocksIn n journal) ≡ lastOwn own (blockNumber (t .last) journal) (rest n journal (t .blocks))
+  pub last : lastNumber own 0 0 (blocksIn n journal) ≡ lastNumber own (t .last) (t .blocks) (rest n journal (t .blocks))
+  pub last-block : lastOwn own (replicate 512 0) (blocksIn n journal) ≡ lastOwn own (blockNumber (t .last) journal) (rest n journal (t .blocks))
   pub last-there : t .last ≤ t .blocks
 
 module _ (n own : ℕ) (journal : List ℕ) where
@@ -79,18 +80,20 @@ module _ (n own : ℕ) (journal : List ℕ) where
         highest = rw k (omega arith);
         committed = rw k (omega arith);
         last = rw k;
+        last-block = rw k;
         last-there = omega arith;
       }
 
   module _ (before : Replayed) (values : List ℤ) (stamps : List ℕ) (t : Tally) (p : Replaying n own journal before values stamps t) where
     pub replay-end : rest n journal (t .blocks) ≡ [] → Replays n own journal before values stamps t
-    unfolding commitBlocks highestOwn ownWritesets lastOwn
+    unfolding commitBlocks highestOwn ownWritesets lastOwn lastNumber
     replay-end e = record {
       blocks = sym (rw e at (p .blocks) ∙ omega arith);
       store = sym (rw e at (p .store));
       highest = sym (rw e at (p .highest) ∙ omega arith);
       committed = sym (rw e at (p .committed) ∙ omega arith);
       last = sym (rw e at (p .last));
+      last-block = sym (rw e at (p .last-block));
       last-there = omega arith;
     }
 
@@ -107,7 +110,7 @@ module _ (n own : ℕ) (journal : List ℕ) where
 
       pub replay-turn : (c : ℕ) (v : List ℤ) (s : List ℕ) → replayed c v s ≡ commitAll (replayed (t .commits) values stamps) (writesetsIn (blockAt journal (t .blocks)))
           → Replaying n own journal before v s (counted own t c (blockAt journal (t .blocks)))
-      unfolding counted commitBlocks highestOwn ownWritesets lastOwn blockNumber
+      unfolding counted commitBlocks highestOwn ownWritesets lastOwn lastNumber blockNumber
       replay-turn c v s did =
           let b = blockAt journal (t .blocks) in
           let e = rest-cons n journal (t .blocks) more next in
@@ -117,8 +120,9 @@ module _ (n own : ℕ) (journal : List ℕ) where
             store = rw e at (p .store) ∙ ap (λ (r : Replayed). commitBlocks r (rest n journal (t .blocks + 1))) (sym did);
             highest = rw e at (p .highest) ∙ bool-by (isFrom own b) (λ f. rw f (omega arith)) (λ f. rw f (omega arith));
             committed = rw e at (p .committed) ∙ bool-by (isFrom own b) (λ f. rw f (omega arith)) (λ f. rw f (omega arith));
-            last =
-                rw e at (p .last)
+            last = rw e at (p .last);
+            last-block =
+                rw e at (p .last-block)
                 ∙ ap (λ (d : List ℕ). lastOwn own d (rest n journal (t .blocks + 1))) (bool-by (isFrom own b) (λ f. rw (f, add-one (t .blocks))) (λ f. rw f));
             last-there = bool-by (isFrom own b) (λ f. rw f (omega arith)) (λ f. rw f (omega arith));
           }

@@ -2,7 +2,7 @@
 use Prim.Native.Nat.{ℕ, zero, suc, _+_, _*_, _≤_, max}
 use mathlib.Core.Path.{_≡_}
 use mathlib.Core.Bool.{cond}
-use mathlib.Core.List.{List}
+use mathlib.Core.List.{List, [], _∷_}
 use lib.IntN.{ℤ}
 use lib.ListN.{length, getD, take, drop, replicate}
 use Rattle.engine.specs.Restart.{Replayed, blocksIn, writesetsIn, commitBlocks, isFrom, highestTicket, highestOwn, ownWritesets, lastOwn}
@@ -16,6 +16,11 @@ replayed commits values stamps = record { commits = commits; store = record { va
 unfoldable pub blockNumber : ℕ → List ℕ → List ℕ
 blockNumber zero journal = replicate 512 0
 blockNumber (suc k) journal = take 512 (drop (512 * k) journal)
+
+-- the number of the last own block, counted from 1: of blocks that begin behind k others, of which number l is the last own one, 0 where none is
+unfoldable pub lastNumber : ℕ → ℕ → ℕ → List (List ℕ) → ℕ
+lastNumber own l k [] = l
+lastNumber own l k (b ∷ bs) = lastNumber own (cond (isFrom own b) (k + 1) l) (k + 1) bs
 
 -- one block more, with the commit count behind it
 unfoldable pub counted : ℕ → Tally → ℕ → List ℕ → Tally
@@ -33,5 +38,6 @@ pub record Replays (n own : ℕ) (journal : List ℕ) (before : Replayed) (value
   pub store : replayed (r .commits) values stamps ≡ commitBlocks before (blocksIn n journal)
   pub highest : r .highest ≡ highestOwn own (blocksIn n journal)
   pub committed : r .committed ≡ ownWritesets own (blocksIn n journal)
-  pub last : blockNumber (r .last) journal ≡ lastOwn own (replicate 512 0) (blocksIn n journal)
+  pub last : r .last ≡ lastNumber own 0 0 (blocksIn n journal)
+  pub last-block : blockNumber (r .last) journal ≡ lastOwn own (replicate 512 0) (blocksIn n journal)
   pub last-there : 512 * r .last ≤ length journal

@@ -73,4 +73,4 @@ module _ (m : Memory) (n own : ℕ) (start : List ℤ) (journal block : List ℕ
           let r : replayed (t .commits) v s ≡ commitBlocks (startReplay start) (blocksIn n journal) = rw is-made at (p .store) in
           let c : t .commits ≡ commitBlocks (startReplay start) (blocksIn n journal) .commits = ap (λ (x : Replayed). x .commits) r in
           let a : _≡_ {A = Store} (record { values = v; stamps = s; classes = replicate 128 0 }) (commitBlocks (startReplay start) (blocksIn n journal) .store) = ap (λ (x : Replayed). x .store) r in
-          rw (same-refusal, ← is-refusal, free, is-made, p .blocks, p .last, p .highest, p .committed, c, a)
+          rw (same-refusal, ← is-refusal, free, is-made, p .blocks, p .last-block, p .highest, p .committed, c, a)

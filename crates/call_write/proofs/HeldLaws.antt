@@ -1,11 +1,12 @@
--- An item that stands nowhere among the items stands in no part of them, and so nobody holds it. Assumes nothing.
+-- An item that stands nowhere among the items stands in no part of them, and so nobody holds it; and a transaction's own record says nothing of another holder. Assumes nothing.
 use Prim.Native.Nat.{ℕ, zero, suc, _+_, _*_}
 use mathlib.Core.Path.{_≡_, refl, sym}
 use mathlib.Core.Bool.{Bool, false}
 use mathlib.Core.List.{List, [], _∷_}
-use borrow.Author.Tests.{ne-eqb}
+use native.Mathlib.Omega.{arith}
+use borrow.Author.Tests.{eq-eqb, ne-eqb}
 use lib.Dec.{eqb}
-use lib.ListN.{take, drop}
+use lib.ListN.{set, take, drop}
 use lib.Seq.{slice}
 use Rattle.memory.specs.declared.Held.{Held}
 use Rattle.memory.specs.declared.Held.the-variants.{Nobody}
@@ -40,3 +41,10 @@ module _ (x : ℕ) where
       rw (slice-not (8 * i) (8 * i + writeCount t) items h)
       (cond-by (λ (o : Held). o ≡ Nobody) (eqb i me) (λ e. later)
       (λ e. cond-by (λ (o : Held). o ≡ Nobody) (eqb (t .ticket) 0) (λ z. later) (λ z. later)))
+
+-- row me, which is row k of those from i on, is passed over
+pub holder-but : (items : List ℕ) (me item i : ℕ) (rows : List Txn) (k : ℕ) (t : Txn) → i + k ≡ me → holderFrom items me item i (set rows k t) ≡ holderFrom items me item i rows
+unfolding holderFrom
+holder-but items me item i [] k t e = refl
+holder-but items me item i (y ∷ ys) zero t e = rw (eq-eqb i me (omega (arith, e)))
+holder-but items me item i (y ∷ ys) (suc k) t e = rw (holder-but items me item (suc i) ys k t (omega (arith, e)))

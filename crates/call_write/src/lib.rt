@@ -98,11 +98,11 @@ fn write_at(
     value: i32,
 ) -> Changed
     requires { ⌜ (length (now items) ≡ 48) × (length (now writes) ≡ 48) × (length (now stamps) ≡ 128) × (at < 6) × (item < 128) ⌝ }
-    ensures { λ r. ⌜ ((m : Memory) → t ≡ rowAt rows at →
+    ensures { λ r. ⌜ ((m : Memory) (table : List Txn) → t ≡ rowAt table at → isHeld (holderOf table (now (items .entry)) at item) ≡ isHeld (holderOf rows (now (items .entry)) at item) →
         Gives number
-        (writeActive (writeParts m (m .turn) counts rows (now (items .entry)) (now (writes .entry)) (now (stamps .entry)) (m .store .classes) (m .blocks .places)) at item value)
+        (writeActive (writeParts m (m .turn) counts table (now (items .entry)) (now (writes .entry)) (now (stamps .entry)) (m .store .classes) (m .blocks .places)) at item value)
         (r .number)
-        (writeParts m (m .turn) (r .counts) (set rows at (r .row)) (now (items .exit)) (now (writes .exit)) (now (stamps .entry)) (m .store .classes) (m .blocks .places))) ⌝ }
+        (writeParts m (m .turn) (r .counts) (set table at (r .row)) (now (items .exit)) (now (writes .exit)) (now (stamps .entry)) (m .store .classes) (m .blocks .places))) ⌝ }
 {
     let n = write_count(t.writes);
     let from = 8 * at;
@@ -152,7 +152,7 @@ fn lengths_fit(
 
 // The first of 1, 2, 3 and 4 that a write is refused by, 0 where there is none. `fits` where what it is lent has its lengths.
 fn early_refusal(fits: bool, at: usize, stage: u32, item: u32) -> u8
-    ensures { λ r. ⌜ ((m : Memory) (value : ℤ) → writeLent m ≡ fits → stage ≡ rowAt (m .txns .table) at .stage → (r ≡ 0 → ⊥) →
+    ensures { λ r. ⌜ ((m : Memory) (value : ℤ) → writeLent m ≡ fits → (at < 6 → stage ≡ rowAt (m .txns .table) at .stage) → (r ≡ 0 → ⊥) →
         writeRow m at item value ≡ outcome (refused r) m)
         × (r ≡ 0 → (fits ≡ true) × (at < 6) × (item < 128) × (stage ≡ 0)) ⌝ }
 {
@@ -171,7 +171,7 @@ fn early_refusal(fits: bool, at: usize, stage: u32, item: u32) -> u8
     0
 }
 
-// Records the value and locks the item. `t` is the transaction's record, the rows are for the locks of others: they are looked at only where the item stands in somebody's writes.
+// Records the value and locks the item. `t` is the record of row `at`, the other rows are for the locks of others: they are looked at only where the item stands in somebody's writes.
 pub fn write(
     at: usize,
     t: Txn,
@@ -186,10 +186,10 @@ pub fn write(
     item: u32,
     value: i32,
 ) -> Changed
-    ensures { λ r. ⌜ ((m : Memory) → t ≡ rowAt rows at →
+    ensures { λ r. ⌜ ((m : Memory) →
         Gives number
         (writeRow
-        (writeParts m turn counts rows (now (items .entry)) (now (writes .entry)) (now (stamps .entry)) (now (classes .entry)) (now (places .entry)))
+        (writeParts m turn counts (set rows at t) (now (items .entry)) (now (writes .entry)) (now (stamps .entry)) (now (classes .entry)) (now (places .entry)))
         at item value)
         (r .number)
         (writeParts m turn (r .counts) (set rows at (r .row)) (now (items .exit)) (now (writes .exit)) (now (stamps .entry)) (now (classes .entry)) (now (places .entry))))

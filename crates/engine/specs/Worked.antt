@@ -1,4 +1,4 @@
--- What the wrong replicas of documents 01 and 02 get wrong, as what lists of calls answer at a replica just made. Few lists, each for several of them: every edit computes them anew.
+-- What the wrong replicas of documents 01 and 02 get wrong, but for restarts and invented counts, as what lists of calls answer at a replica just made. Few lists, each for several of them: every edit computes them anew.
 -- Document 01's marked cases stand in `engine_runs`.
 use Prim.Native.Nat.{ℕ}
 use mathlib.Core.Path.{_≡_}

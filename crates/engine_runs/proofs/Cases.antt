@@ -35,5 +35,4 @@ worked-cases = record {
   own-early = refl;
   aborted = refl;
   stale = refl;
-  committed = refl;
 }

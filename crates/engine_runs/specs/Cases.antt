@@ -1,18 +1,18 @@
 -- Document 01's marked cases, each as what a list of calls answers at a replica just made.
 use Prim.Native.Nat.{ℕ}
 use mathlib.Core.Path.{_≡_}
-use mathlib.Core.Bool.{true, false}
+use mathlib.Core.Bool.{true}
 use mathlib.Core.List.{List, [], _∷_, _++_}
 use lib.IntN.{pos}
 use lib.ListN.{replicate, drop}
 use Rattle.block.specs.Bytes.{blockOf}
 use Rattle.block.specs.Worked.{WorkedBlocks, exampleCommit}
 use Rattle.engine.specs.Calls.{numberOf}
-use Rattle.engine.specs.Calls.Answer.{began, got, sent, kept, worked}
+use Rattle.engine.specs.Calls.Answer.{sent, kept, worked}
 use Rattle.engine.specs.Make.{makeStep}
 use Rattle.engine.specs.Step.{Call}
-use Rattle.engine.specs.Step.Call.{begin, read, write, ask, withdraw, send, deliver, work}
-use Rattle.engine.specs.Worked.{answers, numbers, zeros, fresh, nextBlock, twoWritesets}
+use Rattle.engine.specs.Step.Call.{begin, write, ask, withdraw, send, deliver, work}
+use Rattle.engine.specs.Worked.{answers, numbers, zeros, fresh, nextBlock}
 
 abbrev pub makeNumber : ℕ → ℕ
 makeNumber n = numberOf (makeStep (fresh n 0) n 0 zeros .answer)
@@ -34,10 +34,6 @@ writeEight =
     ∷ write 1 7 (pos 1)
     ∷ []
 
--- two transactions asked in the order 2, 1 and sent
-abbrev pub sendTwo : List Call
-sendTwo = begin ∷ begin ∷ write 1 5 (pos 7) ∷ write 2 6 (pos 8) ∷ ask 2 ∷ ask 1 ∷ send (replicate 512 0) ∷ []
-
 pub record WorkedCases : Type 0 where
   pub blocks : WorkedBlocks
   pub size-1 : makeNumber 1 ≡ 2
@@ -54,13 +50,3 @@ pub record WorkedCases : Type 0 where
       ≡ kept ∷ worked (record { sender = 1; ticket = 1; moved = true; aborted = 1 ∷ []; append = blockOf exampleCommit }) ∷ sent (nextBlock 2 0 2) ∷ []
   pub stale : numbers (fresh 2 0) (firstTurn ++ (begin ∷ deliver (blockOf exampleCommit) ∷ work ∷ write 1 5 (pos 9) ∷ write 1 5 (pos 9) ∷ []))
       ≡ replicate 6 0 ++ (9 ∷ 3 ∷ [])
-  -- sent in the order asked, committed one by one, and read by a third
-  pub committed : drop 6 (answers (fresh 2 0) (sendTwo ++ (deliver twoWritesets ∷ work ∷ work ∷ begin ∷ read 3 5 ∷ read 3 6 ∷ [])))
-      ≡ sent twoWritesets
-      ∷ kept
-      ∷ worked (record { sender = 0; ticket = 2; moved = false; aborted = []; append = [] })
-      ∷ worked (record { sender = 0; ticket = 1; moved = true; aborted = []; append = [] })
-      ∷ began 3
-      ∷ got (pos 7)
-      ∷ got (pos 8)
-      ∷ []

@@ -8,7 +8,6 @@ use Rattle.memory.specs.declared.Counts.{Counts}
 use Rattle.memory.specs.declared.Turn.{Turn}
 use Rattle.memory.specs.declared.Txn.{Txn}
 use Rattle.memory.specs.Memory.{Memory}
-use Rattle.memory.specs.Rows.{rowAt}
 use Rattle.engine.specs.Client.{writeRow, writeStep}
 use Rattle.engine.specs.Classes.{loadStep}
 use Rattle.call_reply.specs.Parts.{writeParts, loadParts}
@@ -18,7 +17,7 @@ use Rattle.call_reply.specs.Called.{called}
 use Rattle.call_reply.proofs.CalledLaws.{called-other}
 
 abbrev pub WriteOn : ℕ → Txn → List Txn → Turn → Counts → List ℕ → List ℤ → List ℕ → List ℕ → List ℕ → ℕ → ℤ → Changed → List ℕ → List ℤ → Type 0
-WriteOn at t rows turn counts items writes stamps classes places item value r items′ writes′ = ((m : Memory) → t ≡ rowAt rows at → Gives number (writeRow (writeParts m turn counts rows items writes stamps classes places) at item value) (r .number) (writeParts m turn (r .counts) (set rows at (r .row)) items′ writes′ stamps classes places)) × (6 ≤ at → r .row ≡ t)
+WriteOn at t rows turn counts items writes stamps classes places item value r items′ writes′ = ((m : Memory) → Gives number (writeRow (writeParts m turn counts (set rows at t) items writes stamps classes places) at item value) (r .number) (writeParts m turn (r .counts) (set rows at (r .row)) items′ writes′ stamps classes places)) × (6 ≤ at → r .row ≡ t)
 
 abbrev pub WriteDid : List Txn → Turn → Counts → ℕ → List ℕ → List ℤ → List ℕ → List ℕ → List ℕ → ℕ → ℤ → ℕ → List Txn → Counts → List ℕ → List ℤ → Type 0
 WriteDid table turn counts ticket items writes stamps classes places item value r table′ counts′ items′ writes′ = (m : Memory) → Gives number (called (λ (x : Memory). writeStep x ticket item value) (writeParts m turn counts table items writes stamps classes places)) (r) (writeParts m turn counts′ table′ items′ writes′ stamps classes places)

@@ -8,6 +8,7 @@ use native.Mathlib.Omega.{arith}
 use lib.Dec.{eqb}
 use lib.IntN.{ℤ}
 use lib.ListN.{length, set}
+use lib.Seq.{set-getD}
 use Rattle.memory.specs.declared.Counts.{Counts}
 use Rattle.memory.specs.declared.Turn.{Turn}
 use Rattle.memory.specs.declared.Txn.{Txn}
@@ -40,7 +41,7 @@ module _ (table : List Txn) (turn : Turn) (counts : Counts) (ticket : ℕ) (item
 
     write-way : (n : ℕ) (t : List Txn) (c : Counts) → WriteWay n t c (writeRow before₃ at₃ item value)
         → Gives number (Rattle.call_reply.specs.Called.called (λ (x : Memory). writeStep x ticket item value) before₃) n (writeParts m turn c t items′ writes′ stamps classes places)
-    write-way n t c way = rw (called-six (λ (x : Memory). writeStep x ticket item value) before₃ six) (way ((rw (loaded-six table six) at said .0) m refl))
+    write-way n t c way = rw (called-six (λ (x : Memory). writeStep x ticket item value) before₃ six) (way ((rw (loaded-six table six, set-getD table at₃ closed) at said .0) m))
 
     -- a memory's parts with this table
     abbrev written : List Txn → Memory → Memory

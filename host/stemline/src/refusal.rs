@@ -82,7 +82,7 @@ const TABLE: [(Refusal, &str); 23] = [
     (Refusal::TicketsSpent, "all 100,000,000 tickets are given"),
     (
         Refusal::Applying,
-        "a block of another replica is being applied, with items of this one's class still to come",
+        "a block of another replica is being applied, with items of this item's class still to come",
     ),
     (Refusal::Locked, "another open transaction holds the item"),
     (

@@ -21,7 +21,7 @@ returns-3 c = (λ m value fit here no. rw (fit ∙ not-false _ (c .before .befor
 
 returns-4 : tie.Need-returns-4
 unfolding writeRow writeRefusal firstOf
-returns-4 c = (λ m value fit here no. rw (fit ∙ not-false _ (c .before .before .before .if1 .left), lt-leb 128 _ (c .before .before .if2 .left), lt-leb 6 _ (c .before .if3 .left), ← here, ne-eqb _ 0 (c .if4 .taken)), λ z. absurd (omega arith))
+returns-4 c = (λ m value fit here no. rw (fit ∙ not-false _ (c .before .before .before .if1 .left), lt-leb 128 _ (c .before .before .if2 .left), lt-leb 6 _ (c .before .if3 .left), ← here (c .before .if3 .left), ne-eqb _ 0 (c .if4 .taken)), λ z. absurd (omega arith))
 
 returns-5 : tie.Need-returns-5
 returns-5 c = (

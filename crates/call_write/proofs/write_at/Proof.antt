@@ -1,4 +1,5 @@
 -- `write_at` meets its contract: each answer by its law.
+use mathlib.Core.Path.{sym, _∙_}
 use mir.Facts.{toZ-ofZ}
 use Rattle.engine.specs.Client.{rewriteAt, staleAt}
 use Rattle.call_write.specs.Parts.{inserted}
@@ -52,12 +53,12 @@ same-length-2 c = search needs
 
 returns : tie.Need-returns
 unfolding rewriteAt
-returns c = λ m here.
+returns c = λ m table here same.
     let i = c .before .before in
     let w = i .before .before .before in
     let s = w .before .before .before in
     let a = s .args in
-    rw (c .changed .ensures, same-row (a .rows) (a .at) (a .t) here, toZ-ofZ (s .fits .value))
+    rw (c .changed .ensures, same-row table (a .at) (a .t) here, toZ-ofZ (s .fits .value))
     (gives number (write-mine _ (a .at) (a .item) (a .value) (w .write-count .result) (i .index-of .result) (rw here at (w .write-count .ensures)) (i .index-of .ensures) (c .before .if1 .taken)))
 
 held-requires : tie.Need-held-requires
@@ -70,14 +71,14 @@ same-length-3 : tie.Need-same-length-3
 same-length-3 c = search needs
 
 returns-2 : tie.Need-returns-2
-returns-2 c = λ m here.
+returns-2 c = λ m table here same.
     let h = c .before .before in
     let i = h .before .before .before in
     let w = i .before .before .before in
     let s = w .before .before .before in
     let a = s .args in
-    rw (c .changed2 .ensures, same-row (a .rows) (a .at) (a .t) here)
-    (gives number (write-held _ (a .at) (a .item) (a .value) (w .write-count .result) (i .index-of .result) (rw here at (w .write-count .ensures)) (i .index-of .ensures) (h .before .before .if1 .left) (h .held .result) (h .held .ensures) (c .before .if2 .taken)))
+    rw (c .changed2 .ensures, same-row table (a .at) (a .t) here)
+    (gives number (write-held _ (a .at) (a .item) (a .value) (w .write-count .result) (i .index-of .result) (rw here at (w .write-count .ensures)) (i .index-of .ensures) (h .before .before .if1 .left) (h .held .result) (h .held .ensures ∙ sym same) (c .before .if2 .taken)))
 
 mul-if3 : tie.Need-mul-if3
 mul-if3 c = search needs
@@ -93,14 +94,14 @@ same-length-4 c = search needs
 
 returns-3 : tie.Need-returns-3
 unfolding staleAt
-returns-3 c = λ m here.
+returns-3 c = λ m table here same.
     let h = c .before .before .before .before .before in
     let i = h .before .before .before in
     let w = i .before .before .before in
     let s = w .before .before .before in
     let a = s .args in
     rw (c .stale .ensures)
-    (gives number (write-stale _ (a .at) (a .item) (a .value) (w .write-count .result) (i .index-of .result) (rw here at (w .write-count .ensures)) (i .index-of .ensures) (h .before .before .if1 .left) (h .held .result) (h .held .ensures) (c .before .before .before .before .if2 .left) (rw here at (c .before .if3 .taken))))
+    (gives number (write-stale _ (a .at) (a .item) (a .value) (w .write-count .result) (i .index-of .result) (rw here at (w .write-count .ensures)) (i .index-of .ensures) (h .before .before .if1 .left) (h .held .result) (h .held .ensures ∙ sym same) (c .before .before .before .before .if2 .left) (rw here at (c .before .if3 .taken))))
 
 changed-requires-3 : tie.Need-changed-requires-3
 changed-requires-3 c κs = search needs
@@ -109,14 +110,14 @@ same-length-5 : tie.Need-same-length-5
 same-length-5 c = search needs
 
 returns-4 : tie.Need-returns-4
-returns-4 c = λ m here.
+returns-4 c = λ m table here same.
     let h = c .before .before .before .before .before .before in
     let i = h .before .before .before in
     let w = i .before .before .before in
     let s = w .before .before .before in
     let a = s .args in
-    rw (c .changed3 .ensures, same-row (a .rows) (a .at) (a .t) here)
-    (gives number (write-full _ (a .at) (a .item) (a .value) (w .write-count .result) (i .index-of .result) (rw here at (w .write-count .ensures)) (i .index-of .ensures) (h .before .before .if1 .left) (h .held .result) (h .held .ensures) (c .before .before .before .before .before .if2 .left) (rw here at (c .before .before .if3 .left)) (c .before .if4 .taken)))
+    rw (c .changed3 .ensures, same-row table (a .at) (a .t) here)
+    (gives number (write-full _ (a .at) (a .item) (a .value) (w .write-count .result) (i .index-of .result) (rw here at (w .write-count .ensures)) (i .index-of .ensures) (h .before .before .if1 .left) (h .held .result) (h .held .ensures ∙ sym same) (c .before .before .before .before .before .if2 .left) (rw here at (c .before .before .if3 .left)) (c .before .if4 .taken)))
 
 insert-requires : tie.Need-insert-requires
 insert-requires c κs = search needs
@@ -131,7 +132,7 @@ same-length-7 : tie.Need-same-length-7
 same-length-7 c = search needs
 
 returns-5 : tie.Need-returns-5
-returns-5 c = λ m here.
+returns-5 c = λ m table here same.
     let n = c .before .before .before .before in
     let f = n .before .before .before in
     let h = f .before .before .before .before .before in
@@ -141,8 +142,8 @@ returns-5 c = λ m here.
     let a = s .args in
     rw (c .changed4 .ensures)
     (gives number
-    (write-new _ (a .at) (a .item) (a .value) (w .write-count .result) (i .index-of .result) (rw here at (w .write-count .ensures)) (i .index-of .ensures) (h .before .before .if1 .left) (h .held .result) (h .held .ensures) (f .before .before .before .before .if2 .left) (rw here at (f .before .if3 .left)) (f .if4 .left)
-    (inserted (set (a .rows) (a .at) (n .insert .result)) (n .insert .last .1 .0) (n .insert .last .1 .1 .0)) (rw (toZ-ofZ (s .fits .value)) at (n .insert .ensures (a .rows) here))))
+    (write-new _ (a .at) (a .item) (a .value) (w .write-count .result) (i .index-of .result) (rw here at (w .write-count .ensures)) (i .index-of .ensures) (h .before .before .if1 .left) (h .held .result) (h .held .ensures ∙ sym same) (f .before .before .before .before .if2 .left) (rw here at (f .before .if3 .left)) (f .if4 .left)
+    (inserted (set table (a .at) (n .insert .result)) (n .insert .last .1 .0) (n .insert .last .1 .1 .0)) (rw (toZ-ofZ (s .fits .value)) at (n .insert .ensures table here))))
 
 pub write-at-spec : {M : Type 1} → statement M
 write-at-spec =

@@ -49,6 +49,7 @@ pub(super) enum Local {
     Restart {
         bytes: Option<usize>,
         bit: Option<usize>,
+        with: Option<Carried>,
     },
     Journal,
     Values,
@@ -242,6 +243,7 @@ fn local(name: &str, rest: &mut Rest) -> Result<Local, String> {
         "restart" => Local::Restart {
             bytes: rest.maybe("bytes")?,
             bit: rest.maybe("bit")?,
+            with: rest.takes("with").then(|| carried(rest)).transpose()?,
         },
         "journal" => Local::Journal,
         "values" => Local::Values,

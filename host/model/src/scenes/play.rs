@@ -82,7 +82,7 @@ impl<P: Player, M: Fn(u32, u32, &[i32; ITEMS]) -> Result<P, u8>> Playing<P, M> {
                 let bytes = self.bytes(carried)?;
                 return Ok(self.take(k, bytes));
             }
-            Local::Restart { bytes, bit } => self.restart(k, *bytes, *bit)?,
+            Local::Restart { bytes, bit, with } => self.restart(k, *bytes, *bit, with)?,
             Local::Journal => words::journal(k, self.players[k].disk()),
             Local::Values => {
                 let who = format!("replica {k} holds");
@@ -175,12 +175,13 @@ impl<P: Player, M: Fn(u32, u32, &[i32; ITEMS]) -> Result<P, u8>> Playing<P, M> {
     }
 
     /// A restart from what is on the replica's disk, or from the first bytes of it, or with a bit
-    /// changed.
+    /// changed, or with a block more.
     fn restart(
         &mut self,
         k: usize,
         bytes: Option<usize>,
         bit: Option<usize>,
+        with: &Option<Carried>,
     ) -> Result<String, String> {
         let mut journal = self.players[k].disk().to_vec();
         let all = journal.len();
@@ -190,6 +191,9 @@ impl<P: Player, M: Fn(u32, u32, &[i32; ITEMS]) -> Result<P, u8>> Playing<P, M> {
         journal.truncate(bytes.unwrap_or(all));
         if let Some(bit) = bit {
             journal[bit / 8] ^= 1 << (bit % 8);
+        }
+        if let Some(carried) = with {
+            journal.extend(self.bytes(carried)?);
         }
         let restart = Restart {
             n: self.players.len() as u32,

@@ -66,7 +66,12 @@ fn worked(work: &Work) -> String {
         ticket => format!("commits ticket {ticket} of replica {}", work.sender),
     };
     if !work.aborted.is_empty() {
-        said += &format!("; aborts {}", list(&work.aborted));
+        let tickets = if work.aborted.len() == 1 {
+            "ticket"
+        } else {
+            "tickets"
+        };
+        said += &format!("; aborts its own {tickets} {}", list(&work.aborted));
     }
     said += match work.moved {
         true => "; the turn moves",

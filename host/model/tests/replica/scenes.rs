@@ -162,7 +162,7 @@ fn wrong_replicas_are_told() {
 }
 
 /// Machines that keep a journal or restart from it wrongly. Stamps that are gone after a restart no
-/// answer shows before the next commit.
+/// answer shows: every later snapshot is at or above them.
 #[test]
 fn wrong_machines_are_told() {
     let told = |fault| {

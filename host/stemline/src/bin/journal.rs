@@ -91,7 +91,7 @@ fn ending(good: u64, stop: Stop, left: u64) -> String {
         _ => format!("{count} {what}s"),
     };
     let place = format!(
-        "behind {}, at byte {}",
+        "after {}, at byte {}",
         many(good, "block"),
         good * BLOCK as u64
     );

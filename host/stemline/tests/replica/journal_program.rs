@@ -73,28 +73,28 @@ fn files() {
         "slot 1 of replica 1 of 3: ticket 4 sets 5 = 84, 9 = -3; ticket 6 sets 2 = 1",
         "slot 2 of replica 2 of 3: ticket 1 sets 127 = -2147483648",
     ];
-    looks(b"", &[], "ends behind 0 blocks, at byte 0", 0);
+    looks(b"", &[], "ends after 0 blocks, at byte 0", 0);
     looks(
         &blocks.concat(),
         &lines,
-        "ends behind 3 blocks, at byte 1536",
+        "ends after 3 blocks, at byte 1536",
         0,
     );
     looks(
         &blocks[0],
         &lines[..1],
-        "ends behind 1 block, at byte 512",
+        "ends after 1 block, at byte 512",
         0,
     );
     looks(
         &blocks.concat()[..BLOCK + 1],
         &lines[..1],
-        "stops behind 1 block, at byte 512, 1 byte before the end: the block is torn: 1 of 512 bytes",
+        "stops after 1 block, at byte 512, 1 byte before the end: the block is torn: 1 of 512 bytes",
         1,
     );
     let mut stops = |block: [u8; BLOCK], why: &str| {
         blocks[1] = block;
-        let front = "stops behind 1 block, at byte 512, 1024 bytes before the end: the block";
+        let front = "stops after 1 block, at byte 512, 1024 bytes before the end: the block";
         looks(&blocks.concat(), &lines[..1], &format!("{front}{why}"), 1);
     };
     let mut damaged = block_of(3, 1, &[]);

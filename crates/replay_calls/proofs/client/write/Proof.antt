@@ -5,6 +5,7 @@ use borrow.Author.Needs.{needs}
 use lib.ListN.{length, drop}
 use lib.Seq.{length-take-le}
 use mir.Facts.{toZ-ofZ}
+use Rattle.call_client.proofs.RowLaws.{same-row}
 use Rattle.replay_calls.specs.Effects.{memoryOf}
 use Rattle.replay_calls.specs.declared.Replica.{Replica}
 use Rattle.replay_calls.proofs.EffectLaws.{plays-bare, bare-effect, bare-write}
@@ -76,7 +77,7 @@ returns c =
     let s = z .before .before .before .before .before .before .before .before .before .before in
     let a = s .args in
     let size = z .places-size .result in
-    let g = rw (toZ-ofZ (s .fits .value)) at (w .write .ensures .0 (memoryOf size (a .replica)) (h .row-at .ensures)) in
+    let g = rw (toZ-ofZ (s .fits .value), same-row (a .replica .rows) (r .row-of .result) (h .row-at .result) (h .row-at .ensures)) at (w .write .ensures .0 (memoryOf size (a .replica))) in
     rw (← z .places-size .ensures .0)
     (λ lent.
     plays-bare
