@@ -35,8 +35,8 @@ abbrev pub nextBlock : ℕ → ℕ → ℕ → List ℕ
 nextBlock n owner s = blockOf (record { kind = 1; sender = owner; replicas = n; slot = s; records = [] })
 
 -- a *tocommit* of replica 0 of 2, for slot 0: ticket 2 writes 8 to item 6, then ticket 1 writes 7 to item 5
-abbrev pub twoWritesets : List ℕ
-twoWritesets = blockOf (record {
+abbrev pub twoThenOne : List ℕ
+twoThenOne = blockOf (record {
   kind = 2;
   sender = 0;
   replicas = 2;
@@ -84,17 +84,17 @@ sendTwo =
 
 pub record RightAnswers : Type 0 where
   -- another's block: the asked transaction that wrote an item of its second writeset is aborted by that one, another is not, and meets 9 at the item
-  pub remote : drop 4 (answers (fresh 2 1) (begin ∷ write 1 5 (pos 9) ∷ ask 1 ∷ begin ∷ deliver twoWritesets ∷ work ∷ work ∷ write 2 5 (pos 9) ∷ write 2 5 (pos 9) ∷ send (replicate 512 0) ∷ []))
+  pub remote : drop 4 (answers (fresh 2 1) (begin ∷ write 1 5 (pos 9) ∷ ask 1 ∷ begin ∷ deliver twoThenOne ∷ work ∷ work ∷ write 2 5 (pos 9) ∷ write 2 5 (pos 9) ∷ send (replicate 512 0) ∷ []))
       ≡ kept
       ∷ worked (record { sender = 0; ticket = 2; moved = false; aborted = []; append = [] })
-      ∷ worked (record { sender = 0; ticket = 1; moved = true; aborted = 1 ∷ []; append = twoWritesets })
+      ∷ worked (record { sender = 0; ticket = 1; moved = true; aborted = 1 ∷ []; append = twoThenOne })
       ∷ refused 9
       ∷ refused 3
       ∷ sent (nextBlock 2 1 1)
       ∷ []
   -- sent in the order asked, locked until committed, one block for a slot; committed one by one, and read by a fourth
-  pub own : drop 7 (answers (fresh 2 0) (sendTwo ++ (deliver twoWritesets ∷ work ∷ work ∷ begin ∷ read 4 5 ∷ read 4 6 ∷ [])))
-      ≡ sent twoWritesets
+  pub own : drop 7 (answers (fresh 2 0) (sendTwo ++ (deliver twoThenOne ∷ work ∷ work ∷ begin ∷ read 4 5 ∷ read 4 6 ∷ [])))
+      ≡ sent twoThenOne
       ∷ refused 8
       ∷ wrote
       ∷ queued
