@@ -28,12 +28,13 @@ use Rattle.engine.specs.Moves.{waiting, writesetOf, messageFor, sendRefusal, se
 use Rattle.engine.specs.Step.{Call, step}
 use Rattle.engine.specs.Step.Call.{write, report, send, deliver}
 use Rattle.engine.specs.Restart.{isGood, blocksFrom, firstBlocks, writesetsFrom, commitAll, commitBlocks, highestTicket, highestOwn, ownWritesets, lastOwn, restartedMemory, restartRefusal, restartStep}
+use Rattle.engine.specs.Worked.{zeros}
 use Rattle.engine.proofs.Tests.{clash}
 use Rattle.protocol.specs.Lists.{Mem, any}
 use Rattle.protocol.specs.Observer.{sequence, applyAll}
 use Rattle.protocol.proofs.ListLaws.{any-true, any-false}
 use Rattle.agreement.specs.Group.{GroupCall, call, restart, argumentsOf, messageIn, heard, Disk, journalAfter, Group, CallAt, fresh, run, did, next, Comes, Calls, Lent, Premise}
-use Rattle.agreement_runs.specs.Worked.{zeros, story, forgery, outages, after, HeldBy, held, holding, storyValues, outageValues, WorkedRuns, halfApplied, classes, classesValues}
+use Rattle.agreement_runs.specs.Worked.{story, forgery, outages, after, HeldBy, held, holding, storyValues, outageValues, WorkedRuns, halfApplied, classes, classesValues}
 use Rattle.agreement.proofs.Theorem.{agreement}
 
 -- ---- the premise as a test

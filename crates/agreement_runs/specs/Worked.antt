@@ -9,11 +9,9 @@ use Rattle.block.specs.Bytes.{blockOf}
 use Rattle.engine.specs.Calls.Answer.{refused, wrote}
 use Rattle.engine.specs.Client.{reportOf}
 use Rattle.engine.specs.Step.{Call, step}
+use Rattle.engine.specs.Worked.{zeros}
 use Rattle.engine.specs.Step.Call.{begin, write, ask, send, deliver, work, load}
 use Rattle.agreement.specs.Group.{Group, call, restart, CallAt, fresh, run, Calls, Premise}
-
-abbrev pub zeros : List ℤ
-zeros = replicate 128 (pos 0)
 
 abbrev pub at : ℕ → Call → CallAt
 at k c = record { at = k; does = call c }

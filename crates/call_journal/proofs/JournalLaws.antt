@@ -16,8 +16,8 @@ use Rattle.engine.specs.Restart.{Replayed, isGood, blocksFrom, blocksIn, writes
 use Rattle.engine.proofs.Tests.{bool-by}
 use Rattle.engine.proofs.BlockFacts.{taken-block}
 use Rattle.engine.proofs.RestartLaws.{good-taken, reads-good, reads-few, count-few, own-few}
-use Rattle.call_journal.specs.declared.Tally.{Tally}
-use Rattle.call_journal.specs.Replays.{replayed, blockNumber, lastNumber, counted, Replays}
+use Rattle.call_journal.specs.declared.JournalTally.{JournalTally}
+use Rattle.call_journal.specs.Replays.{replayed, blockNumber, lastNumber, tallied, Replays}
 
 -- block i of a journal, and the blocks read from it on
 abbrev pub blockAt : List ℕ → ℕ → List ℕ
@@ -57,7 +57,7 @@ module _ (n : ℕ) (journal : List ℕ) (i : ℕ) where
   rest-none h = let k : length journal / 512 - i ≡ 0 = omega arith in rw k
 
 -- all blocks come to what the blocks still to be read come to on top of the tally, of values and stamps as they are now
-pub record Replaying (n own : ℕ) (journal : List ℕ) (before : Replayed) (values : List ℤ) (stamps : List ℕ) (t : Tally) : Type 0 where
+pub record Replaying (n own : ℕ) (journal : List ℕ) (before : Replayed) (values : List ℤ) (stamps : List ℕ) (t : JournalTally) : Type 0 where
   pub there : t .blocks ≤ length journal / 512
   pub blocks : length (blocksIn n journal) ≡ t .blocks + length (rest n journal (t .blocks))
   pub store : commitBlocks before (blocksIn n journal) ≡ commitBlocks (replayed (t .commits) values stamps) (rest n journal (t .blocks))
@@ -84,7 +84,7 @@ module _ (n own : ℕ) (journal : List ℕ) where
         last-there = omega arith;
       }
 
-  module _ (before : Replayed) (values : List ℤ) (stamps : List ℕ) (t : Tally) (p : Replaying n own journal before values stamps t) where
+  module _ (before : Replayed) (values : List ℤ) (stamps : List ℕ) (t : JournalTally) (p : Replaying n own journal before values stamps t) where
     pub replay-end : rest n journal (t .blocks) ≡ [] → Replays n own journal before values stamps t
     unfolding commitBlocks highestOwn ownWritesets lastOwn lastNumber
     replay-end e = record {
@@ -109,8 +109,8 @@ module _ (n own : ℕ) (journal : List ℕ) where
           (omega arith, omega arith)
 
       pub replay-turn : (c : ℕ) (v : List ℤ) (s : List ℕ) → replayed c v s ≡ commitAll (replayed (t .commits) values stamps) (writesetsIn (blockAt journal (t .blocks)))
-          → Replaying n own journal before v s (counted own t c (blockAt journal (t .blocks)))
-      unfolding counted commitBlocks highestOwn ownWritesets lastOwn lastNumber blockNumber
+          → Replaying n own journal before v s (tallied own t c (blockAt journal (t .blocks)))
+      unfolding tallied commitBlocks highestOwn ownWritesets lastOwn lastNumber blockNumber
       replay-turn c v s did =
           let b = blockAt journal (t .blocks) in
           let e = rest-cons n journal (t .blocks) more next in

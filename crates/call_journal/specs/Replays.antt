@@ -6,7 +6,7 @@ use mathlib.Core.List.{List, [], _∷_}
 use lib.IntN.{ℤ}
 use lib.ListN.{length, getD, take, drop, replicate}
 use Rattle.engine.specs.Restart.{Replayed, blocksIn, writesetsIn, commitBlocks, isFrom, highestTicket, highestOwn, ownWritesets, lastOwn}
-use Rattle.call_journal.specs.declared.Tally.{Tally}
+use Rattle.call_journal.specs.declared.JournalTally.{JournalTally}
 
 -- commit count, values and stamps; no table of classes
 abbrev pub replayed : ℕ → List ℤ → List ℕ → Replayed
@@ -23,8 +23,8 @@ lastNumber own l k [] = l
 lastNumber own l k (b ∷ bs) = lastNumber own (cond (isFrom own b) (k + 1) l) (k + 1) bs
 
 -- one block more, with the commit count behind it
-unfoldable pub counted : ℕ → Tally → ℕ → List ℕ → Tally
-counted own r commits b = record {
+unfoldable pub tallied : ℕ → JournalTally → ℕ → List ℕ → JournalTally
+tallied own r commits b = record {
   blocks = r .blocks + 1;
   commits = commits;
   highest = cond (isFrom own b) (max (r .highest) (highestTicket (writesetsIn b))) (r .highest);
@@ -33,7 +33,7 @@ counted own r commits b = record {
 }
 
 -- all blocks of a journal, from the values and stamps before them
-pub record Replays (n own : ℕ) (journal : List ℕ) (before : Replayed) (values : List ℤ) (stamps : List ℕ) (r : Tally) : Type 0 where
+pub record Replays (n own : ℕ) (journal : List ℕ) (before : Replayed) (values : List ℤ) (stamps : List ℕ) (r : JournalTally) : Type 0 where
   pub blocks : r .blocks ≡ length (blocksIn n journal)
   pub store : replayed (r .commits) values stamps ≡ commitBlocks before (blocksIn n journal)
   pub highest : r .highest ≡ highestOwn own (blocksIn n journal)

@@ -7,7 +7,7 @@ ghost use lib.ListN.{length, getD};
 ghost use Prim.Native.Nat.{_+_, _≤_, _<_, max};
 ghost use Rattle.block.specs.Answers.{headerOf};
 ghost use Rattle.engine.specs.Restart.{isGood, writesetsIn, commitAll, highestTicket};
-ghost use Rattle.call_journal.specs.Replays.{replayed, counted, Replays};
+ghost use Rattle.call_journal.specs.Replays.{replayed, tallied, Replays};
 use block::Read;
 use block_reader::read_block;
 use block_reader::record_at;
@@ -16,7 +16,7 @@ use memory::rows::bump;
 
 // What the blocks read so far come to: how many they are, the commit count behind them, and of the own ones the highest ticket, how many writesets they have, and
 // which is the last: how many blocks there are up to it, 0 where none is own.
-pub struct Tally {
+pub struct JournalTally {
     pub blocks: u32,
     pub commits: u32,
     pub highest: u32,
@@ -74,9 +74,9 @@ fn highest_ticket(ticket: u32, block: &[u8]) -> u32
 }
 
 // One block more, with the commit count behind it.
-fn count_block(before: Tally, commits: u32, own: u32, block: &[u8]) -> Tally
+fn count_block(before: JournalTally, commits: u32, own: u32, block: &[u8]) -> JournalTally
     requires { ⌜ (length (now block) ≡ 512) × (before .blocks < 4294967295) × (before .committed + getD (now block) 3 0 ≤ 4294967295) ⌝ }
-    ensures { λ r. ⌜ r ≡ counted own before commits (now (block .entry)) ⌝ }
+    ensures { λ r. ⌜ r ≡ tallied own before commits (now (block .entry)) ⌝ }
 {
     let next = before.blocks + 1;
     let mut after = before;
@@ -92,11 +92,17 @@ fn count_block(before: Tally, commits: u32, own: u32, block: &[u8]) -> Tally
 }
 
 // The journal's blocks, each read and committed where it lies, up to one that is not the next good one.
-pub fn replay(n: u32, own: u32, journal: &[u8], values: &mut [i32], stamps: &mut [u32]) -> Tally
+pub fn read_journal(
+    n: u32,
+    own: u32,
+    journal: &[u8],
+    values: &mut [i32],
+    stamps: &mut [u32],
+) -> JournalTally
     ensures { λ r. ⌜ Replays n own (now (journal .entry)) (replayed 0 (now (values .entry)) (now (stamps .entry))) (now (values .exit)) (now (stamps .exit)) r ⌝ }
 {
     let most = journal.len() / 512;
-    let mut tally = Tally {
+    let mut tally = JournalTally {
         blocks: 0,
         commits: 0,
         highest: 0,

@@ -22,7 +22,7 @@ use Rattle.call_reply.specs.Parts.{allParts}
 use Rattle.call_reply.specs.Replies.{number, Gives}
 use Rattle.call_make.specs.Made.{ifMade}
 use Rattle.call_make.proofs.MakeLaws.{Given, given}
-use Rattle.call_journal.specs.declared.Tally.{Tally}
+use Rattle.call_journal.specs.declared.JournalTally.{JournalTally}
 use Rattle.call_journal.specs.Replays.{replayed, blockNumber, Replays}
 use Rattle.call_restart.specs.Answered.{answered}
 
@@ -63,7 +63,7 @@ module _ (m : Memory) (n own : ℕ) (start : List ℤ) (journal block : List ℕ
       restart-given = given m n own start (sym is-refusal ∙ free)
 
       -- the parts that the make cleared stay, and the blocks' values and stamps are added
-      pub restart-taken : (t : Tally) (v : List ℤ) (s : List ℕ) → Replays n own journal (replayed 0 (left .store .values) (left .store .stamps)) v s t
+      pub restart-taken : (t : JournalTally) (v : List ℤ) (s : List ℕ) → Replays n own journal (replayed 0 (left .store .values) (left .store .stamps)) v s t
           → outcome (restarted (t .blocks) (blockNumber (t .last) journal))
           (allParts (answered n own t .turn) (answered n own t .counts) (replicate 6 closed) (left .txns .queue) (left .txns .items) (left .txns .writes) (left .txns .snapshots)
           v s (left .store .classes) (left .blocks .places) (left .blocks .outbox))

@@ -1,9 +1,9 @@
 -- What a restart is answered, by what was read of the journal.
 use Prim.Native.Nat.{ℕ, _-_}
 use Rattle.call_reply.specs.declared.Restarted.{Restarted}
-use Rattle.call_journal.specs.declared.Tally.{Tally}
+use Rattle.call_journal.specs.declared.JournalTally.{JournalTally}
 
-unfoldable pub answered : ℕ → ℕ → Tally → Restarted
+unfoldable pub answered : ℕ → ℕ → JournalTally → Restarted
 answered n own r = record {
   reply = record { number = 0; count = r .blocks };
   turn = record { slot = r .blocks; sent = 0; applying = 0 };

@@ -14,8 +14,8 @@ ghost use Rattle.call_reply.specs.Replies.{restartReply, GivesWith};
 ghost use Rattle.call_make.specs.Made.{ifMade};
 ghost use Rattle.call_journal.specs.Replays.{blockNumber};
 ghost use Rattle.call_restart.specs.Answered.{answered};
-use call_journal::Tally;
-use call_journal::replay;
+use call_journal::JournalTally;
+use call_journal::read_journal;
 use call_make::make;
 use call_reply::RestartReply;
 use call_reply::Restarted;
@@ -67,7 +67,7 @@ fn refused(number: u8) -> Restarted
 }
 
 // The turn behind the blocks committed, and the counts by them. The own blocks of an altered journal may have more writesets than their highest ticket says.
-fn answer(replicas: u8, own: u8, tally: Tally) -> Restarted
+fn answer(replicas: u8, own: u8, tally: JournalTally) -> Restarted
     ensures { λ r. ⌜ r ≡ answered replicas own tally ⌝ }
 {
     let mut aborted: u32 = 0;
@@ -148,7 +148,7 @@ pub fn restart(
     if made.number != 0 {
         return refused(made.number);
     }
-    let tally = replay(n, own, journal, &mut *values, &mut *stamps);
+    let tally = read_journal(n, own, journal, &mut *values, &mut *stamps);
     give_back(journal, tally.last, &mut *block);
     answer(n as u8, own as u8, tally)
 }

@@ -1,11 +1,12 @@
 // The bytes that a line names: a block sent in this run, of which the last 64 are kept, or what the line writes out.
 ghost use mathlib.Core.Path.{_≡_};
 ghost use mathlib.Core.Bool.{true, false};
-ghost use Prim.Native.Nat.{_/_, _%_, _≤_, _<_, min};
+ghost use Prim.Native.Nat.{_/_, _%_, _≤_, _<_};
 ghost use mathlib.Core.List.{[]};
 ghost use lib.ListN.{take};
 ghost use Rattle.block.specs.Theorems.{flipped, flipBit};
 ghost use Rattle.replay_delivery.specs.Deliveries.{keptStart, isKept, hexNumber, hexPair, isHexText, mostBytes, digitsOf, unhex, namesBytes, bytesNamed, padded, delivery};
+use memory::rows::lesser;
 use replay_parse::Call;
 
 // The bytes that a line names, zeros behind; none where it names a block that is not kept, or no bytes.
@@ -99,12 +100,6 @@ fn decode(digits: &[u8], most: usize) -> Delivery
         count: n,
         bytes: bytes,
     }
-}
-
-fn lesser(a: usize, b: usize) -> usize
-    ensures { λ r. ⌜ r ≡ min a b ⌝ }
-{
-    if a < b { a } else { b }
 }
 
 // The block's bytes, at most 2100.

@@ -1,7 +1,7 @@
 -- `count_block` meets its contract.
 use native.Mathlib.Omega.{arith}
 use borrow.Author.Tests.{eq-eqb, ne-eqb}
-use Rattle.call_journal.specs.Replays.{counted}
+use Rattle.call_journal.specs.Replays.{tallied}
 use borrow.Author.Needs.{needs}
 use Rattle.call_journal.proofs.count_block.Statement.{statement}
 use Rattle.call_journal.proofs.count_block.Tie as tie
@@ -16,7 +16,7 @@ cast-if1 : tie.Need-cast-if1
 cast-if1 c = omega (arith, c .shared-slice-known2 .given 1)
 
 returns : tie.Need-returns
-unfolding counted
+unfolding tallied
 returns c = rw (ne-eqb _ (c .before .before .before .before .args .own) (c .if1 .taken))
 
 highest-ticket-requires : tie.Need-highest-ticket-requires
@@ -32,7 +32,7 @@ add-after : tie.Need-add-after
 add-after c = search needs
 
 returns-2 : tie.Need-returns-2
-unfolding counted
+unfolding tallied
 returns-2 c =
     let h = c .before .before in
     rw (eq-eqb _ (h .before .before .before .before .before .args .own) (h .before .if1 .left), h .highest-ticket .ensures)

@@ -88,11 +88,11 @@ taken c =
     restart-given (before s turnZero (countsFor 0 0) []) (a .n) (a .own) (a .start .now) (a .journal .now) (a .block .now) (d .before .before .before .before .before .before .before .before .before .before .if1 .left)
     (d .make .result .number) _ (d .make .ensures .0 turnZero (countsFor 0 0) []) (c .if2 .left)
 
-replay-requires : tie.Need-replay-requires
-replay-requires c κs = search needs
+read-journal-requires : tie.Need-read-journal-requires
+read-journal-requires c κs = search needs
 
 give-back-requires : tie.Need-give-back-requires
-give-back-requires c κs = (c .before .before .before .before .before .before .before .before .before .before .before .before .before .before .before .before .before .before .before .before .before .before .before .before .before .before .before .before .before .before .before .before .before .before .if1 .left, c .before .before .before .before .replay .ensures .last-there)
+give-back-requires c κs = (c .before .before .before .before .before .before .before .before .before .before .before .before .before .before .before .before .before .before .before .before .before .before .before .before .before .before .before .before .before .before .before .before .before .before .if1 .left, c .before .before .before .before .read-journal .ensures .last-there)
 
 cast-answer : tie.Need-cast-answer
 cast-answer c = omega (arith, taken (c .before .before .before .before .before .before .before .before .before .before) .most)
@@ -119,7 +119,7 @@ same-length-14 : tie.Need-same-length-14
 same-length-14 c =
     let r = c .before .before .before .before .before .before .before .before in
     let d = r .before .before .before .before .before .before .before .before .before .before .before .before .before .before .before .before .before .before .before .before in
-    let v : length (r .replay .last .1 .1 .1 .0) ≡ length (d .make .last .1 .1 .1 .1 .1 .1 .1 .0) = r .replay .kept .1 .1 .1 .0 in
+    let v : length (r .read-journal .last .1 .1 .1 .0) ≡ length (d .make .last .1 .1 .1 .1 .1 .1 .1 .0) = r .read-journal .kept .1 .1 .1 .0 in
     let w : length (d .make .last .1 .1 .1 .1 .1 .1 .1 .0) ≡ length (d .before .before .before .before .before .before .before .before .before .before .before .before .before .before .before .before .before .before .before .args .values .now) = d .make .kept .1 .1 .1 .1 .1 .1 .1 .0 in
     v ∙ w
 
@@ -127,7 +127,7 @@ same-length-15 : tie.Need-same-length-15
 same-length-15 c =
     let r = c .before .before .before .before .before .before .before .before in
     let d = r .before .before .before .before .before .before .before .before .before .before .before .before .before .before .before .before .before .before .before .before in
-    let v : length (r .replay .last .1 .1 .1 .1 .0) ≡ length (d .make .last .1 .1 .1 .1 .1 .1 .1 .1 .0) = r .replay .kept .1 .1 .1 .1 .0 in
+    let v : length (r .read-journal .last .1 .1 .1 .1 .0) ≡ length (d .make .last .1 .1 .1 .1 .1 .1 .1 .1 .0) = r .read-journal .kept .1 .1 .1 .1 .0 in
     let w : length (d .make .last .1 .1 .1 .1 .1 .1 .1 .1 .0) ≡ length (d .before .before .before .before .before .before .before .before .before .before .before .before .before .before .before .before .before .before .before .args .stamps .now) = d .make .kept .1 .1 .1 .1 .1 .1 .1 .1 .0 in
     v ∙ w
 
@@ -157,7 +157,7 @@ returns-3 c =
     gives-with restartReply (a .block .now)
     (restart-taken (before s turn counts rows) (a .n) (a .own) (a .start .now) (a .journal .now) (a .block .now) (d .before .before .before .before .before .before .before .before .before .before .if1 .left)
     (d .make .result .number) _ (d .make .ensures .0 turn counts rows) (e .if2 .left)
-    (r .replay .result) _ _ (r .replay .ensures)))
+    (r .read-journal .result) _ _ (r .read-journal .ensures)))
 
 pub restart-spec : {M : Type 1} → statement M
 restart-spec =
@@ -177,7 +177,7 @@ restart-spec =
     same-length-8
     same-length-9
     returns-2
-    replay-requires
+    read-journal-requires
     give-back-requires
     cast-answer
     cast-answer-2

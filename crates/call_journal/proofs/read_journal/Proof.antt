@@ -1,16 +1,16 @@
--- `replay` meets its contract. The loop's invariant: `Replaying`, and values and stamps keep their lengths. Assumes nothing.
+-- `read_journal` meets its contract. The loop's invariant: `Replaying`, and values and stamps keep their lengths. Assumes nothing.
 use Prim.Native.Nat.{_+_, _-_}
 use mathlib.Core.Path.{_≡_, refl, ap, _∙_}
 use mathlib.Core.Bool.{true}
 use native.Mathlib.Omega.{arith}
 use borrow.Author.Tests.{not-true, not-false}
 use lib.ListN.{length}
-use Rattle.call_journal.specs.declared.Tally.{Tally}
-use Rattle.call_journal.specs.Replays.{replayed, counted}
+use Rattle.call_journal.specs.declared.JournalTally.{JournalTally}
+use Rattle.call_journal.specs.Replays.{replayed, tallied}
 use Rattle.call_journal.proofs.JournalLaws.{isNext, lent-block, block-long, next-is, rest-stop, rest-none, Replaying, replay-start, replay-end, replay-room, replay-turn}
 use borrow.Author.Needs.{needs}
-use Rattle.call_journal.proofs.replay.Statement.{statement}
-use Rattle.call_journal.proofs.replay.Tie as tie
+use Rattle.call_journal.proofs.read_journal.Statement.{statement}
+use Rattle.call_journal.proofs.read_journal.Tie as tie
 
 abbrev Inv-loop : tie.InvT-loop
 Inv-loop n own journal values₀ stamps₀ most tally₀ values stamps tally =
@@ -88,10 +88,10 @@ count-block-requires c κs =
     (block-long (a .n) (a .journal .now) i (omega arith), r .0, rw (lent-block (a .n) (a .journal .now) i) (r .1))
 
 loop-less : tie.Need-loop-less Inv-loop μ-loop
-unfolding counted
+unfolding tallied
 loop-less c =
     let b = c .before .before .before .before .before .before .before .before .before .before .before .before .before in
-    let e : c .count-block .result .blocks ≡ b .loop .tally .blocks + 1 = ap (λ (t : Tally). t .blocks) (c .count-block .ensures) in
+    let e : c .count-block .result .blocks ≡ b .loop .tally .blocks + 1 = ap (λ (t : JournalTally). t .blocks) (c .count-block .ensures) in
     omega arith
 
 loop-again : tie.Need-loop-again Inv-loop μ-loop
@@ -124,8 +124,8 @@ returns-2 c =
     replay-end (a .n) (a .own) (a .journal .now) _ (b .loop .values) (b .loop .stamps) (b .loop .tally) (b .loop .inv .2)
     (rest-none (a .n) (a .journal .now) (b .loop .tally .blocks) (omega arith))
 
-pub replay-spec : {M : Type 1} → statement M
-replay-spec =
+pub read-journal-spec : {M : Type 1} → statement M
+read-journal-spec =
     tie.close
     (tie.spec
     Inv-loop
