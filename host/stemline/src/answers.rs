@@ -1,0 +1,59 @@
+//! What the calls of a replica give where they are accepted.
+
+use crate::{Refusal, BLOCK, TABLE};
+
+/// What became of a transaction that asked for commit.
+#[derive(Clone, Copy, Debug, PartialEq, Eq)]
+pub enum Asked {
+    /// It waits for the next own block.
+    Waiting,
+    /// It had no writes: it has committed and ended.
+    ReadOnly,
+}
+
+/// What one [`crate::Replica::work`] did.
+#[derive(Clone, Debug, PartialEq, Eq)]
+pub struct Work {
+    /// The replica whose block stands at the turn.
+    pub sender: u8,
+    /// The ticket of the writeset committed, 0 for a block without records.
+    pub ticket: u32,
+    /// Whether the turn went up.
+    pub moved: bool,
+    pub(crate) aborted: [u32; TABLE],
+    pub(crate) count: u8,
+    pub(crate) append: Option<Box<[u8; BLOCK]>>,
+}
+
+impl Work {
+    /// The own transactions aborted, rising.
+    pub fn aborted(&self) -> &[u32] {
+        &self.aborted[..TABLE.min(usize::from(self.count))]
+    }
+
+    /// The block that the journal is to get now: another's, whose slot the turn left. An own block
+    /// stands there since its send.
+    pub fn append(&self) -> Option<&[u8; BLOCK]> {
+        self.append.as_deref()
+    }
+}
+
+/// What a [`crate::Replica::restart`] took up.
+#[derive(Clone, Debug, PartialEq, Eq)]
+pub struct Restarted {
+    /// The blocks of the journal that are committed. It goes on behind them; the rest is to be cut off.
+    pub blocks: u32,
+    /// The last own block among them. It is to be handed out once more: the cut may have come before
+    /// it first was.
+    pub last: Option<[u8; BLOCK]>,
+}
+
+/// What one [`crate::Replica::take`] did.
+#[derive(Clone, Debug, PartialEq, Eq)]
+pub struct Taken {
+    /// The steps, in their order.
+    pub steps: Vec<Work>,
+    /// The refusal, other than [`Refusal::NothingWaits`], of a work that ended the steps. Only altered
+    /// memory leads to one.
+    pub refused: Option<Refusal>,
+}
