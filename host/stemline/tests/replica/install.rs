@@ -92,13 +92,13 @@ fn the_first_program_by_pkg_config() {
 #[test]
 fn a_folder_before_the_prefix() {
     let stage = room("stage");
-    let said = printed(&install(&["/opt/stemline"], Some(&stage)));
-    let root = stage.join("opt/stemline");
+    let said = printed(&install(&["/prefix"], Some(&stage)));
+    let root = stage.join("prefix");
     for file in FILES {
         assert!(root.join(file).is_file(), "{file}");
     }
     let package = fs::read_to_string(root.join("lib/pkgconfig/stemline.pc")).unwrap();
-    assert!(package.starts_with("prefix=/opt/stemline\n"), "{package}");
+    assert!(package.starts_with("prefix=/prefix\n"), "{package}");
     let built = top().join("target/bin/replay").is_file();
     assert_eq!(root.join("bin/replay").is_file(), built);
     assert_eq!(said.contains("replay is not built"), !built, "{said}");
