@@ -115,10 +115,10 @@ restart-filled n k start m l j x H =
 
 module _ (n : ℕ) (start : List ℤ) (least : 2 ≤ n) (most : n ≤ 6) (long : length start ≡ 128) where
   -- replica k and its journal
-  record FilledAt (k : ℕ) (m : Memory) (l : List ℕ) : Type 0 where
-    sound : SoundAt n start least most long (owes n start) k m
-    sent : SentShape m
-    filled : length l ≡ 512 * blocksAt (m .turn)
+  pub record FilledAt (k : ℕ) (m : Memory) (l : List ℕ) : Type 0 where
+    pub sound : SoundAt n start least most long (owes n start) k m
+    pub sent : SentShape m
+    pub filled : length l ≡ 512 * blocksAt (m .turn)
 
   filled-next : (k : ℕ) (m : Memory) (l : List ℕ) → FilledAt k m l → (c : GroupCall) → signed32 (argumentsOf c .value) ≡ true
       → FilledAt k (performed n start k m c .memory) (journalAfter l c (performed n start k m c .answer))
@@ -153,5 +153,9 @@ module _ (n : ℕ) (start : List ℤ) (least : 2 ≤ n) (most : n ≤ 6) (long :
     filled = unfold madeMemory in refl;
   }
 
+  -- each replica after a list of calls
+  pub filled-after : (cs : List CallAt) → Calls n cs → let g = run n start (fresh n start) cs in (k : ℕ) → k < n → FilledAt k (g .memories k) (g .disks k .journal)
+  filled-after cs f = filled-run cs f (fresh n start) fresh-filled
+
 pub journal-length : JournalLength
-journal-length n start least most long cs f k h = filled-run n start least most long cs f (fresh n start) (fresh-filled n start least most long) k h .filled
+journal-length n start least most long cs f k h = filled-after n start least most long cs f k h .filled

@@ -34,5 +34,7 @@ pub mod Theorem
 pub mod JournalLength
 pub mod Journals
 pub mod Tickets
+pub mod HandedBlocks
+pub mod Progress
 -- what holds with no premise
 pub mod Handed

@@ -3,7 +3,7 @@ use Prim.Native.Nat.{ℕ, _*_, _<_, _≤_}
 use mathlib.Core.Path.{_≡_, refl, sym, ap, _∙_, subst}
 use mathlib.Core.Bool.{Bool, true, false, cond}
 use mathlib.Core.Option.{Option, none, some}
-use mathlib.Core.List.{List, List·Memᴰ·head, List·Memᴰ·tail, [], _∷_, _++_, map}
+use mathlib.Core.List.{List, List·Memᴰ·head, List·Memᴰ·tail, Memᴰ·append-left, [], _∷_, _++_, append-assoc, map}
 use native.Mathlib.Omega.{arith}
 use lib.Dec.{eqb}
 use lib.IntN.{ℤ}
@@ -30,7 +30,7 @@ use Rattle.protocol.specs.Machine.{Machine, CommandClaim, MachineSystem, Comman
 use Rattle.protocol.proofs.ListLaws.{update-by, mem-map}
 use Rattle.protocol.proofs.SequenceLaws.{map-append}
 use Rattle.agreement.specs.Group as group
-use Rattle.agreement.specs.Group.{messageIn, GroupCall, call, restart, performed, argumentsOf, givenIn, heard, Disk, diskAfter, Group, CallAt, fresh, did, blocksAfter, next, run, Comes, Calls, Lent}
+use Rattle.agreement.specs.Group.{messageIn, GroupCall, call, restart, performed, argumentsOf, givenIn, heard, Disk, diskAfter, Group, CallAt, fresh, did, blocksAfter, next, run, Comes, Calls, Lent, PremiseFrom}
 use Rattle.agreement.proofs.View.{setup, view, Sound, meant, Owed}
 use Rattle.agreement.proofs.RestartStep.{lentMessages, meantBy}
 use Rattle.agreement.proofs.JournalView.{OnDisk, no-block, disk-call, disk-restart, lent-cut}
@@ -101,6 +101,20 @@ pub run-on : (n : ℕ) (start : List ℤ) (before : List CallAt) (g : Group) (c 
 unfolding run
 run-on n start [] g c = refl
 run-on n start (b ∷ bs) g c = run-on n start bs (next n start g b) c
+
+-- a first part of a list
+module _ (n : ℕ) (start : List ℤ) (cs before rest : List CallAt) (q : cs ≡ before ++ rest) where
+  pub calls-part : Calls n cs → Calls n before
+  calls-part f d m = f d (subst (Mem d) (sym q) (Memᴰ·append-left rest m))
+
+  pub premise-part : (g : Group) → PremiseFrom n start g cs → PremiseFrom n start g before
+  premise-part g A = record {
+    delivered = λ b k bytes h. A .delivered b k bytes (on b _ h);
+    lent = λ b k j l x y h. A .lent b k j l x y (on b _ h);
+  }
+    where
+      on : (b : List CallAt) (d : CallAt) → Comes before b d → Comes cs b d
+      on b d h = (h .0 ++ rest, q ∙ ap (λ (l : List CallAt). l ++ rest) (h .1) ∙ append-assoc b (d ∷ h .0) rest)
 
 module _ (n : ℕ) (start : List ℤ) (least : 2 ≤ n) (most : n ≤ 6) (long : length start ≡ 128)
     (owes : (m : Memory) → Sound n m → (c : Call) → Owed n start m c (step m c)) where

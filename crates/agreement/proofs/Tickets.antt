@@ -23,11 +23,11 @@ use Rattle.protocol.specs.Writesets.{Writeset}
 use Rattle.protocol.specs.Observer.{TxnId, Observed, Placed, txnIds, observedAfter, sequence, idOf}
 use Rattle.protocol.proofs.ListLaws.{update-same}
 use Rattle.protocol.proofs.SequenceLaws.{map-append}
-use Rattle.agreement.specs.Group.{writesetFrom, messageIn, restart, heard, Group, CallAt, fresh, next, run, Comes, Calls, PremiseFrom, Premise}
+use Rattle.agreement.specs.Group.{writesetFrom, messageIn, restart, heard, Group, CallAt, fresh, next, run, Comes, Calls, Premise}
 use Rattle.agreement.specs.Tickets.{Tickets}
 use Rattle.agreement.proofs.BlockView.{sender-seen}
 use Rattle.agreement.proofs.RestartView.{writesets-read, writesets-seen}
-use Rattle.agreement.proofs.Runs.{run-on}
+use Rattle.agreement.proofs.Runs.{run-on, calls-part, premise-part}
 use Rattle.agreement.proofs.Theorem.{InvAfter, inv-after}
 
 -- ---- a block's tickets, and its transactions
@@ -103,18 +103,6 @@ module _ (n k : ℕ) where
 -- ---- a list with the call at its end
 
 module _ (n : ℕ) (start : List ℤ) where
-  premise-upto : (g : Group) (cs before : List CallAt) (c : CallAt) → Comes cs before c → PremiseFrom n start g cs → PremiseFrom n start g (before ++ (c ∷ []))
-  premise-upto g cs before c q A = record {
-    delivered = λ b k bytes h. A .delivered b k bytes (on b _ h);
-    lent = λ b k j l x y h. A .lent b k j l x y (on b _ h);
-  }
-    where
-      on : (b : List CallAt) (d : CallAt) → Comes (before ++ (c ∷ [])) b d → Comes cs b d
-      on b d h = (h .0 ++ q .0, q .1 ∙ sym (append-assoc before (c ∷ []) (q .0)) ∙ ap (λ (l : List CallAt). l ++ q .0) (h .1) ∙ append-assoc b (d ∷ h .0) (q .0))
-
-  calls-upto : (cs before : List CallAt) (c : CallAt) → Comes cs before c → Calls n cs → Calls n (before ++ (c ∷ []))
-  calls-upto cs before c q f d m = f d (subst (Mem d) (append-assoc before (c ∷ []) (q .0) ∙ sym (q .1)) (Memᴰ·append-left (q .0) m))
-
   -- what is observed of a restart's commits
   commits-seen : (g : Group) (k : ℕ) (journal block : List ℕ) (count : ℕ) (given : List ℕ) → restartStep (g .memories k) n k start journal block .answer ≡ restarted count given
       → next n start g (record { at = k; does = restart journal block }) .observed k .commits ≡ txnIds (map messageIn (blocksIn n journal))
@@ -145,7 +133,9 @@ lent-once n start least most long cs f p before k journal block count given q e 
     G = run n start (fresh n start) (before ++ (record { at = k; does = restart journal block } ∷ []))
 
     I : InvAfter n start least most long (before ++ (c ∷ []))
-    I = inv-after n start least most long (before ++ (c ∷ [])) (calls-upto n start cs before c q f) (premise-upto n start (fresh n start) cs before c q p)
+    I =
+        let e : cs ≡ (before ++ (c ∷ [])) ++ q .0 = q .1 ∙ sym (append-assoc before (c ∷ []) (q .0)) in
+        inv-after n start least most long (before ++ (c ∷ [])) (calls-part n start cs (before ++ (c ∷ [])) (q .0) e f) (premise-part n start cs (before ++ (c ∷ [])) (q .0) e (fresh n start) p)
 
     seen : run n start (fresh n start) (before ++ (c ∷ [])) .observed k .commits ≡ txnIds (map messageIn (blocksIn n journal))
     seen = ap (λ (g : Group). g .observed k .commits) (run-on n start before (fresh n start) c) ∙ commits-seen n start (run n start (fresh n start) before) k journal block count given e

@@ -1,2 +1,3 @@
 -- The runs, computed. Assumes nothing.
 pub mod Worked
+pub mod Progress

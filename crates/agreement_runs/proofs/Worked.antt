@@ -66,11 +66,11 @@ known B c loaded = true
 known B c (restarted k b) = true
 
 -- for each restart of a list, the call that the cut ended, and how many bytes it left
-record Outage : Type 0 where
+pub record Outage : Type 0 where
   ended : Call
   count : ℕ
 
-abbrev outage : Call → ℕ → Outage
+abbrev pub outage : Call → ℕ → Outage
 outage c n = record { ended = c; count = n }
 
 abbrev lentAfter : Memory → Disk → List ℕ → Outage → Bool
@@ -96,7 +96,7 @@ lent-by g k j l (h ∷ hs) e =
     record { ended = h .ended; value = a .left; count = h .count; part = same-bytes _ _ (b .left); enough = leb-true _ _ (b .right) }
 
 module _ (n : ℕ) (start : List ℤ) where
-  unfoldable allowed : Group → List CallAt → List Outage → Bool
+  unfoldable pub allowed : Group → List CallAt → List Outage → Bool
   allowed g [] hs = true
   allowed g (c ∷ cs) hs = (known (g .blocks) (c .does) (did n start g c .answer) && lentIn g (c .at) (c .does) hs) && allowed (next n start g c) cs (outagesLeft (c .does) hs)
 
@@ -111,7 +111,7 @@ module _ (n : ℕ) (start : List ℤ) where
   allowed-at (b ∷ before) c rest g hs e =
       allowed-at before c rest (next n start g b) (outagesLeft (b .does) hs) (both (known (g .blocks) (b .does) (did n start g b .answer) && lentIn g (b .at) (b .does) hs) _ e .right)
 
-  premise-met : (cs : List CallAt) (hs : List Outage) → allowed (fresh n start) cs hs ≡ true → Premise n start cs
+  pub premise-met : (cs : List CallAt) (hs : List Outage) → allowed (fresh n start) cs hs ≡ true → Premise n start cs
   premise-met cs hs e = record {
     delivered = λ before k bytes h a.
         let m = any-true (sameBytes bytes) _ (subst (λ (o : Answer). known (run n start (fresh n start) before .blocks) (call (deliver bytes)) o ≡ true) a (at before _ h .delivers)) in
@@ -122,10 +122,10 @@ module _ (n : ℕ) (start : List ℤ) where
       at : (before : List CallAt) (c : CallAt) → Comes cs before c → AllowedAt (run n start (fresh n start) before) c
       at before c h = allowed-at before c (h .0) (fresh n start) hs (subst (λ (l : List CallAt). allowed (fresh n start) l hs ≡ true) (h .1) e)
 
-abbrev astray : ℕ → CallAt → Bool
+abbrev pub astray : ℕ → CallAt → Bool
 astray n c = not (ltb (c .at) n && signed32 (argumentsOf (c .does) .value))
 
-calls-met : (n : ℕ) (cs : List CallAt) → any (astray n) cs ≡ false → Calls n cs
+pub calls-met : (n : ℕ) (cs : List CallAt) → any (astray n) cs ≡ false → Calls n cs
 calls-met n cs e c m =
     let h = both (ltb (c .at) n) (signed32 (argumentsOf (c .does) .value)) (not-false _ (any-false (astray n) cs e c m)) in
     (ltb-true (c .at) n (h .left), h .right)

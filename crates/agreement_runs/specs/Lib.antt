@@ -1,2 +1,3 @@
 -- Worked runs beside the theorem of agreement.
 pub mod Worked
+pub mod Progress

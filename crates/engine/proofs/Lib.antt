@@ -48,3 +48,11 @@ pub mod Histories
 pub mod Worked
 pub mod Restarts
 pub mod Tickets
+-- with restarts among the calls: 22 is never met; how long a change may wait; a block that has come
+pub mod Reached
+pub mod Unmet
+pub mod Traced
+pub mod Due
+pub mod Waiting
+pub mod Ended
+pub mod Come

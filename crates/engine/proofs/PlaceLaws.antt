@@ -76,7 +76,7 @@ module _ {A : Type 0} where
 -- ---- the blocks of the places
 
 -- a place is empty where its block's first byte is 0
-empty-block : (n s : ℕ) (places : List ℕ) → isEmpty n s places ≡ eqb (getD (blockIn n s places) 0 0) 0
+pub empty-block : (n s : ℕ) (places : List ℕ) → isEmpty n s places ≡ eqb (getD (blockIn n s places) 0 0) 0
 empty-block n s places =
     ap (λ (x : ℕ). eqb x 0) (sym (getD-slice places 0 (placeStart n s) (placeStart n s + 512) 0 (placeStart n s) (add-zero _) (omega arith)))
 

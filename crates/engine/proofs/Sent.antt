@@ -1,38 +1,33 @@
--- The block sent and the rows open as sent, after every call; and 22, which is never answered. Assumes nothing.
+-- The block sent and the rows open as sent, after every call. Assumes nothing.
 use Prim.Native.Nat.{ℕ, _<_, _*_}
-use mathlib.Core.Path.{_≡_, refl, sym, ap, _∙_}
-use mathlib.Core.Bool.{Bool, true, false}
-use mathlib.Core.List.{List, [], _∷_}
+use mathlib.Core.Path.{_≡_, refl}
+use mathlib.Core.Bool.{true, false}
+use mathlib.Core.List.{List}
 use native.Mathlib.Omega.{arith}
 use lib.IntN.{ℤ}
-use lib.ListN.{getD, replicate, getD-replicate}
-use borrow.Author.Tests.{eqb-true, eqb-false, eq-eqb, not-true}
-use Rattle.block.specs.Answers.{Refusal, refuse, firstOf, recordAt}
-use Rattle.block.proofs.BoolLaws.{both}
+use lib.ListN.{replicate, getD-replicate}
+use borrow.Author.Tests.{eq-eqb}
 use Rattle.memory.specs.Memory.{Memory, withClasses}
 use Rattle.memory.specs.Rows.{closed, rowAt}
 use Rattle.memory.specs.Turns.{placeStart, isEmpty}
-use Rattle.engine.specs.Calls.{Outcome, numberOf}
-use Rattle.engine.specs.Calls.Answer.{refused}
+use Rattle.engine.specs.Calls.{Outcome}
 use Rattle.engine.specs.Make.{madeMemory}
-use Rattle.engine.specs.Classes.{loadRefusal}
-use Rattle.engine.specs.Client.{rowNo, isOwn, reportStep, beginRefusal, readRefusal, writeRefusal, askRefusal, withdrawRefusal}
-use Rattle.engine.specs.Moves.{sentAlready, sendRefusal, deliverRefusal, blockAtTurn, isSent, ownNotSent, workRefusal}
+use Rattle.engine.specs.Client.{reportStep}
+use Rattle.engine.specs.Moves.{sentAlready}
 use Rattle.engine.specs.Restart.{blocksIn, restartedMemory}
-use Rattle.engine.specs.Step.{Call, step, refusalOf, after}
+use Rattle.engine.specs.Step.{Call, step}
 use Rattle.engine.specs.Step.Call.{begin, read, write, ask, withdraw, report, send, deliver, work, load}
 use Rattle.engine.specs.Shape.{Shape}
-use Rattle.engine.specs.Sent.{SentShape, SentShapes, NeverAnswered}
-use Rattle.engine.proofs.Tests.{cond-by, same-by, clash, not-first, passes}
+use Rattle.engine.specs.Sent.{SentShape, SentShapes}
+use Rattle.engine.proofs.Tests.{clash}
 use Rattle.engine.proofs.Steps.{read-by, send-by, deliver-by, work-by, load-by}
 use Rattle.engine.proofs.Passed.{send-passed, deliver-passed}
 use Rattle.engine.proofs.ShapeMade.{getD-zeros}
 use Rattle.engine.proofs.ShapeTurn.{working}
 use Rattle.engine.proofs.Shapes.{shapes}
-use Rattle.engine.proofs.Refusals.{refusals}
 use Rattle.engine.proofs.SentClient.{sent-begin, sent-write, sent-ask, sent-withdraw}
 use Rattle.engine.proofs.SentSend.{sent-sent, sent-delivered}
-use Rattle.engine.proofs.SentWork.{facts, sender-owns, is-outbox, sent-next, sent-committed}
+use Rattle.engine.proofs.SentWork.{sent-next, sent-committed}
 
 -- ---- the start
 
@@ -86,63 +81,3 @@ sent-each m S Q (load l) = load-by (λ (o : Outcome). SentShape (o .memory)) m l
 
 pub sent-shapes : SentShapes
 sent-shapes = record { made = sent-made; each = sent-each; restarted = sent-restarted }
-
--- ---- 22
-
--- the last test of a work
-last-of : (b : Bool) → firstOf (refuse 22 b ∷ []) ≡ 22 → b ≡ true
-unfolding firstOf
-last-of true e = refl
-last-of false e = absurd (let z : ⊥ = omega arith in z)
-
--- an own writeset that a work meets has its ticket open as sent
-work-unmet : {over : ℕ} (m : Memory) → Shape over m → SentShape m → workRefusal m ≡ 22 → ⊥
-unfolding workRefusal
-work-unmet m S Q e =
-    let a = passes _ _ refl e in
-    let b = passes _ _ refl (a .1) in
-    let c = both _ _ (last-of (ownNotSent m) (b .1)) in
-    let d = both _ _ (c .right) in
-    let waits = b .0 in
-    let kind = eqb-false (getD (blockAtTurn m) 0 0) 1 (not-true _ (c .left)) in
-    let mine = eqb-true (getD (blockAtTurn m) 1 0) (m .counts .own) (d .left) in
-    let o = is-outbox m S Q waits (sym (sender-owns m S Q waits) ∙ mine) in
-    let more : m .counts .done < getD (blockAtTurn m) 3 0 =
-    same-by (m .counts .done) 0 (λ z. omega (arith, facts m S Q waits .some kind)) (λ z. S .places .done (omega (arith, z)) .1) in
-    clash (Q .live (o .0) (m .counts .done) (omega arith) (rw (o .1) at more)) (rw (o .1) at (not-true (isSent m (recordAt (blockAtTurn m) (m .counts .done) .ticket)) (d .right)))
-
--- nor is it among a write's numbers
-write-unmet : (m : Memory) (r i : ℕ) → writeRefusal m r i ≡ 22 → ⊥
-unfolding writeRefusal
-write-unmet m r i e =
-    let a = passes _ _ refl e in
-    let b = passes _ _ refl (a .1) in
-    let c = passes _ _ refl (b .1) in
-    let d = passes _ _ refl (c .1) in
-    let f = passes _ _ refl (d .1) in
-    cond-by (λ (l : List Refusal). firstOf l ≡ 22 → ⊥) (isOwn m r i) (λ o. not-first 22 [] refl) (λ o. not-first 22 _ refl) (f .1)
-
-unmet : {over : ℕ} (m : Memory) → Shape over m → SentShape m → (c : Call) → refusalOf m c ≡ 22 → ⊥
-unfolding refusalOf beginRefusal readRefusal askRefusal withdrawRefusal sendRefusal deliverRefusal loadRefusal
-unmet m S Q begin e = not-first 22 _ refl e
-unmet m S Q (read t i) e = not-first 22 _ refl e
-unmet m S Q (write t i v) e = write-unmet m (rowNo m t) i e
-unmet m S Q (ask t) e = not-first 22 _ refl e
-unmet m S Q (withdraw t) e = not-first 22 _ refl e
-unmet m S Q report e = omega arith
-unmet m S Q (send b) e = not-first 22 _ refl e
-unmet m S Q (deliver b) e = not-first 22 _ refl e
-unmet m S Q work e = work-unmet m S Q e
-unmet m S Q (load l) e = not-first 22 _ refl e
-
-unmet-after : {over : ℕ} (m : Memory) → Shape over m → SentShape m → (cs : List Call) (c : Call) → step (after m cs) c .answer ≡ refused 22 → ⊥
-unfolding after
-unmet-after m S Q [] c e = unmet m S Q c (sym (refusals .number m c) ∙ ap numberOf e)
-unmet-after m S Q (d ∷ cs) c e = unmet-after (step m d .memory) (shapes .each m S d) (sent-each m S Q d) cs c e
-
-pub never-answered : NeverAnswered
-never-answered = record {
-  made = λ n own values l h o v cs. unmet-after (madeMemory n own values) (shapes .made n own values l h o v) (sent-made n own values) cs;
-  restarted = λ n own values l h o v journal cs.
-      unmet-after (restartedMemory n own values (blocksIn n journal)) (shapes .restarted n own values l h o v journal) (sent-restarted n own values journal) cs;
-}

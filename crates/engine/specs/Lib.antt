@@ -14,5 +14,7 @@ pub mod OneClass
 pub mod Claims
 pub mod Sent
 pub mod History
+pub mod Unmet
+pub mod Waiting
 pub mod Restarts
 pub mod Tickets

@@ -1,19 +1,18 @@
--- The block sent and the rows open as sent, on every memory that calls lead to, with any bytes; and that 22 is never answered there.
+-- The block sent and the rows open as sent, on every memory that calls lead to, with any bytes. `Unmet.antt` rests on it.
 use Prim.Native.Nat.{ℕ, _+_, _≤_, _<_}
 use mathlib.Core.Path.{_≡_}
 use mathlib.Core.Bool.{true, false}
 use mathlib.Core.List.{List}
 use lib.IntN.{ℤ}
-use lib.ListN.{length, getD}
+use lib.ListN.{getD}
 use Rattle.block.specs.Message.{ownerOf}
 use Rattle.block.specs.Answers.{recordAt}
 use Rattle.memory.specs.Memory.{Memory}
 use Rattle.memory.specs.Rows.{rowAt}
 use Rattle.memory.specs.Turns.{blockIn, isEmpty}
-use Rattle.engine.specs.Calls.Answer.{refused}
 use Rattle.engine.specs.Make.{madeMemory}
 use Rattle.engine.specs.Moves.{sentAlready, isSent}
-use Rattle.engine.specs.Step.{Call, step, after}
+use Rattle.engine.specs.Step.{Call, step}
 use Rattle.engine.specs.Restart.{blocksIn, restartedMemory}
 use Rattle.engine.specs.Shape.{Shape}
 
@@ -41,10 +40,3 @@ pub record SentShapes : Type 0 where
   pub made : (n own : ℕ) (values : List ℤ) → SentShape (madeMemory n own values)
   pub each : {over : ℕ} (m : Memory) → Shape over m → SentShape m → (c : Call) → SentShape (step m c .memory)
   pub restarted : (n own : ℕ) (values : List ℤ) (journal : List ℕ) → SentShape (restartedMemory n own values (blocksIn n journal))
-
--- no call answers 22: an own writeset that a work meets has its ticket open as sent
-pub record NeverAnswered : Type 0 where
-  pub made : (n own : ℕ) (values : List ℤ) → 2 ≤ n → n ≤ 6 → own < n → length values ≡ 128 → (cs : List Call) (c : Call)
-      → step (after (madeMemory n own values) cs) c .answer ≡ refused 22 → ⊥
-  pub restarted : (n own : ℕ) (values : List ℤ) → 2 ≤ n → n ≤ 6 → own < n → length values ≡ 128 → (journal : List ℕ) (cs : List Call) (c : Call)
-      → step (after (restartedMemory n own values (blocksIn n journal)) cs) c .answer ≡ refused 22 → ⊥

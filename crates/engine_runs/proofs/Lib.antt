@@ -1,3 +1,4 @@
 -- The cases and the journals computed.
 pub mod Cases
 pub mod Journals
+pub mod Waits

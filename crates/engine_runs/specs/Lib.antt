@@ -1,3 +1,4 @@
 -- Document 01's marked cases; document 02's Req 01, worked.
 pub mod Cases
 pub mod Journals
+pub mod Waits

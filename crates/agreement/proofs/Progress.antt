@@ -1,0 +1,311 @@
+-- Progress: where every block handed out has been given to every replica, some replica can send or work. Assumes nothing.
+use Prim.Native.Nat.{ℕ, zero, suc, _+_, _-_, _%_, _≤_, _<_}
+use mathlib.Core.Path.{_≡_, refl, sym, ap, _∙_, subst}
+use mathlib.Core.Bool.{true, false}
+use mathlib.Core.Logic.{_⊎_, inl, inr}
+use mathlib.Core.List.{List, List·Memᴰ·head, List·Memᴰ·not-nil, Memᴰ·append-right, [], _∷_, _++_, append-assoc, append-nil, map}
+use native.Mathlib.Nat.{mod-lt}
+use native.Mathlib.Omega.{arith}
+use lib.Dec.{eqb}
+use lib.IntN.{ℤ}
+use lib.ListN.{length, length-map, length-take, getD, take}
+use borrow.Author.Tests.{eqb-true, ltb-false}
+use Rattle.block.specs.Message.{ownerOf}
+use Rattle.block.specs.Answers.{headerOf}
+use Rattle.block.proofs.BoolLaws.{joined, not-so}
+use Rattle.memory.specs.Memory.{Memory, maxSlots}
+use Rattle.memory.specs.Turns.{isEmpty}
+use Rattle.engine.specs.Calls.{Outcome}
+use Rattle.engine.specs.Calls.Answer.{restarted}
+use Rattle.engine.specs.Moves.{sentAlready, sameBytes, slotPast, isOwnBlock, notSentHere, nothingWaits}
+use Rattle.engine.specs.Restart.{blocksIn, restartStep}
+use Rattle.engine.proofs.Tests.{cond-by, bool-by, same-by, less-by}
+use Rattle.engine.proofs.BlockFacts.{taken-block}
+use Rattle.engine.proofs.Steps.{restart-by}
+use Rattle.engine.proofs.Waiting.{own-slot}
+use Rattle.engine.proofs.Come.{HasCome, come-each, bytes-same, Givable, come-given, works, sends}
+use Rattle.protocol.specs.Lists.{Mem}
+use Rattle.protocol.specs.Writesets.{Message}
+use Rattle.protocol.specs.Journal.{journal}
+use Rattle.protocol.specs.Observer.{Handout, handoutMessage, noHandout}
+use Rattle.protocol.proofs.ListLaws.{update-by, update-same, mem-map, mem-getD, getD-map-in}
+use Rattle.protocol.proofs.SequenceLaws.{mem-at}
+use Rattle.agreement.specs.Group.{messageIn, GroupCall, call, restart, performed, Group, CallAt, fresh, did, next, run, Comes, Calls, Premise}
+use Rattle.agreement.specs.Journals.{blocksAt}
+use Rattle.agreement.specs.Progress.{giving, Given, AllGiven, SlotsLeft, CanSend, CanWork, ProgressTheorem}
+use Rattle.agreement.proofs.View.{Sound}
+use Rattle.agreement.proofs.DeliverStep.{slot-said}
+use Rattle.agreement.proofs.Runs.{run-on, calls-part, premise-part}
+use Rattle.agreement.proofs.Theorem.{InvAfter, inv-after}
+use Rattle.agreement.proofs.JournalLength.{FilledAt, filled-after}
+use Rattle.agreement.proofs.Journals.{journals}
+use Rattle.agreement.proofs.HandedBlocks.{GoodBlock, NewBlock, SentLast, Hands, hands}
+
+-- ---- lists of calls, call by call
+
+-- to prove P of a list with `later` at its end, prove it without, and that each call of `later` keeps it
+walk : (P : List CallAt → Type 0) (before later : List CallAt) → P before
+    → ((mid : List CallAt) (c : CallAt) → Comes later mid c → P (before ++ mid) → P (before ++ (mid ++ (c ∷ [])))) → P (before ++ later)
+walk P before [] p f = subst P (sym (append-nil before)) p
+walk P before (c ∷ cs) p f =
+    subst P (append-assoc before (c ∷ []) cs)
+    (walk P (before ++ (c ∷ [])) cs (f [] c (cs, refl) (subst P (sym (append-nil before)) p)) (λ mid d q r.
+    subst P (sym (append-assoc before (c ∷ []) (mid ++ (d ∷ []))))
+    (f (c ∷ mid) d (q .0, ap (λ (l : List CallAt). c ∷ l) (q .1)) (subst P (append-assoc before (c ∷ []) mid) r))))
+
+-- ---- the group after a list of calls with the premise
+
+module _ (n : ℕ) (start : List ℤ) (least : 2 ≤ n) (most : n ≤ 6) (long : length start ≡ 128) where
+  abbrev at : List CallAt → Group
+  at cs = run n start (fresh n start) cs
+
+  abbrev mem : List CallAt → ℕ → Memory
+  mem cs k = run n start (fresh n start) cs .memories k
+
+  abbrev D : List CallAt → List (Handout ℤ)
+  D cs = run n start (fresh n start) cs .handouts
+
+  module _ (cs : List CallAt) (f : Calls n cs) (p : Premise n start cs) where
+    inv : InvAfter n start least most long cs
+    inv = inv-after n start least most long cs f p
+
+    held : (k : ℕ) → k < n → FilledAt n start least most long k (mem cs k) (at cs .disks k .journal)
+    held = filled-after n start least most long cs f
+
+    size-at : (k : ℕ) → k < n → mem cs k .counts .replicas ≡ n
+    size-at k h = held k h .sound .sound .size
+
+    own-at : (k : ℕ) → k < n → mem cs k .counts .own ≡ k
+    own-at k h = held k h .sound .own
+
+    reach : (k : ℕ) → mem cs k .turn .slot ≤ length (D cs)
+    reach k = inv .inv .each k .track .reach
+
+    mark : (k : ℕ) → ownerOf n (mem cs k .turn .slot) ≡ k → mem cs k .turn .slot < length (D cs) → sentAlready (mem cs k) ≡ true
+    mark k = inv .inv .each k .track .mark
+
+    past : (k s : ℕ) → s < length (D cs) → ownerOf n s ≡ k → s ≤ mem cs k .turn .slot
+    past k s = inv .inv .each k .track .past s
+
+    -- a block handed out is one of those put down
+    known : (b : List ℕ) → Mem b (at cs .blocks) → headerOf b .slot < length (D cs)
+    known b m =
+        let a = mem-at (handoutMessage noHandout) (map handoutMessage (D cs)) (messageIn b) (inv .inv .whole .messages .each (messageIn b) (mem-map messageIn (at cs .blocks) b m)) in
+        let i = a .0 in
+        let l : i < length (D cs) = rw (length-map (D cs) handoutMessage) at (a .1 .0) in
+        let e : messageIn b ≡ handoutMessage (getD (D cs) i noHandout) = a .1 .1 ∙ getD-map-in handoutMessage noHandout (handoutMessage noHandout) (D cs) i l in
+        let s : headerOf b .slot ≡ i = sym (slot-said b) ∙ ap (λ (x : Message ℤ). x .slot) e ∙ inv .inv .whole .inOrder .slot i l in
+        omega arith
+
+    -- and one of each slot put down was handed out
+    found : (s : ℕ) → s < length (D cs) → (b : List ℕ) × Mem b (at cs .blocks) × (headerOf b .slot ≡ s)
+    found s h =
+        let h′ : Mem (handoutMessage (getD (D cs) s noHandout)) (map handoutMessage (D cs)) = mem-map handoutMessage (D cs) (getD (D cs) s noHandout) (mem-getD noHandout (D cs) s h) in
+        let a = mem-at (messageIn []) (map messageIn (at cs .blocks)) (handoutMessage (getD (D cs) s noHandout)) (inv .inv .whole .messages .all (handoutMessage (getD (D cs) s noHandout)) h′) in
+        let i = a .0 in
+        let l : i < length (at cs .blocks) = rw (length-map (at cs .blocks) messageIn) at (a .1 .0) in
+        let b = getD (at cs .blocks) i [] in
+        let e : handoutMessage (getD (D cs) s noHandout) ≡ messageIn b = a .1 .1 ∙ getD-map-in messageIn [] (messageIn []) (at cs .blocks) i l in
+        (b, mem-getD [] (at cs .blocks) i l, sym (slot-said b) ∙ ap (λ (x : Message ℤ). x .slot) (sym e) ∙ inv .inv .whole .inOrder .slot s h)
+
+    -- its slot is within N of every turn
+    near : (k : ℕ) → k < n → (s : ℕ) → s < length (D cs) → s < mem cs k .turn .slot + n
+    near k h s l = less-by s n (λ u. omega arith) (λ u.
+        let o = own-slot n k (s - n) h in
+        let a = o .1 in
+        let b = o .2 in
+        let c = past k (o .0) (omega arith) (o .3) in
+        omega arith)
+
+    -- who has sent for its turn has handed out its slot
+    sent-known : (k : ℕ) → k < n → sentAlready (mem cs k) ≡ true → mem cs k .turn .slot < length (D cs)
+    sent-known k h e =
+        let J = journals n start least most long cs f p k h in
+        let t : blocksAt (mem cs k .turn) ≡ mem cs k .turn .slot + 1 = rw e refl in
+        let a = ap length (J .messages) in
+        let b = length-map (blocksIn n (at cs .disks k .journal)) messageIn in
+        let c = length-map (take (blocksAt (mem cs k .turn)) (D cs)) handoutMessage in
+        let d = length-take (blocksAt (mem cs k .turn)) (D cs) in
+        let r = J .read in
+        omega arith
+
+  -- ---- the blocks handed out
+
+  record Blocks (g : Group) : Type 0 where
+    good : (b : List ℕ) → Mem b (g .blocks) → GoodBlock n b
+    last : (k : ℕ) → k < n → SentLast k (g .memories k) (g .blocks)
+
+  -- a block's sender owns its slot
+  owner-of : (b : List ℕ) → GoodBlock n b → headerOf b .sender ≡ ownerOf n (headerOf b .slot)
+  unfolding headerOf
+  owner-of b G = taken-block b (G .taken) .sender ∙ ap (λ (r : ℕ). ownerOf r (headerOf b .slot)) (G .replicas)
+
+  blocks-next : (cs : List CallAt) → Calls n cs → Premise n start cs → (c : CallAt) → c .at < n → Blocks (at cs) → Blocks (next n start (at cs) c)
+  blocks-next cs f p c h B = record {
+    good = λ b m. either b (H .grown b m);
+    last = update-by (λ (k : ℕ) (m : Memory). k < n → SentLast k m (next n start (at cs) c .blocks)) (at cs .memories) (c .at) (did n start (at cs) c .memory) (λ l. H .last)
+        (λ j d l t b q o z. other j d l t b o z (H .grown b q));
+  }
+    where
+      marked : (b : List ℕ) → Mem b (at cs .blocks) → headerOf b .sender ≡ c .at → headerOf b .slot ≡ mem cs (c .at) .turn .slot → sentAlready (mem cs (c .at)) ≡ true
+      marked b q o z = mark cs f p (c .at) (ap (ownerOf n) (sym z) ∙ sym (owner-of b (B .good b q)) ∙ o) (subst (λ (s : ℕ). s < length (D cs)) z (known cs f p b q))
+
+      H : Hands n (c .at) (at cs .blocks) (did n start (at cs) c)
+      H = hands n (c .at) (mem cs (c .at)) (at cs .blocks) (held cs f p (c .at) h .sound .sound) (own-at cs f p (c .at) h) (B .last (c .at) h) marked start (c .does)
+
+      either : (b : List ℕ) → Mem b (at cs .blocks) ⊎ NewBlock n (c .at) b → GoodBlock n b
+      either b (inl q) = B .good b q
+      either b (inr N) = N .good
+
+      other : (j : ℕ) → (j ≡ c .at → ⊥) → j < n → sentAlready (mem cs j) ≡ true → (b : List ℕ) → headerOf b .sender ≡ j → headerOf b .slot ≡ mem cs j .turn .slot
+          → Mem b (at cs .blocks) ⊎ NewBlock n (c .at) b → b ≡ mem cs j .blocks .outbox
+      other j d l t b o z (inl q) = B .last j l t b q o z
+      other j d l t b o z (inr N) = absurd (d (sym o ∙ N .sender))
+
+  blocks-all : (cs : List CallAt) → Calls n cs → Premise n start cs → Blocks (at cs)
+  unfolding run
+  blocks-all cs f p = walk (λ (l : List CallAt). Blocks (at l)) [] cs
+      (record { good = λ b q. absurd (List·Memᴰ·not-nil q); last = λ k h t b q. absurd (List·Memᴰ·not-nil q) })
+      (λ mid c q B.
+      let e : cs ≡ mid ++ (c ∷ q .0) = q .1 in
+      subst Blocks (sym (run-on n start mid (fresh n start) c))
+      (blocks-next mid (calls-part n start cs mid (c ∷ q .0) e f) (premise-part n start cs mid (c ∷ q .0) e (fresh n start) p) c
+      (f c (subst (Mem c) (sym e) (Memᴰ·append-right mid (List·Memᴰ·head refl))) .0) B))
+
+  -- ---- a block given
+
+  module _ (cs : List CallAt) (f : Calls n cs) (p : Premise n start cs) (k : ℕ) (h : k < n) (b : List ℕ) (m : Mem b (at cs .blocks)) where
+    good : GoodBlock n b
+    good = blocks-all cs f p .good b m
+
+    -- an own block that the turn has not passed is the one sent for it
+    ours : slotPast (mem cs k) b ≡ false → notSentHere (mem cs k) b ≡ false
+    ours u = bool-by (eqb (headerOf b .sender) (mem cs k .counts .own))
+        (λ e. let o : headerOf b .sender ≡ k = eqb-true (headerOf b .sender) (mem cs k .counts .own) e ∙ own-at cs f p k h in
+        let w : ownerOf n (headerOf b .slot) ≡ k = sym (owner-of b good) ∙ o in
+        let l = known cs f p b m in
+        let a = past cs f p k (headerOf b .slot) l w in
+        let c = ltb-false (headerOf b .slot) (mem cs k .turn .slot) u in
+        let z : headerOf b .slot ≡ mem cs k .turn .slot = omega arith in
+        let t = mark cs f p k (ap (ownerOf n) (sym z) ∙ w) (subst (λ (s : ℕ). s < length (D cs)) z l) in
+        let q = blocks-all cs f p .last k h t b m o z in
+        let y : isOwnBlock (mem cs k) b ≡ true = joined t (subst (λ (x : List ℕ). sameBytes b x ≡ true) q (bytes-same b)) in
+        rw (e, y) refl)
+        (λ e. rw e refl)
+
+    givable : Givable (mem cs k) b
+    givable = record {
+      taken = good .taken;
+      replicas = good .replicas ∙ sym (size-at cs f p k h);
+      high = rw (size-at cs f p k h) (near cs f p k h (headerOf b .slot) (known cs f p b m));
+      ours = ours;
+    }
+
+  -- ---- what has come to a replica stays until the turn has passed it, or a restart is accepted
+
+  come-performed : (k s : ℕ) (m : Memory) → Sound n m → HasCome s m → (d : GroupCall)
+      → ((j l : List ℕ) (x : ℕ) (b : List ℕ) → d ≡ restart j l → restartStep m n k start j l .answer ≡ restarted x b → ⊥) → HasCome s (performed n start k m d .memory)
+  come-performed k s m R C (call c) none = come-each m (R .shape) s C c
+  come-performed k s m R C (restart j l) none =
+      restart-by (λ (o : Outcome). ((x : ℕ) (b : List ℕ) → o .answer ≡ restarted x b → ⊥) → HasCome s (o .memory)) m n k start j l (λ e g. absurd (g _ _ refl)) (λ e g. C)
+      (λ x b. none j l x b refl)
+
+  come-next : (g : Group) (k s : ℕ) → Sound n (g .memories k) → HasCome s (g .memories k) → (c : CallAt)
+      → ((j l : List ℕ) (x : ℕ) (b : List ℕ) → c ≡ record { at = k; does = restart j l } → restartStep (g .memories k) n k start j l .answer ≡ restarted x b → ⊥)
+      → HasCome s (next n start g c .memories k)
+  come-next g k s R C c none =
+      cond-by (HasCome s) (eqb k (c .at))
+      (λ e. let z = eqb-true k (c .at) e in
+      subst (λ (i : ℕ). HasCome s (performed n start i (g .memories i) (c .does) .memory)) z
+      (come-performed k s (g .memories k) R C (c .does) (λ j l x b q.
+      none j l x b (ap (λ (d : GroupCall). record { at = c .at; does = d }) q ∙ ap (λ (i : ℕ). record { at = i; does = restart j l }) (sym z)))))
+      (λ e. C)
+
+  come-all : (cs : List CallAt) → Calls n cs → Premise n start cs → (k : ℕ) → k < n → (b : List ℕ) → Given n start cs k b → HasCome (headerOf b .slot) (mem cs k)
+  come-all cs f p k h b G =
+      subst (λ (l : List CallAt). HasCome (headerOf b .slot) (mem l k)) (sym whole)
+      (walk (λ (l : List CallAt). HasCome (headerOf b .slot) (mem l k)) first (G .later) begun onward)
+    where
+      first : List CallAt
+      first = G .before ++ (giving k b ∷ [])
+
+      whole : cs ≡ first ++ G .later
+      whole = G .comes ∙ sym (append-assoc (G .before) (giving k b ∷ []) (G .later))
+
+      begun : HasCome (headerOf b .slot) (mem first k)
+      begun =
+          let c = calls-part n start cs (G .before) (giving k b ∷ G .later) (G .comes) f in
+          let q = premise-part n start cs (G .before) (giving k b ∷ G .later) (G .comes) (fresh n start) p in
+          subst (λ (g : Group). HasCome (headerOf b .slot) (g .memories k)) (sym (run-on n start (G .before) (fresh n start) (giving k b)))
+          (subst (HasCome (headerOf b .slot)) (sym (update-same (at (G .before) .memories) k _))
+          (come-given (mem (G .before) k) (held (G .before) c q k h .sound .sound .shape) b (givable (G .before) c q k h b (G .handed))))
+
+      onward : (mid : List CallAt) (c : CallAt) → Comes (G .later) mid c → HasCome (headerOf b .slot) (mem (first ++ mid) k) → HasCome (headerOf b .slot) (mem (first ++ (mid ++ (c ∷ []))) k)
+      onward mid c q C =
+          let e : cs ≡ (first ++ mid) ++ (c ∷ q .0) = whole ∙ ap (λ (l : List CallAt). first ++ l) (q .1) ∙ sym (append-assoc first mid (c ∷ q .0)) in
+          let R = held (first ++ mid) (calls-part n start cs (first ++ mid) (c ∷ q .0) e f) (premise-part n start cs (first ++ mid) (c ∷ q .0) e (fresh n start) p) k h .sound .sound in
+          subst (λ (l : List CallAt). HasCome (headerOf b .slot) (mem l k)) (append-assoc first mid (c ∷ []))
+          (subst (λ (g : Group). HasCome (headerOf b .slot) (g .memories k)) (sym (run-on n start (first ++ mid) (fresh n start) c))
+          (come-next (at (first ++ mid)) k (headerOf b .slot) R C c (λ j l x y z a.
+          G .since mid j l x y (q .0, q .1 ∙ ap (λ (d : CallAt). mid ++ (d ∷ q .0)) z)
+          (subst (λ (r : List CallAt). restartStep (mem r k) n k start j l .answer ≡ restarted x y) (append-assoc (G .before) (giving k b ∷ []) mid) a))))
+
+  -- ---- the lowest turn
+
+  lowest : (f : ℕ → ℕ) (c : ℕ) → (k : ℕ) × (k < suc c) × ((j : ℕ) → j < suc c → f k ≤ f j)
+  lowest f zero = (0, omega arith, λ j h. let z : j ≡ 0 = omega arith in rw z (omega arith))
+  lowest f (suc c) =
+      let r = lowest f c in
+      less-by (f (suc c)) (f (r .0))
+      (λ l. (suc c, omega arith, λ j h. same-by j (suc c) (λ e. rw e (omega arith)) (λ d. let a = r .2 j (omega arith) in omega arith)))
+      (λ l. (r .0, (let a = r .1 in omega arith), λ j h. same-by j (suc c) (λ e. rw e l) (λ d. r .2 j (omega arith))))
+
+-- ---- the theorem
+
+module _ (n : ℕ) (start : List ℤ) (least : 2 ≤ n) (most : n ≤ 6) (long : length start ≡ 128) (cs : List CallAt) (f : Calls n cs) (p : Premise n start cs) where
+  abbrev now : ℕ → Memory
+  now k = run n start (fresh n start) cs .memories k
+
+  abbrev down : List (Handout ℤ)
+  down = run n start (fresh n start) cs .handouts
+
+  abbrev Goes : Type 0
+  Goes = (k : ℕ) × (k < n) × (CanSend (run n start (fresh n start) cs .memories k) ⊎ CanWork (run n start (fresh n start) cs .memories k))
+
+  -- the block of the turn has come
+  behind : AllGiven n start cs → (k : ℕ) → k < n → now k .turn .slot < length down → Goes
+  behind given k h l =
+      let b = found n start least most long cs f p (now k .turn .slot) l in
+      let R = held n start least most long cs f p k h in
+      (k, h, inr (works (now k) (R .sound .sound .shape) (R .sent) (waits (b .0) (b .2) (come-all n start least most long cs f p k h (b .0) (given k h (b .0) (b .1))))))
+    where
+      waits : (b : List ℕ) → headerOf b .slot ≡ now k .turn .slot → HasCome (headerOf b .slot) (now k) → nothingWaits (now k) ≡ false
+      waits b e (inl q) = absurd (let z : ⊥ = omega arith in z)
+      waits b e (inr w) = subst (λ (s : ℕ). isEmpty (now k .counts .replicas) s (now k .blocks .places) ≡ false) e (w .1)
+
+  -- every turn is the first slot that nobody has handed out
+  level : (t : ℕ) → ((k : ℕ) → k < n → now k .turn .slot ≡ t) → length down ≤ t → t < maxSlots → Goes
+  unfolding ownerOf
+  level t all l h =
+      let k = t % n in
+      let u : t % n < n = mod-lt t {m = n} (omega arith) in
+      let e = all (t % n) u in
+      let R = held n start least most long cs f p (t % n) u in
+      let o : ownerOf (now (t % n) .counts .replicas) (now (t % n) .turn .slot) ≡ now (t % n) .counts .own = rw (R .sound .sound .size, e, R .sound .own) in
+      let s : sentAlready (now (t % n)) ≡ false = not-so (sentAlready (now (t % n))) (λ q. let z = sent-known n start least most long cs f p (t % n) u q in omega arith) in
+      (t % n, u, inl (λ lent z. sends (now (t % n)) (R .sound .sound .shape) (R .sent) lent z (omega arith) o s))
+
+  goes : AllGiven n start cs → SlotsLeft n start cs → Goes
+  goes given some =
+      let r = lowest n start least most long (λ (k : ℕ). now k .turn .slot) (n - 1) in
+      let k = r .0 in
+      let a = r .1 in
+      let h : r .0 < n = omega arith in
+      let low : (j : ℕ) → j < n → now (r .0) .turn .slot ≤ now j .turn .slot = (λ j u. r .2 j (omega arith)) in
+      less-by (now (r .0) .turn .slot) (length down) (behind given (r .0) h)
+      (λ l. level (now (r .0) .turn .slot)
+      (λ j u. let x = low j u in let y = reach n start least most long cs f p j in omega arith) l
+      (let x = low (some .0) (some .1) in let y = some .2 in omega arith))
+
+pub progress : ProgressTheorem
+progress n start least most long cs f p = goes n start least most long cs f p

@@ -1,0 +1,47 @@
+-- Document 02's Req 06: "And if, under the agreement's premises, every block handed out has been given to every replica since that replica was made or last restarted, no replica is down, and some replica
+-- has slots left, then some replica can send, or work without a refusal." No replica is down: each may be called at the end of the list, on the memory that it has there.
+use Prim.Native.Nat.{ℕ, _≤_, _<_}
+use mathlib.Core.Path.{_≡_}
+use mathlib.Core.Logic.{_⊎_}
+use mathlib.Core.List.{List, _∷_, _++_}
+use lib.IntN.{ℤ}
+use lib.ListN.{length}
+use Rattle.memory.specs.Memory.{Memory, maxSlots}
+use Rattle.engine.specs.Calls.{numberOf}
+use Rattle.engine.specs.Calls.Answer.{restarted}
+use Rattle.engine.specs.Step.{step}
+use Rattle.engine.specs.Step.Call.{send, deliver, work}
+use Rattle.engine.specs.Restart.{restartStep}
+use Rattle.protocol.specs.Lists.{Mem}
+use Rattle.agreement.specs.Group.{call, restart, CallAt, fresh, run, Comes, Calls, Premise}
+
+abbrev pub giving : ℕ → List ℕ → CallAt
+giving k b = record { at = k; does = call (deliver b) }
+
+module _ (n : ℕ) (start : List ℤ) (cs : List CallAt) where
+  -- the block was given to replica k, its own maker too: a deliver of its bytes was called there, whatever it answered, after the block was handed out; and no restart of that replica was accepted since
+  pub record Given (k : ℕ) (b : List ℕ) : Type 0 where
+    pub before : List CallAt
+    pub later : List CallAt
+    pub comes : cs ≡ before ++ (giving k b ∷ later)
+    pub handed : Mem b (run n start (fresh n start) before .blocks)
+    pub since : (more : List CallAt) (journal block : List ℕ) (count : ℕ) (given : List ℕ) → Comes later more (record { at = k; does = restart journal block })
+        → restartStep (run n start (fresh n start) (before ++ (giving k b ∷ more)) .memories k) n k start journal block .answer ≡ restarted count given → ⊥
+
+  abbrev pub AllGiven : Type 0
+  AllGiven = (k : ℕ) → k < n → (b : List ℕ) → Mem b (run n start (fresh n start) cs .blocks) → Given k b
+
+  -- its turn is below 100,000,000
+  abbrev pub SlotsLeft : Type 0
+  SlotsLeft = (k : ℕ) × (k < n) × (run n start (fresh n start) cs .memories k .turn .slot < maxSlots)
+
+-- a send is accepted, of any 512 bytes lent
+abbrev pub CanSend : Memory → Type 0
+CanSend m = (lent : List ℕ) → length lent ≡ 512 → numberOf (step m (send lent) .answer) ≡ 0
+
+abbrev pub CanWork : Memory → Type 0
+CanWork m = numberOf (step m work .answer) ≡ 0
+
+abbrev pub ProgressTheorem : Type 0
+ProgressTheorem = (n : ℕ) (start : List ℤ) → 2 ≤ n → n ≤ 6 → length start ≡ 128 → (cs : List CallAt) → Calls n cs → Premise n start cs → AllGiven n start cs → SlotsLeft n start cs
+    → let g = run n start (fresh n start) cs in (k : ℕ) × (k < n) × (CanSend (g .memories k) ⊎ CanWork (g .memories k))

@@ -1,0 +1,141 @@
+-- How long a change may wait. Assumes nothing.
+use Prim.Native.Nat.{ℕ, suc, _+_, _*_, _-_, _/_, _%_, _≤_, _<_}
+use mathlib.Core.Path.{_≡_, sym, ap, _∙_}
+use mathlib.Core.Bool.{true, false, not}
+use mathlib.Core.List.{List, [], _∷_}
+use native.Mathlib.Nat.{div-add-mod, mod-lt, mul-suc, mul-add-mod-self-left, mod-eq-of-lt}
+use native.Mathlib.Omega.{arith}
+use lib.Dec.{leb}
+use lib.ListN.{set}
+use lib.Seq.{getD-set-same}
+use borrow.Author.Tests.{eq-eqb, leb-false, not-true}
+use Rattle.block.specs.Message.{ownerOf}
+use Rattle.block.proofs.BoolLaws.{both, not-so}
+use Rattle.memory.specs.declared.Txn.{Txn}
+use Rattle.memory.specs.Memory.{Memory}
+use Rattle.memory.specs.Rows.{closed, rowAt}
+use Rattle.engine.specs.Calls.{Answer, Outcome, numberOf}
+use Rattle.engine.specs.Calls.Answer.{queued}
+use Rattle.engine.specs.Make.{madeMemory}
+use Rattle.engine.specs.Client.{rowNo, rowIn, readOnlyAt, queueAt}
+use Rattle.engine.specs.Step.{Call, step}
+use Rattle.engine.specs.Step.Call.{ask}
+use Rattle.engine.specs.Restart.{restartRefusal}
+use Rattle.engine.specs.Shape.{Shape}
+use Rattle.engine.specs.History.{noCalls, counted, AnyCall, anyStep, afterAll}
+use Rattle.engine.specs.History.AnyCall.{call, restart}
+use Rattle.engine.specs.Waiting.{isOpenAs, endsAll, openAfter, EndsBy, Waiting}
+use Rattle.engine.proofs.Tests.{same-by, less-by, clash}
+use Rattle.engine.proofs.RowLaws.{row-found}
+use Rattle.engine.proofs.Steps.{ask-by, restart-by}
+use Rattle.engine.proofs.Passed.{RowPassed, ask-passed}
+use Rattle.engine.proofs.Shapes.{shapes}
+use Rattle.engine.proofs.Reached.{Reached, made-reached, any-reached, all-reached}
+use Rattle.engine.proofs.Due.{Due, due-each}
+
+-- ---- lists of calls
+
+-- no restart of the list was accepted where the transaction is open after it: an invariant of the calls holds then
+module _ (P : Memory → Type 0) (ticket : ℕ) (each : (m : Memory) → Reached m → P m → (c : Call) → P (step m c .memory)) where
+  pub kept-by : (m : Memory) → Reached m → P m → (c : AnyCall) → endsAll m c ≡ false → P (anyStep m c .memory)
+  kept-by m R p (call c) e = each m R p c
+  kept-by m R p (restart n own values journal block) e =
+      restart-by (λ (o : Outcome). P (o .memory)) m n own values journal block (λ z. clash (eq-eqb (restartRefusal m n own values block) 0 z) e) (λ z. p)
+
+  pub along : (m : Memory) → Reached m → P m → (cs : List AnyCall) → openAfter ticket m cs ≡ true → P (afterAll m cs)
+  unfolding openAfter afterAll
+  along m R p [] e = p
+  along m R p (c ∷ cs) e =
+      let b = both (not (endsAll m c)) (openAfter ticket (anyStep m c .memory) cs) e in
+      along (anyStep m c .memory) (any-reached m R c) (kept-by m R p c (not-true (endsAll m c) (b .left))) cs (b .right)
+
+pub open-last : (ticket : ℕ) (m : Memory) (cs : List AnyCall) → openAfter ticket m cs ≡ true → isOpenAs ticket (afterAll m cs) ≡ true
+unfolding openAfter afterAll
+open-last ticket m [] e = e
+open-last ticket m (c ∷ cs) e = open-last ticket (anyStep m c .memory) cs (both (not (endsAll m c)) (openAfter ticket (anyStep m c .memory) cs) e .right)
+
+pub row-below : (ticket : ℕ) (m : Memory) → isOpenAs ticket m ≡ true → rowNo m ticket < 6
+row-below ticket m e = leb-false 6 (rowNo m ticket) (not-true (leb 6 (rowNo m ticket)) e)
+
+-- ---- the ask
+
+module _ (m : Memory) (R : Reached m) (ticket s : ℕ) (early : m .turn .slot < s) (owns : ownerOf (m .counts .replicas) s ≡ m .counts .own) where
+  abbrev After : Outcome → Type 0
+  After o = Shape (R .over) (o .memory) → o .answer ≡ queued → (ticket ≡ 0 → ⊥) × Due ticket s (o .memory)
+
+  empty-ends : After (readOnlyAt m (rowNo m ticket))
+  unfolding readOnlyAt counted
+  empty-ends T e = absurd (let z : _≡_ {A = ℕ} 1 0 = ap (λ (a : Answer). counted 0 noCalls a .readOnlies) e in let y : ⊥ = omega arith in y)
+
+  -- its row is asked now, and no other has the ticket
+  joins : RowPassed m ticket → After (queueAt m (rowNo m ticket) (rowIn m (rowNo m ticket)))
+  unfolding queueAt
+  joins p T e =
+      let i = rowNo m ticket in
+      let f = row-found ticket (m .txns .table) (R .shape .lengths .table) (p .row) in
+      let t = rowIn m i in
+      let new : Txn = record { ticket = t .ticket; stage = 1; snapshot = t .snapshot; writes = t .writes } in
+      let w : rowAt (set (m .txns .table) i new) i ≡ new = getD-set-same (m .txns .table) i new closed (omega (arith, p .row, R .shape .lengths .table)) in (
+        f .some,
+        record {
+          owner = owns;
+          old = omega (arith, R .shape .rows i (p .row) .given, f .is);
+          rows = λ r h q. same-by r i
+              (λ z. record {
+                turn = omega arith;
+                asked = rw (z, w) (λ x. omega arith);
+                sent = λ x y. absurd (omega arith);
+              })
+              (λ d. absurd (T .distinct r i h (p .row) d (λ x. f .some (sym q ∙ x)) (q ∙ sym (f .is) ∙ ap (λ (x : Txn). x .ticket) (sym w))));
+        },
+      )
+
+  asked-due : step m (ask ticket) .answer ≡ queued → (ticket ≡ 0 → ⊥) × Due ticket s (step m (ask ticket) .memory)
+  asked-due =
+      ask-by After m ticket (λ e. empty-ends) (λ e d. joins (ask-passed m ticket e)) (λ e T q. absurd (e (ap numberOf q)))
+      (shapes .each m (R .shape) (ask ticket))
+
+-- ---- the next own slot
+
+-- among n successive slots one is own
+pub own-slot : (n own t : ℕ) → own < n → (s : ℕ) × (t < s) × (s ≤ t + n) × (ownerOf n s ≡ own)
+unfolding ownerOf
+own-slot n own t h =
+    let a = suc t % n in
+    let q = suc t / n in
+    let d = div-add-mod (suc t) n in
+    let l : suc t % n < n = mod-lt (suc t) {m = n} (omega arith) in
+    less-by own a
+    (λ u. let e = mul-suc n q in (n * suc q + own, omega arith, omega arith, mul-add-mod-self-left n (suc q) own ∙ mod-eq-of-lt h))
+    (λ u. (n * q + own, omega arith, omega arith, mul-add-mod-self-left n q own ∙ mod-eq-of-lt h))
+
+-- ---- the bound
+
+due-turn : (ticket s : ℕ) (m : Memory) → Reached m → Due ticket s m → isOpenAs ticket m ≡ true → m .turn .slot ≤ s
+due-turn ticket s m R D e =
+    let h = row-below ticket m e in
+    D .rows (rowNo m ticket) h (row-found ticket (m .txns .table) (R .shape .lengths .table) h .is) .turn
+
+ends-by : (m : Memory) → Reached m → (ticket : ℕ) → step m (ask ticket) .answer ≡ queued → (s : ℕ) → m .turn .slot < s → ownerOf (m .counts .replicas) s ≡ m .counts .own
+    → EndsBy m ticket s
+ends-by m R ticket q s l o cs h =
+    let k = step m (ask ticket) .memory in
+    let T = any-reached m R (call (ask ticket)) in
+    let a = asked-due m R ticket s l o q in
+    not-so (openAfter ticket k cs) (λ e.
+    let d = along (Due ticket s) ticket (λ n N D c. due-each n (N .shape) (N .sent) ticket s (a .0) D c) k T (a .1) cs e in
+    let z = due-turn ticket s (afterAll k cs) (all-reached k T cs) d (open-last ticket k cs e) in
+    omega arith)
+
+ends-later : (m : Memory) (ticket s u : ℕ) → s ≤ u → EndsBy m ticket s → EndsBy m ticket u
+ends-later m ticket s u l f cs h = f cs (omega arith)
+
+pub waiting-bound : Waiting
+waiting-bound = record {
+  slot = λ n own values l h o v cs ticket. ends-by (afterAll (madeMemory n own values) cs) (all-reached (madeMemory n own values) (made-reached n own values l h o v) cs) ticket;
+  bound = λ n own values l h o v cs ticket q.
+      let m = afterAll (madeMemory n own values) cs in
+      let R = all-reached (madeMemory n own values) (made-reached n own values l h o v) cs in
+      let s = own-slot (m .counts .replicas) (m .counts .own) (m .turn .slot) (R .shape .ranges .own) in
+      ends-later m ticket (s .0) (m .turn .slot + m .counts .replicas) (s .2) (ends-by m R ticket q (s .0) (s .1) (s .3));
+}
