@@ -1,5 +1,6 @@
 -- Document 02's Req 06: "And if, under the agreement's premises, every block handed out has been given to every replica since that replica was made or last restarted, no replica is down, and some replica
 -- has slots left, then some replica can send, or work without a refusal." No replica is down: each may be called at the end of the list, on the memory that it has there.
+-- Replicas alone are meant, k < n, in what was given as in what is promised. Calls at stations may stand in the list: a station sends nothing, so blocks, replicas' memories and the promise are as without them.
 use Prim.Native.Nat.{ℕ, _≤_, _<_}
 use mathlib.Core.Path.{_≡_}
 use mathlib.Core.Logic.{_⊎_}

@@ -56,3 +56,5 @@ pub mod Due
 pub mod Waiting
 pub mod Ended
 pub mod Come
+-- a station
+pub mod Stations

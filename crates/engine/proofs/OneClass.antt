@@ -11,7 +11,7 @@ use Rattle.block.specs.Message.{Record}
 use Rattle.block.specs.Answers.{recordAt, entryAt}
 use Rattle.block.proofs.BoolLaws.{both}
 use Rattle.memory.specs.Memory.{Store, Memory}
-use Rattle.engine.specs.Calls.{Outcome}
+use Rattle.engine.specs.Calls.{Outcome, unlessStation}
 use Rattle.engine.specs.Calls.Answer.{loaded}
 use Rattle.engine.specs.Make.{madeMemory}
 use Rattle.engine.specs.Moves.{entriesFor, writesetAt, blockAtTurn}
@@ -77,7 +77,7 @@ module _ {over : ℕ} (m : Memory) (S : Shape over m) (none : Unloaded m) where
   write-same : (ticket item : ℕ) (value : ℤ) → step m (write ticket item value) ≡ formerWrite m ticket item value
   unfolding step writeRow
   write-same ticket item value =
-      ap (λ (n : ℕ). writeUnless n m (rowNo m ticket) item value) (refusal-same (rowNo m ticket) item)
+      ap (λ (n : ℕ). unlessStation m (writeUnless n m (rowNo m ticket) item value)) (refusal-same (rowNo m ticket) item)
 
 -- ---- the table stays
 

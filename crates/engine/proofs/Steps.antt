@@ -1,23 +1,24 @@
 -- To prove P of a call's outcome, prove it of each thing the call may do, with what the tests tell there. Assumes nothing.
 use Prim.Native.Nat.{ℕ}
-use mathlib.Core.Path.{_≡_}
+use mathlib.Core.Path.{_≡_, refl}
 use mathlib.Core.Bool.{true, false}
 use mathlib.Core.List.{List}
+use native.Mathlib.Omega.{arith}
 use lib.Dec.{eqb}
 use lib.IntN.{ℤ}
 use lib.ListN.{length, getD, replicate}
 use borrow.Author.Tests.{eqb-true, eqb-false}
-use Rattle.memory.specs.Memory.{Memory, withClasses}
+use Rattle.memory.specs.Memory.{Memory, isStation, withClasses}
 use Rattle.memory.specs.Rows.{writeCount}
 use Rattle.engine.specs.Calls.{Outcome, outcome}
 use Rattle.engine.specs.Calls.Answer.{refused, got, loaded, restarted}
 use Rattle.engine.specs.Classes.{loadRefusal, loadStep}
-use Rattle.engine.specs.Client.{freeNo, rowNo, rowIn, ownIndex, isOwn, beginRefusal, beginAt, beginRow, readRefusal, valueFor, readRow, writeRefusal, rewriteAt, insertWrite, staleAt, writeRow, askRefusal, readOnlyAt, queueAt, askRow, withdrawRefusal, withdrawAt, withdrawRow}
+use Rattle.engine.specs.Client.{freeNo, rowNo, rowIn, ownIndex, isOwn, beginRefusal, beginAt, beginRow, readRefusal, valueFor, readRow, writeRefusal, rewriteAt, insertWrite, staleAt, writeRow, writeStep, askRefusal, readOnlyAt, queueAt, askRow, withdrawRefusal, withdrawAt, withdrawRow}
 use Rattle.engine.specs.Moves.{sendRefusal, sendNow, sendStep, deliverRefusal, deliverNow, deliverStep, blockAtTurn, writesetAt, workRefusal, passNext, commitWriteset, workStep}
 use Rattle.engine.specs.Restart.{blocksIn, lastOwn, restartedMemory, restartRefusal, restartStep}
 use Rattle.engine.specs.Step.{step}
 use Rattle.engine.specs.Step.Call.{begin, read, write, ask, withdraw, send, deliver, work, load}
-use Rattle.engine.proofs.Tests.{cond-by, unless-by}
+use Rattle.engine.proofs.Tests.{cond-by, not-first, unless-by}
 
 module _ (P : Outcome → Type 0) (m : Memory) where
   -- refused, with the memory as it was
@@ -32,16 +33,31 @@ module _ (P : Outcome → Type 0) (m : Memory) where
   unfolding step readRow
   read-by t i f r = unless-by P _ m f r
 
-  pub write-by : (t i : ℕ) (v : ℤ)
+  -- at a replica
+  pub write-step-by : (t i : ℕ) (v : ℤ)
       → (writeRefusal m (rowNo m t) i ≡ 9 → P (staleAt m (rowNo m t)))
       → (writeRefusal m (rowNo m t) i ≡ 0 → isOwn m (rowNo m t) i ≡ true → P (rewriteAt m (rowNo m t) (ownIndex m (rowNo m t) i) v))
       → (writeRefusal m (rowNo m t) i ≡ 0 → isOwn m (rowNo m t) i ≡ false → P (insertWrite m (rowNo m t) (rowIn m (rowNo m t)) i v))
       → ((writeRefusal m (rowNo m t) i ≡ 9 → ⊥) → Refused (writeRefusal m (rowNo m t) i))
-      → P (step m (write t i v))
-  unfolding step writeRow
-  write-by t i v s f g r =
+      → P (writeStep m t i v)
+  unfolding writeRow
+  write-step-by t i v s f g r =
       let n = writeRefusal m (rowNo m t) i in
       cond-by P (eqb n 9) (λ e. s (eqb-true n 9 e)) (λ e. unless-by P n m (λ z. cond-by P (isOwn m (rowNo m t) i) (f z) (g z)) (r (eqb-false n 9 e)))
+
+  -- refused by any number but 0 and 9
+  abbrev pub RefusedBut9 : Type 0
+  RefusedBut9 = (k : ℕ) → (k ≡ 9 → ⊥) → Refused k
+
+  -- the refusals are a write's own, and a station's 25
+  pub write-by : (t i : ℕ) (v : ℤ)
+      → (writeRefusal m (rowNo m t) i ≡ 9 → P (staleAt m (rowNo m t)))
+      → (writeRefusal m (rowNo m t) i ≡ 0 → isOwn m (rowNo m t) i ≡ true → P (rewriteAt m (rowNo m t) (ownIndex m (rowNo m t) i) v))
+      → (writeRefusal m (rowNo m t) i ≡ 0 → isOwn m (rowNo m t) i ≡ false → P (insertWrite m (rowNo m t) (rowIn m (rowNo m t)) i v))
+      → RefusedBut9
+      → P (step m (write t i v))
+  unfolding step
+  write-by t i v s f g r = cond-by P (isStation m) (λ e. r 25 (λ z. omega arith) (λ z. omega arith)) (λ e. write-step-by t i v s f g (r (writeRefusal m (rowNo m t) i)))
 
   pub ask-by : (t : ℕ)
       → (askRefusal m (rowNo m t) ≡ 0 → P (readOnlyAt m (rowNo m t)))
@@ -57,9 +73,9 @@ module _ (P : Outcome → Type 0) (m : Memory) where
   unfolding step withdrawRow
   withdraw-by t f r = unless-by P _ m f r
 
-  pub send-by : (b : List ℕ) → (sendRefusal m b ≡ 0 → P (sendNow m)) → Refused (sendRefusal m b) → P (step m (send b))
-  unfolding step sendStep
-  send-by b f r = unless-by P _ m f r
+  pub send-by : (b : List ℕ) → (sendRefusal m b ≡ 0 → P (sendNow m)) → RefusedBut9 → P (step m (send b))
+  unfolding step sendStep sendRefusal
+  send-by b f r = cond-by P (isStation m) (λ e. r 25 (λ z. omega arith) (λ z. omega arith)) (λ e. unless-by P (sendRefusal m b) m f (r (sendRefusal m b) (not-first 9 _ refl)))
 
   pub deliver-by : (b : List ℕ) → (deliverRefusal m b ≡ 0 → P (deliverNow m b)) → Refused (deliverRefusal m b) → P (step m (deliver b))
   unfolding step deliverStep

@@ -1,5 +1,5 @@
 -- How long a change may wait, document 02's Req 06: "If a nonempty ask is accepted at turn t, the transaction has ended when that replica's turn is above t + N." Of one replica, after any
--- calls with any bytes, restarts from any journal among them before and after; no premise.
+-- calls with any bytes, restarts from any journal among them before and after; no premise. At a station no ask is queued (`Stations.asks`).
 use Prim.Native.Nat.{ℕ, _+_, _≤_, _<_}
 use mathlib.Core.Path.{_≡_}
 use mathlib.Core.Bool.{Bool, true, false, not, _&&_}

@@ -21,7 +21,7 @@ pub struct Turn {
     pub applying: u8,
 }
 
-// Numbers of a replica: the group's size and its own number, the commit count, the writesets done of the block at the turn,
+// Numbers of a replica: the group's size and its own number (255 at a station, which has none), the commit count, the writesets done of the block at the turn,
 // the tickets given, and how its own transactions ended.
 #[repr(C)]
 pub struct Counts {
