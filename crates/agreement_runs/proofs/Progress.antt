@@ -27,7 +27,7 @@ use Rattle.engine.proofs.Tests.{same-by, clash}
 use Rattle.protocol.specs.Lists.{Mem, any}
 use Rattle.protocol.proofs.ListLaws.{any-false}
 use Rattle.agreement.specs.Group.{GroupCall, call, restart, messageIn, heard, CallAt, fresh, run, Comes, Calls}
-use Rattle.agreement.specs.Progress.{giving, Given, AllGiven}
+use Rattle.agreement_progress.specs.Progress.{giving, Given, AllGiven}
 use Rattle.agreement_runs.specs.Worked.{at, sending}
 use Rattle.agreement_runs.specs.Progress.{slotZero, given, ungiven, early, emptied, triedOn, tried, after, WorkedProgress}
 use Rattle.agreement_runs.proofs.Worked.{outage, allowed, premise-met, calls-met}
