@@ -2,6 +2,7 @@
 ghost use mathlib.Core.Path.{_≡_};
 ghost use Rattle.replay_calls.specs.Effects.{noReplica, areStation};
 use memory::Counts;
+use memory::NO_NUMBER;
 use memory::Turn;
 use memory::Txn;
 use replay_journal::Change;
@@ -40,11 +41,11 @@ pub struct Played {
     pub change: Change,
 }
 
-// Whether the numbers are a station's, which has none of its own.
+// Whether the numbers are a station's.
 pub fn is_station(counts: Counts) -> bool
     ensures { λ r. ⌜ r ≡ areStation counts ⌝ }
 {
-    counts.own == 255
+    counts.own == NO_NUMBER
 }
 
 // No replica.

@@ -14,13 +14,14 @@ use super::client;
 use super::is_station;
 use super::moves;
 use super::results::bare;
+use memory::NO_NUMBER;
 use replay_journal::Change;
 
 fn without_number(replica: Replica) -> Replica
     ensures { λ r. ⌜ r ≡ withCounts replica (withoutNumber (replica .counts)) ⌝ }
 {
     let mut counts = replica.counts;
-    counts.own = 255;
+    counts.own = NO_NUMBER;
     let mut after = replica;
     after.counts = counts;
     after
