@@ -42,7 +42,7 @@ sizeAt c replica = sizeLent (asMade c (replica .counts)) (replica .counts)
 abbrev pub effectAt : Call → List ℕ → List ℕ → Journal → Replica → Effect
 effectAt c named lent j replica = played (asMade c (replica .counts)) (bytesGiven c named j) lent (memoryOf (sizeAt c replica) replica)
 
--- that effect, and with the block that is left the journal by its rule; `room` is what the page has room for
+-- that effect, and with the block that is left the journal by its rule; `room` is what the page has room for. At a station the rule is the same, and no call asks for what is kept
 pub record PlaysAt (c : Call) (named lent : List ℕ) (room : ℕ) (j : Journal) (replica : Replica) (p : Placed) (page block : List ℕ) : Type 0 where
   pub plays : Plays (sizeAt c replica) replica (p .played) block (effectAt c named lent j replica)
   pub journal : journalOf (p .held) page ≡ changed room (bytesGiven c named j) block (effectAt c named lent j replica .change) j
