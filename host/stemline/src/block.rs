@@ -4,7 +4,8 @@ use std::str::FromStr;
 use std::{error, fmt};
 
 use crate::ffi::{self, Entry, Header};
-use crate::{accepted, Refusal, BLOCK};
+use crate::refusal::accepted;
+use crate::{Refusal, BLOCK};
 
 /// A good block, as a [`crate::Replica::send`] gives it and a journal keeps it.
 ///
