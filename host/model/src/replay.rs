@@ -136,7 +136,7 @@ impl Replay {
             Line::Cut { bytes, value } => {
                 let made = self.places[place].as_ref()?;
                 let journal = made.journal()?.get(..bytes as usize)?.to_vec();
-                let (n, own) = (made.replica.inbox.len() as u32, made.replica.own.into());
+                let (n, own) = (made.replica.inbox.len() as u32, made.replica.own?.into());
                 return Some(self.restart(place, n, own, value, journal));
             }
             Line::Restart {

@@ -58,7 +58,7 @@ impl Both {
 impl Subject for Both {
     fn call(&mut self, call: &Call) -> Result<Answer, u8> {
         self.before.clone_from(self.library.memory());
-        let _named = Named::new(self.model.own.into(), call);
+        let _named = Named::of(&self.model, call);
         let is_turn = self.library.is_turn();
         let (mut appended, mut due_appended) = (Vec::new(), Vec::new());
         let answer = play(&mut self.library, call, &mut appended);
@@ -199,7 +199,11 @@ pub fn same(model: &second::Replica, memory: &Memory) {
             usize::from(counts.own),
             usize::from(counts.done)
         ],
-        [model.inbox.len(), usize::from(model.own), model.done]
+        [
+            model.inbox.len(),
+            usize::from(model.own.expect("a number")),
+            model.done
+        ]
     );
     assert_eq!(
         [
