@@ -212,14 +212,15 @@ fn any_bytes() {
     let lines: Vec<&str> = said.lines().collect();
     let least = [
         ("make", 2),
+        ("make_station", 2),
         ("restart", 2),
         ("begin", 3),
         ("read", 4),
-        ("write", 8),
+        ("write", 9),
         ("ask", 3),
         ("withdraw", 3),
         ("report", 1),
-        ("send", 4),
+        ("send", 5),
         ("deliver", 7),
         ("work", 4),
         ("load", 4),
@@ -256,6 +257,10 @@ fn refused_makes() {
             for (size_t i = 0; i < sizeof sizes / sizeof sizes[0]; i++) {
                 int number = stemline_replica_make(&s.r, sizes[i], 6, start);
                 hold(number == STEMLINE_OUT_OF_RANGE && same(&s.r, &before.r), "make");
+                if (sizes[i] < 2 || sizes[i] > 6) {
+                    number = stemline_replica_make_station(&s.r, sizes[i], start);
+                    hold(number == STEMLINE_OUT_OF_RANGE && same(&s.r, &before.r), "make_station");
+                }
                 stemline_restart_reply reply =
                     stemline_replica_restart(&s.r, sizes[i], 6, start, NULL, 0, block);
                 hold(reply.number == STEMLINE_OUT_OF_RANGE && same(&s.r, &before.r), "restart");
