@@ -92,11 +92,12 @@ impl Replica {
     }
 
     /// As [`Replica::work`]; and beside the answer, if the turn left the slot of another, that one's
-    /// block, which is to be appended to the journal. An own block stands there since its send.
+    /// block, which is to be appended to the journal. An own block stands there since its send, and a
+    /// station has no journal.
     pub fn work_journaled(&mut self) -> Result<(Work, Option<[u8; BLOCK]>), u8> {
         let (work, left) = self.step()?;
         // A message has one block, so these are the bytes that were delivered.
-        let of_another = left.filter(|message| !self.is_own(message.sender));
+        let of_another = left.filter(|message| !self.is_station() && !self.is_own(message.sender));
         Ok((work, of_another.as_ref().map(block::encode)))
     }
 
