@@ -103,7 +103,7 @@ static inline const char *stemline_words(int number) {
     case STEMLINE_NOTHING_WAITS: return "no block waits for the turn";
     case STEMLINE_NOT_OPEN_AS_SENT: return "an own writeset whose transaction is not open as sent";
     case STEMLINE_LOAD_WHILE_APPLYING: return "classes are loaded while a block of another replica is being applied";
-    case STEMLINE_ONLY_READS: return "a station neither writes nor sends";
+    case STEMLINE_STATION_ONLY_READS: return "a station neither writes nor sends";
     default: return "refused by an unknown number";
     }
 }

@@ -66,7 +66,7 @@ enum stemline_number {
     STEMLINE_NOTHING_WAITS = 21,
     STEMLINE_NOT_OPEN_AS_SENT = 22,
     STEMLINE_LOAD_WHILE_APPLYING = 23,
-    STEMLINE_ONLY_READS = 25
+    STEMLINE_STATION_ONLY_READS = 25
 };
 
 /* ---- What a replica holds, beside arrays of numbers */

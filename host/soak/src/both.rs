@@ -9,6 +9,7 @@ use model::replica::{self as second, Restarted, Stage, ITEMS};
 use model::trace::{Answer, Call, Restart};
 use stemline::{Asked, Memory, Refusal, Replica, Report, Station, Work, NO_NUMBER};
 
+pub use self::station::stepped;
 use crate::lines::Named;
 
 /// The pair.
@@ -55,6 +56,12 @@ impl Both {
         };
         same(&both.model, both.library.memory());
         both
+    }
+
+    /// Puts another memory in the place of the library's.
+    pub fn put(&mut self, memory: Memory) {
+        self.station = Station::from_memory(memory.clone());
+        self.library = Replica::from_memory(memory);
     }
 
     /// Both after so many slots without records and so many transactions withdrawn.

@@ -60,7 +60,7 @@ pub enum Refusal {
     /// 23: a block of another replica is half applied.
     LoadWhileApplying,
     /// 25: a write or a send on the memory of a station. A [`crate::Station`] has neither call.
-    OnlyReads,
+    StationOnlyReads,
     /// A number that the table does not have: the library is newer than this crate.
     Unknown(u8),
 }
@@ -131,7 +131,7 @@ const TABLE: [(Refusal, &str); 25] = [
         "classes are loaded while a block of another replica is being applied",
     ),
     (Refusal::Unknown(24), UNKNOWN),
-    (Refusal::OnlyReads, "a station neither writes nor sends"),
+    (Refusal::StationOnlyReads, "a station neither writes nor sends"),
 ];
 
 impl Refusal {
@@ -236,6 +236,6 @@ mod tests {
         assert_eq!(Refusal::from_number(21), Some(Refusal::NothingWaits));
         assert_eq!(Refusal::from_number(22), Some(Refusal::NotOpenAsSent));
         assert_eq!(Refusal::from_number(23), Some(Refusal::LoadWhileApplying));
-        assert_eq!(Refusal::from_number(25), Some(Refusal::OnlyReads));
+        assert_eq!(Refusal::from_number(25), Some(Refusal::StationOnlyReads));
     }
 }

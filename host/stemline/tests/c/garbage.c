@@ -179,7 +179,7 @@ int main(void) {
             uint8_t said = play(&r, name);
             given[name][said]++;
             bool station = before.counts.own == STEMLINE_NO_NUMBER;
-            hold((said == STEMLINE_ONLY_READS) == (station && (name == WRITE || name == SEND)), "not 25");
+            hold((said == STEMLINE_STATION_ONLY_READS) == (station && (name == WRITE || name == SEND)), "not 25");
             hold(said != STEMLINE_NOT_SENT || !station, "19 at a station");
             hold(said == 0 || said == STEMLINE_STALE || same(&r, &before), names[name]);
             if (name == MAKE || name == STATION || name == RESTART) {

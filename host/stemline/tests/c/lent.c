@@ -176,7 +176,7 @@ static void give_back(stemline_replica *r) {
 static uint8_t called(const char *name, uint8_t (*call)(void), const enum part *lent, size_t count) {
     static parts before;
     bool only_reads = p.counts.own == STEMLINE_NO_NUMBER && (call == call_write || call == call_send);
-    uint8_t wrong = only_reads ? STEMLINE_ONLY_READS : STEMLINE_WRONG_LENGTH;
+    uint8_t wrong = only_reads ? STEMLINE_STATION_ONLY_READS : STEMLINE_WRONG_LENGTH;
     memcpy(&before, &p, sizeof p);
     for (size_t i = 0; i < 2 * count; i++) {
         size_t *told = &length[lent[i / 2]], right = *told;

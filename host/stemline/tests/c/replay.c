@@ -2,11 +2,11 @@
  * model/src/replay.rs; each line is one that the format takes. There are three more:
  *
  *     L k n own slots tickets
- *     I k n slots
+ *     I k n slots tickets
  *     T k n own b
  *
- * L makes a replica whose item i starts with 10 * i - 600, as it is after so many slots and tickets, I a
- * station, as it is after so many slots; T restarts such a replica from the first b bytes of the journal.
+ * L makes a replica whose item i starts with 10 * i - 600, as it is after so many slots and tickets, I such
+ * a station; T restarts such a replica from the first b bytes of the journal.
  *
  * It stops where a refused call has changed something, where is_turn is not what a send answers, where
  * a take is not a deliver with its works, and where a work's block is not the one that it leaves. */
@@ -77,14 +77,16 @@ static uint8_t make(stemline_replica *r, journal *j, char letter, const char *re
 
 /* make a station: with one value, or as the tests' stations are */
 static uint8_t make_station(stemline_replica *r, journal *j, char letter, const char *rest) {
-    uint32_t n, slots = 0;
+    uint32_t n, slots = 0, tickets = 0;
     int32_t value = 0, start[STEMLINE_ITEMS];
     int fields = letter == 'A' ? sscanf(rest, "%" SCNu32 " %" SCNd32, &n, &value)
-                               : sscanf(rest, "%" SCNu32 " %" SCNu32, &n, &slots);
-    hold(fields == 2, rest);
+                               : sscanf(rest, "%" SCNu32 " %" SCNu32 " %" SCNu32, &n, &slots, &tickets);
+    hold(fields == (letter == 'A' ? 2 : 3), rest);
     fill(start, letter == 'I', value);
     uint8_t number = stemline_replica_make_station(r, n, start);
     r->turn.slot += slots;
+    r->counts.tickets += tickets;
+    r->counts.withdrawn += tickets;
     j->length = number == 0 ? 0 : j->length;
     printf("%d", number);
     return number;

@@ -332,7 +332,7 @@ fn single_alterations() {
         (memory.counts.own, memory.counts.replicas) = (NO_NUMBER, 0);
         memory.turn.slot = u32::from(NO_NUMBER);
     });
-    assert_eq!(station.send(), Err(Refusal::OnlyReads));
+    assert_eq!(station.send(), Err(Refusal::StationOnlyReads));
     assert!(!station.is_turn());
     let good = samples::block_of(2, 1, &[]);
     let mut replica = places(200, 0);

@@ -2,6 +2,7 @@
 //! and by the proved program.
 
 mod program;
+mod stations;
 
 use std::io::{self, Write};
 

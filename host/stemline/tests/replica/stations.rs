@@ -32,9 +32,12 @@ fn step_by_step() {
     assert_eq!(station.begin(), Ok(1));
     let mut calling = over(&station);
     for (ticket, item) in [(1, 5), (9, 128), (0, u32::MAX)] {
-        assert_eq!(calling.write(ticket, item, 40), Err(Refusal::OnlyReads));
+        assert_eq!(
+            calling.write(ticket, item, 40),
+            Err(Refusal::StationOnlyReads)
+        );
     }
-    assert_eq!(calling.send(), Err(Refusal::OnlyReads));
+    assert_eq!(calling.send(), Err(Refusal::StationOnlyReads));
     assert!(calling == over(&station) && !calling.is_turn());
     assert_eq!(station.deliver(&block_of(2, 0, &[])), Ok(()));
     let step = |sender, ticket, moved| {
