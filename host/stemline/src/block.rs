@@ -4,8 +4,7 @@ use std::str::FromStr;
 use std::{error, fmt};
 
 use crate::ffi::{self, Entry, Header};
-use crate::refusal::accepted;
-use crate::{Refusal, BLOCK};
+use crate::{accepted, Refusal, BLOCK};
 
 /// A good block, as a [`crate::Replica::send`] gives it and a journal keeps it.
 ///

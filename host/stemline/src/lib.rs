@@ -98,3 +98,12 @@ pub const BLOCK: usize = 512;
 pub const STEPS: usize = 36;
 /// In the place of an own number: a station, which has none.
 pub const NO_NUMBER: u8 = 255;
+
+/// `Ok` of a value for 0, the refusal for any other number.
+#[inline]
+fn accepted<T>(number: u8, value: T) -> Result<T, Refusal> {
+    match Refusal::from_number(number) {
+        None => Ok(value),
+        Some(refusal) => Err(refusal),
+    }
+}

@@ -1,9 +1,9 @@
 //! One replica, over the memory that the calls are lent.
 
 use crate::ffi::{self, WorkReply};
-use crate::refusal::accepted;
 use crate::{
-    Asked, Memory, Refusal, Report, Restarted, Taken, Work, BLOCK, ITEMS, NO_NUMBER, SLOTS, STEPS,
+    accepted, Asked, Memory, Refusal, Report, Restarted, Taken, Work, BLOCK, ITEMS, NO_NUMBER,
+    SLOTS, STEPS,
 };
 
 /// One replica of a group.

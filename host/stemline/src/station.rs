@@ -1,9 +1,8 @@
 //! A station, which only reads.
 
 use crate::ffi;
-use crate::refusal::accepted;
 use crate::replica::works;
-use crate::{Memory, Refusal, Replica, Report, Step, Taken, BLOCK, ITEMS, NO_NUMBER};
+use crate::{accepted, Memory, Refusal, Replica, Report, Step, Taken, BLOCK, ITEMS, NO_NUMBER};
 
 /// A station of a group: it holds the group's values and lets transactions read them. It has no number and
 /// takes no turn, so it neither writes nor sends, and no replica waits for it.
