@@ -19,20 +19,23 @@ use Rattle.engine.specs.Calls.{Outcome}
 use Rattle.engine.specs.Calls.Answer.{restarted}
 use Rattle.engine.specs.Moves.{sentAlready, sameBytes, slotPast, isOwnBlock, notSentHere, nothingWaits}
 use Rattle.engine.specs.Restart.{blocksIn, restartStep}
+use Rattle.engine.specs.Step.{refusalOf}
+use Rattle.engine.specs.Step.Call.{deliver}
 use Rattle.engine.proofs.Tests.{cond-by, bool-by, same-by, less-by}
 use Rattle.engine.proofs.BlockFacts.{taken-block}
 use Rattle.engine.proofs.Steps.{restart-by}
+use Rattle.engine.proofs.Refusals.{refusals}
 use Rattle.engine.proofs.Waiting.{own-slot}
-use Rattle.engine.proofs.Come.{HasCome, come-each, bytes-same, Givable, come-given, works, sends}
+use Rattle.engine.proofs.Come.{HasCome, come-each, bytes-same, Givable, given-number, come-given, works, sends}
 use Rattle.protocol.specs.Lists.{Mem}
 use Rattle.protocol.specs.Writesets.{Message}
 use Rattle.protocol.specs.Journal.{journal}
 use Rattle.protocol.specs.Observer.{Handout, handoutMessage, noHandout}
 use Rattle.protocol.proofs.ListLaws.{update-by, update-same, mem-map, mem-getD, getD-map-in}
 use Rattle.protocol.proofs.SequenceLaws.{mem-at}
-use Rattle.agreement.specs.Group.{messageIn, GroupCall, call, restart, performed, Group, CallAt, fresh, did, next, run, Comes, Here, Calls, Premise}
+use Rattle.agreement.specs.Group.{messageIn, GroupCall, call, restart, performed, Group, CallAt, fresh, did, next, run, Comes, MayBeAt, Calls, Premise}
 use Rattle.agreement.specs.Journals.{blocksAt}
-use Rattle.agreement.specs.Progress.{giving, Given, AllGiven, SlotsLeft, CanSend, CanWork, ProgressTheorem}
+use Rattle.agreement.specs.Progress.{giving, Given, AllGiven, SlotsLeft, CanSend, CanWork, ProgressTheorem, HandedAnswers}
 use Rattle.agreement.proofs.View.{Sound}
 use Rattle.agreement.proofs.DeliverStep.{slot-said}
 use Rattle.agreement.proofs.Replicas.{Standing, as-replica, as-station, SoundAt}
@@ -170,13 +173,13 @@ module _ (n : ℕ) (start : List ℤ) (least : 2 ≤ n) (most : n ≤ 6) (long :
   none-from b G e = let a = owner-of b G in let l = mod-lt (headerOf b .slot) {m = n} (omega arith) in omega arith
 
   -- a station's call; it has no restart
-  station-hands : (B : List (List ℕ)) → ((b : List ℕ) → Mem b B → GoodBlock n b) → (k : ℕ) (m : Memory) → Sound n m → n ≤ k → m .counts .own ≡ noNumber → (d : GroupCall) → Here n k d
+  station-hands : (B : List (List ℕ)) → ((b : List ℕ) → Mem b B → GoodBlock n b) → (k : ℕ) (m : Memory) → Sound n m → n ≤ k → m .counts .own ≡ noNumber → (d : GroupCall) → MayBeAt n k d
       → Hands n noNumber B (performed n start k m d)
   station-hands B good k m s above e (call d) h =
       hands n noNumber m B s e (λ t b q o z. absurd (none-from b (good b q) o)) (λ b q o z. absurd (none-from b (good b q) o)) start (call d)
   station-hands B good k m s above e (restart j l) h = absurd (let w : ⊥ = omega arith in w)
 
-  blocks-next : (cs : List CallAt) → Calls n cs → Premise n start cs → (c : CallAt) → Here n (c .at) (c .does) → Blocks (at cs) → Blocks (next n start (at cs) c)
+  blocks-next : (cs : List CallAt) → Calls n cs → Premise n start cs → (c : CallAt) → MayBeAt n (c .at) (c .does) → Blocks (at cs) → Blocks (next n start (at cs) c)
   blocks-next cs f p c here B = by (stood cs f p (c .at) .stands)
     where
       s : Sound n (mem cs (c .at))
@@ -338,3 +341,10 @@ module _ (n : ℕ) (start : List ℤ) (least : 2 ≤ n) (most : n ≤ 6) (long :
 
 pub progress : ProgressTheorem
 progress n start least most long cs f p = goes n start least most long cs f p
+
+pub handed-answers : HandedAnswers
+unfolding refusalOf
+handed-answers n start least most long cs f p k h b q =
+    let m = run n start (fresh n start) cs .memories k in
+    subst (λ (a : ℕ). (a ≡ 0) ⊎ ((a ≡ 17) ⊎ (a ≡ 20))) (sym (refusals .number (run n start (fresh n start) cs .memories k) (deliver b)))
+    (given-number (run n start (fresh n start) cs .memories k) (held n start least most long cs f p k h .sound .sound .shape) b (givable n start least most long cs f p k h b q))

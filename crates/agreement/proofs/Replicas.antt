@@ -101,14 +101,17 @@ module _ (n : ℕ) (start : List ℤ) (least : 2 ≤ n) (most : n ≤ 6) (long :
       (λ e. let h = restart-passed m n k start b e .among in
       record { sound = sound-restarted n k start least most h long j; stands = as-replica h (restarted-own n k start (blocksIn n j)) }) (λ e. s)
 
-  pub made-sound : (k : ℕ) → SoundAt k (madeMember n start k)
-  made-sound k =
-      cond-by (SoundAt k) (ltb k n)
-      (λ e. let h = ltb-true k n e in record { sound = sound-made n k start least most h long; stands = as-replica h (made-own n k start) })
-      (λ e. record { sound = sound-station n start least most long; stands = as-station (ltb-false k n e) (made-own n noNumber start) })
+  made-stands : (k : ℕ) → Standing k (madeMember n start k)
+  made-stands k = cond-by (Standing k) (ltb k n) (λ e. as-replica (ltb-true k n e) (made-own n k _)) (λ e. as-station (ltb-false k n e) (made-own n noNumber _))
 
   pub made-like : (k : ℕ) → Alike (made (setup n start) k) (viewAt k (madeMember n start k))
   made-like k = cond-by (λ (m : Memory). Alike (made (setup n start) k) (viewAt k m)) (ltb k n) (λ e. made-alike n k k start) (λ e. made-alike n k noNumber start)
+
+  pub made-sound : (k : ℕ) → SoundAt k (madeMember n start k)
+  made-sound k = record {
+    sound = cond-by (Sound n) (ltb k n) (λ e. sound-made n k start least most (ltb-true k n e) long) (λ e. sound-station n start least most long);
+    stands = made-stands k;
+  }
 
   abbrev pub replicas : Machine (setup n start)
   replicas = record {

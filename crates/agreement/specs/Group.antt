@@ -1,5 +1,5 @@
 -- A group of replicas and stations with its observer and the replicas' journals, and lists of calls. Its members are numbered by all of ℕ: with n replicas, k is replica k below n, and from n
--- on a station; the number of a station is the list's, not its own.
+-- on a station. A station has no number: the one here only tells it from others.
 use Prim.Native.Nat.{ℕ, _*_, _≤_, _<_}
 use mathlib.Core.Path.{_≡_}
 use mathlib.Core.Bool.{true, cond}
@@ -206,13 +206,13 @@ abbrev pub Comes : List CallAt → List CallAt → CallAt → Type 0
 Comes cs before c = (after : List CallAt) × (cs ≡ before ++ (c ∷ after))
 
 -- a restart is a replica's; any other call may be a station's
-abbrev pub Here : ℕ → ℕ → GroupCall → Type 0
-Here n k (call c) = Unit
-Here n k (restart journal block) = k < n
+abbrev pub MayBeAt : ℕ → ℕ → GroupCall → Type 0
+MayBeAt n k (call c) = Unit
+MayBeAt n k (restart journal block) = k < n
 
 -- each call is at a replica of the group or at a station, and a value written is a signed 32-bit number, as the calls' types have it; all else is any
 abbrev pub Calls : ℕ → List CallAt → Type 0
-Calls n cs = (c : CallAt) → Mem c cs → Here n (c .at) (c .does) × (signed32 (argumentsOf (c .does) .value) ≡ true)
+Calls n cs = (c : CallAt) → Mem c cs → MayBeAt n (c .at) (c .does) × (signed32 (argumentsOf (c .does) .value) ≡ true)
 
 -- a cut leaves a first part of what was appended, also by the call there which it ended, of any kind, and never less than the floor
 pub record Lent (m : Memory) (d : Disk) (journal : List ℕ) : Type 0 where

@@ -1,11 +1,12 @@
 -- A host's calls are the engine's: the table keeps its six rows. Assumes nothing.
 use Prim.Native.Nat.{ℕ, _≤_, _<_}
 use mathlib.Core.Path.{_≡_, refl, sym, ap, _∙_}
+use mathlib.Core.Bool.{true}
 use mathlib.Core.List.{List, List·Memᴰ·head, List·Memᴰ·not-nil, List·Memᴰ·tail, [], _∷_, _++_}
 use lib.Dec.{eqb}
 use lib.IntN.{ℤ}
 use lib.ListN.{length}
-use Rattle.memory.specs.Memory.{Memory}
+use Rattle.memory.specs.Memory.{Memory, isStation}
 use Rattle.engine.specs.Calls.{Outcome, outcome, unlessStation}
 use Rattle.engine.specs.Calls.Answer.{refused}
 use Rattle.engine.specs.Shape.{Shape}
@@ -27,6 +28,13 @@ use Rattle.agreement.specs.Group.{GroupCall, call, restart, performed, Group, C
 use Rattle.agreement.proofs.Runs.{run-on}
 use Rattle.agreement.proofs.Handed.{six-rows}
 use Rattle.agreement_host.specs.Hosted.{hostStep, hostAfter, hostPerformed, hostRun, Hosted}
+
+-- at a station, whatever the table
+station-writes : (m : Memory) → isStation m ≡ true → (ticket item : ℕ) (value : ℤ) → hostStep m (write ticket item value) ≡ outcome (refused 25) m
+station-writes m h t i v = rw h refl
+
+station-sends : (m : Memory) → isStation m ≡ true → (block : List ℕ) → hostStep m (send block) ≡ outcome (refused 25) m
+station-sends m h b = rw h refl
 
 -- with six rows
 host-six : (m : Memory) → length (m .txns .table) ≡ 6 → (c : Call) → hostStep m c ≡ step m c
@@ -85,8 +93,8 @@ pub hosted : Hosted
 hosted = record {
   makes = λ m n own values six. called-six (λ x. makeStep x n own values) m six;
   station-makes = λ m n values six. called-six (λ x. stationStep x n values) m six;
-  station-writes = λ m h t i v. rw h refl;
-  station-sends = λ m h b. rw h refl;
+  station-writes = station-writes;
+  station-sends = station-sends;
   works = works;
   works-not = works-not;
   steps = λ n own values least most mine long cs c. host-six _ (shapes .all n own values least most mine long cs .lengths .table) c;

@@ -1,6 +1,7 @@
 -- A host's calls are the engine's. The contracts of the exported functions that are lent a table have `called`, which puts the test of its length in front of a step (a deliver
 -- and a load are lent none, and have the step itself), and a work also has `withBlock`, the test of the bytes lent for the block to append; on every memory that calls lead to, with 512 bytes
--- lent, it is the step, and with any other length it is refused by 1. In front of the table's length a write and a send have the test for a station, `unlessStation`. So what is proved of lists of calls, the agreement of the copies too, is proved of what hosts' calls do, one after the other, restarts too.
+-- lent, it is the step, and with any other length it is refused by 1. In front of the table's length a write and a send have the test for a station, `unlessStation`. So what is
+-- proved of lists of calls, the agreement of the copies too, is proved of what hosts' calls do, one after the other, restarts too.
 use Prim.Native.Nat.{ℕ, _≤_, _<_}
 use mathlib.Core.Path.{_≡_}
 use mathlib.Core.Bool.{true}

@@ -33,7 +33,7 @@ use Rattle.engine.proofs.Tests.{clash}
 use Rattle.protocol.specs.Lists.{Mem, any}
 use Rattle.protocol.specs.Observer.{sequence, applyAll}
 use Rattle.protocol.proofs.ListLaws.{any-true, any-false}
-use Rattle.agreement.specs.Group.{GroupCall, call, restart, argumentsOf, messageIn, heard, Disk, journalAfter, Group, CallAt, fresh, run, did, next, Comes, Here, Calls, Lent, Premise}
+use Rattle.agreement.specs.Group.{GroupCall, call, restart, argumentsOf, messageIn, heard, Disk, journalAfter, Group, CallAt, fresh, run, did, next, Comes, MayBeAt, Calls, Lent, Premise}
 use Rattle.agreement_runs.specs.Worked.{story, forgery, outages, watched, watching, numbers, watchedValues, seen, after, HeldBy, held, holding, storyValues, outageValues, WorkedRuns, halfApplied, classes, classesValues}
 use Rattle.agreement.proofs.Theorem.{agreement}
 
@@ -127,7 +127,7 @@ abbrev pub hereIn : ℕ → ℕ → GroupCall → Bool
 hereIn n k (call c) = true
 hereIn n k (restart j l) = ltb k n
 
-here-by : (n k : ℕ) (c : GroupCall) → hereIn n k c ≡ true → Here n k c
+here-by : (n k : ℕ) (c : GroupCall) → hereIn n k c ≡ true → MayBeAt n k c
 here-by n k (call c) e = tt
 here-by n k (restart j l) e = ltb-true k n e
 

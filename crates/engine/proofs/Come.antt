@@ -137,6 +137,19 @@ module _ {over : ℕ} (m : Memory) (S : Shape over m) (b : List ℕ) (G : Givabl
       let h : slotAhead m b ≡ false = lt-leb _ _ (G .high) in
       rw (lent, k .checks, k .forms, g, p, h, G .ours p, t) refl
 
+  -- its number: kept, past or placed already
+  pub given-number : (deliverRefusal m b ≡ 0) ⊎ ((deliverRefusal m b ≡ 17) ⊎ (deliverRefusal m b ≡ 20))
+  unfolding deliverRefusal firstOf
+  given-number =
+      let k = is-taken b (G .taken) in
+      let g : otherGroup m b ≡ false = rw (eq-eqb (headerOf b .replicas) (m .counts .replicas) (G .replicas)) in
+      let h : slotAhead m b ≡ false = lt-leb _ _ (G .high) in
+      bool-by (slotPast m b)
+      (λ p. inr (inl (rw (lent, k .checks, k .forms, g, p) refl)))
+      (λ p. bool-by (placeTaken m b)
+      (λ t. inr (inr (rw (lent, k .checks, k .forms, g, p, h, G .ours p, t) refl)))
+      (λ t. inl (none-refused p t)))
+
   -- a deliver of it is accepted, or the turn has passed its slot or its place is taken
   pub come-given : HasCome (headerOf b .slot) (step m (deliver b) .memory)
   come-given = deliver-by (λ (o : Outcome). HasCome (headerOf b .slot) (o .memory)) m b (λ e. here (deliver-passed m b e))

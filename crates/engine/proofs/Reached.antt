@@ -1,6 +1,6 @@
 -- What holds of every memory that calls and restarts at a replica lead to. Assumes nothing.
 use Prim.Native.Nat.{ℕ, _≤_, _<_}
-use mathlib.Core.Path.{_≡_, _∙_, ap}
+use mathlib.Core.Path.{_≡_, refl, _∙_, ap}
 use mathlib.Core.Bool.{false}
 use mathlib.Core.List.{List, [], _∷_}
 use native.Mathlib.Omega.{arith}
@@ -12,6 +12,7 @@ use Rattle.memory.specs.Memory.{Memory, noNumber, isStation}
 use Rattle.engine.specs.Calls.{Outcome}
 use Rattle.engine.specs.Make.{madeMemory}
 use Rattle.engine.specs.Restart.{blocksIn, restartedMemory}
+use Rattle.engine.specs.Step.{Call, step, after}
 use Rattle.engine.specs.Shape.{Shape}
 use Rattle.engine.specs.Sent.{SentShape}
 use Rattle.engine.specs.History.{AnyCall, anyStep, afterAll}
@@ -30,8 +31,14 @@ pub record Reached (m : Memory) : Type 0 where
   pub replica : isStation m ≡ false
 
 -- a number below N, which is at most 6, is one
-numbered : (m : Memory) (n own : ℕ) → m .counts .own ≡ own → own < n → n ≤ 6 → isStation m ≡ false
+pub numbered : (m : Memory) (n own : ℕ) → m .counts .own ≡ own → own < n → n ≤ 6 → isStation m ≡ false
 numbered m n own e o h = ne-eqb (m .counts .own) 255 (λ z. omega arith)
+
+-- calls alone leave the number
+pub own-after : {over : ℕ} (m : Memory) → Shape over m → (cs : List Call) → after m cs .counts .own ≡ m .counts .own
+unfolding after
+own-after m S [] = refl
+own-after m S (c ∷ cs) = own-after (step m c .memory) (shapes .each m S c) cs ∙ step-counted m S c .own
 
 pub made-reached : (n own : ℕ) (values : List ℤ) → 2 ≤ n → n ≤ 6 → own < n → length values ≡ 128 → Reached (madeMemory n own values)
 made-reached n own values l h o v = record { over = 0; shape = shapes .made n own values l h o v; sent = sent-shapes .made n own values; replica = numbered (madeMemory n own values) n own (made-own n own values) o h }

@@ -2,7 +2,6 @@
 use Prim.Native.Nat.{ℕ, zero, suc, _+_, _*_, _≤_, _<_, min}
 use mathlib.Core.Path.{_≡_, refl, sym, ap, _∙_, subst}
 use mathlib.Core.Bool.{Bool, true, false, cond, not, _&&_, _||_}
-use mathlib.Core.Logic.{_⊎_, inl, inr}
 use mathlib.Core.List.{List, [], _∷_}
 use native.Mathlib.Omega.{arith}
 use lib.Dec.{eqb, leb}
@@ -33,8 +32,8 @@ use Rattle.engine.specs.Step.Call.{begin, read, write, ask, withdraw, re
 use Rattle.engine.specs.Shape.{Shape}
 use Rattle.engine.specs.History.{Tally, noCalls, tally, reportFrom}
 use Rattle.engine.specs.Station.{stationMemory, stationRefusal, stationStep, OnlyReads, Stations}
-use Rattle.engine.proofs.Tests.{cond-by, clash, not-first, passes, unless-by}
-use Rattle.engine.proofs.Steps.{begin-by, read-by, ask-by, withdraw-by, deliver-by, work-by, load-by}
+use Rattle.engine.proofs.Tests.{cond-by, bool-by, clash, not-first, passes, unless-by}
+use Rattle.engine.proofs.Steps.{writes-refused, sends-refused, begin-by, read-by, ask-by, withdraw-by, deliver-by, work-by, load-by}
 use Rattle.engine.proofs.ShapeMade.{shape-station}
 use Rattle.engine.proofs.ShapeTurn.{working}
 use Rattle.engine.proofs.Shapes.{shapes, shape-after}
@@ -42,16 +41,6 @@ use Rattle.engine.proofs.Refusals.{at-replica, refusals}
 use Rattle.engine.proofs.Sent.{sent-shapes}
 use Rattle.engine.proofs.Unmet.{unmet-after}
 use Rattle.engine.proofs.Reports.{report-from, made-own, made-kept, step-counted, tally-kept}
-
--- ---- 25
-
-writes-refused : (m : Memory) → isStation m ≡ true → (t i : ℕ) (v : ℤ) → step m (write t i v) ≡ outcome (refused 25) m
-unfolding step
-writes-refused m h t i v = rw h refl
-
-sends-refused : (m : Memory) → isStation m ≡ true → (b : List ℕ) → step m (send b) ≡ outcome (refused 25) m
-unfolding step
-sends-refused m h b = rw h refl
 
 -- ---- every sender is another
 
@@ -109,44 +98,6 @@ never-own m h (send b) e = clash h (at-replica (isStation m) 19 (λ z. omega ari
 never-own m h (deliver b) e = deliver-other m h b e
 never-own m h work e = not-first 19 _ refl e
 never-own m h (load l) e = not-first 19 _ refl e
-
--- ---- 25 at a replica
-
--- nor is it among a write's numbers there
-write-numbers : (m : Memory) (r i : ℕ) → writeRefusal m r i ≡ 25 → ⊥
-unfolding writeRefusal
-write-numbers m r i e =
-    let a = passes _ _ refl e in
-    let b = passes _ _ refl (a .1) in
-    let c = passes _ _ refl (b .1) in
-    let d = passes _ _ refl (c .1) in
-    let f = passes _ _ refl (d .1) in
-    cond-by (λ (l : List Refusal). firstOf l ≡ 25 → ⊥) (isOwn m r i) (λ o. not-first 25 [] refl) (λ o. not-first 25 _ refl) (f .1)
-
-replica-numbers : (m : Memory) → isStation m ≡ false → (c : Call) → refusalOf m c ≡ 25 → ⊥
-unfolding refusalOf beginRefusal readRefusal askRefusal withdrawRefusal sendRefusal deliverRefusal workRefusal loadRefusal
-replica-numbers m h begin e = not-first 25 _ refl e
-replica-numbers m h (read t i) e = not-first 25 _ refl e
-replica-numbers m h (write t i v) e = write-numbers m (rowNo m t) i (rw h at e)
-replica-numbers m h (ask t) e = not-first 25 _ refl e
-replica-numbers m h (withdraw t) e = not-first 25 _ refl e
-replica-numbers m h report e = omega arith
-replica-numbers m h (send b) e = not-first 25 _ refl (rw h at e)
-replica-numbers m h (deliver b) e = not-first 25 _ refl e
-replica-numbers m h work e = not-first 25 _ refl e
-replica-numbers m h (load l) e = not-first 25 _ refl e
-
-own-after : {over : ℕ} (m : Memory) → Shape over m → (cs : List Call) → after m cs .counts .own ≡ m .counts .own
-unfolding after
-own-after m S [] = refl
-own-after m S (c ∷ cs) = own-after (step m c .memory) (shapes .each m S c) cs ∙ step-counted m S c .own
-
-replica-never : (n own : ℕ) (values : List ℤ) → 2 ≤ n → n ≤ 6 → own < n → length values ≡ 128 → (cs : List Call) (c : Call)
-    → step (after (madeMemory n own values) cs) c .answer ≡ refused 25 → ⊥
-replica-never n own values least most among long cs c e =
-    let m = madeMemory n own values in
-    let o = own-after m (shapes .made n own values least most among long) cs ∙ made-own n own values in
-    replica-numbers (after m cs) (ne-eqb (after m cs .counts .own) 255 (λ z. let w : ⊥ = omega arith in w)) c (sym (refusals .number (after m cs) c) ∙ ap numberOf e)
 
 -- ---- rows that wrote nothing
 
@@ -287,16 +238,6 @@ reads-after m S R (c ∷ cs) = reads-after (step m c .memory) (shapes .each m S 
 
 -- ---- what is answered
 
--- an ask's numbers with a queue of its length
-ask-number : (m : Memory) (t : ℕ) → length (m .txns .queue) ≡ 6 → (k : ℕ) → askRefusal m (rowNo m t) ≡ k → (k ≡ 0 → ⊥) → (k ≡ 4 → ⊥) → k ≡ 3
-unfolding askRefusal firstOf
-ask-number m t long k e z f = go (notOpen (rowNo m t)) (notActive m (rowNo m t)) (rw (eq-eqb (length (m .txns .queue)) 6 long) at e)
-  where
-    go : (a b : Bool) → cond a 3 (cond b 4 0) ≡ k → k ≡ 3
-    go true b q = sym q
-    go false true q = absurd (f (sym q))
-    go false false q = absurd (z (sym q))
-
 abbrev abortedIn : Answer → List ℕ
 abortedIn (refused n) = []
 abortedIn made = []
@@ -339,18 +280,20 @@ module _ {over : ℕ} (m : Memory) (S : Shape over m) (R : OnlyReads m) where
   not-four work e = not-first 4 _ refl e
   not-four (load l) e = not-first 4 _ refl e
 
-  -- an ask is read-only, or there is no such transaction
-  asked : (t : ℕ) → (step m (ask t) .answer ≡ refused 3) ⊎ (step m (ask t) .answer ≡ readOnly)
+  ask-number-is : (t : ℕ) → askRefusal m (rowNo m t) ≡ cond (notOpen (rowNo m t)) 3 0
+  unfolding askRefusal firstOf
+  ask-number-is t = rw (eq-eqb (length (m .txns .queue)) 6 (S .lengths .queue), stage-zero t) refl
+
+  -- an ask of an open transaction is read-only
+  asked : (t : ℕ) → step m (ask t) .answer ≡ cond (notOpen (rowNo m t)) (refused 3) readOnly
   unfolding readOnlyAt
   asked t =
-      ask-by (λ (o : Outcome). (o .answer ≡ refused 3) ⊎ (o .answer ≡ readOnly)) m t (λ e. inr refl)
-      (λ e n. absurd (let w = R .unwritten (rowNo m t) in n (omega arith))) (λ z. inl (ap refused (only-three z)))
+      bool-by (notOpen (rowNo m t))
+      (λ o. rw o (ask-by (λ (x : Outcome). x .answer ≡ refused 3) m t (λ e. absurd (no-zero (rw o at (ask-number-is t)) e)) (λ e n. absurd (no-zero (rw o at (ask-number-is t)) e)) (λ z. ap refused (rw o at (ask-number-is t)))))
+      (λ o. rw o (ask-by (λ (x : Outcome). x .answer ≡ readOnly) m t (λ e. refl) (λ e n. absurd (let w = R .unwritten (rowNo m t) in n (omega arith))) (λ z. absurd (z (rw o at (ask-number-is t))))))
     where
-      only-three : (askRefusal m (rowNo m t) ≡ 0 → ⊥) → askRefusal m (rowNo m t) ≡ 3
-      only-three z = go (askRefusal m (rowNo m t)) refl z
-        where
-          go : (k : ℕ) → askRefusal m (rowNo m t) ≡ k → (k ≡ 0 → ⊥) → k ≡ 3
-          go k e d = ask-number m t (S .lengths .queue) k e d (λ f. not-four (ask t) (unfold refusalOf in e ∙ f))
+      no-zero : askRefusal m (rowNo m t) ≡ 3 → askRefusal m (rowNo m t) ≡ 0 → ⊥
+      no-zero a b = omega arith
 
   aborts-none : (s : Step) → step m work .answer ≡ worked s → s .aborted ≡ []
   aborts-none s = work-by (λ (o : Outcome). o .answer ≡ worked s → s .aborted ≡ []) m
@@ -405,16 +348,16 @@ stations = record {
   makes = λ m n values h. unfold stationStep in rw (eq-eqb (stationRefusal m n values) 0 h) refl;
   writes = writes-refused;
   sends = sends-refused;
-  never-own = λ m h c e. never-own m h c (sym (refusals .number m c) ∙ ap numberOf e);
-  replicas = replica-never;
+  never-19 = λ m h c e. never-own m h c (sym (refusals .number m c) ∙ ap numberOf e);
   shape = shaped;
-  reads = reading;
+  only-reads = reading;
   queue = λ n values l h v cs. none-queued _ (shaped n values l h v cs) (idle _ (reading n values l h v cs));
   report = reported-is;
   sum = summed;
+  others = λ n values l h v cs. waits-other (after (stationMemory n values) cs) (shaped n values l h v cs) (reading n values l h v cs .station);
   condition = λ n values l h v cs. none-unsent (after (stationMemory n values) cs) (shaped n values l h v cs) (reading n values l h v cs .station);
   asks = λ n values l h v cs. asked _ (shaped n values l h v cs) (reading n values l h v cs);
-  never-asked = λ n values l h v cs c. by-number n values l h v cs c 4 (not-four _ (shaped n values l h v cs) (reading n values l h v cs) c);
-  never-unsent = λ n values l h v cs. unmet-after (stationMemory n values) (shape-station n values l h v) (sent-shapes .made n noNumber values) cs;
+  never-4 = λ n values l h v cs c. by-number n values l h v cs c 4 (not-four _ (shaped n values l h v cs) (reading n values l h v cs) c);
+  never-22 = λ n values l h v cs. unmet-after (stationMemory n values) (shape-station n values l h v) (sent-shapes .made n noNumber values) cs;
   aborts = λ n values l h v cs. aborts-none _ (shaped n values l h v cs) (reading n values l h v cs);
 }

@@ -1,6 +1,6 @@
 -- To prove P of a call's outcome, prove it of each thing the call may do, with what the tests tell there. Assumes nothing.
 use Prim.Native.Nat.{ℕ}
-use mathlib.Core.Path.{_≡_, refl}
+use mathlib.Core.Path.{_≡_, refl, sym, subst}
 use mathlib.Core.Bool.{true, false}
 use mathlib.Core.List.{List}
 use native.Mathlib.Omega.{arith}
@@ -18,7 +18,24 @@ use Rattle.engine.specs.Moves.{sendRefusal, sendNow, sendStep, deliverRe
 use Rattle.engine.specs.Restart.{blocksIn, lastOwn, restartedMemory, restartRefusal, restartStep}
 use Rattle.engine.specs.Step.{step}
 use Rattle.engine.specs.Step.Call.{begin, read, write, ask, withdraw, send, deliver, work, load}
-use Rattle.engine.proofs.Tests.{cond-by, not-first, unless-by}
+use Rattle.engine.proofs.Tests.{cond-by, bool-by, not-first, unless-by}
+
+-- document 02's Req 05: at a station a write and a send are refused by 25, before any other reason, and change nothing; at a replica they are its steps
+pub writes-refused : (m : Memory) → isStation m ≡ true → (t i : ℕ) (v : ℤ) → step m (write t i v) ≡ outcome (refused 25) m
+unfolding step
+writes-refused m h t i v = rw h refl
+
+pub sends-refused : (m : Memory) → isStation m ≡ true → (b : List ℕ) → step m (send b) ≡ outcome (refused 25) m
+unfolding step
+sends-refused m h b = rw h refl
+
+pub writes-so : (m : Memory) → isStation m ≡ false → (t i : ℕ) (v : ℤ) → step m (write t i v) ≡ writeStep m t i v
+unfolding step
+writes-so m h t i v = rw h refl
+
+pub sends-so : (m : Memory) → isStation m ≡ false → (b : List ℕ) → step m (send b) ≡ sendStep m b
+unfolding step
+sends-so m h b = rw h refl
 
 module _ (P : Outcome → Type 0) (m : Memory) where
   -- refused, with the memory as it was
@@ -56,8 +73,9 @@ module _ (P : Outcome → Type 0) (m : Memory) where
       → (writeRefusal m (rowNo m t) i ≡ 0 → isOwn m (rowNo m t) i ≡ false → P (insertWrite m (rowNo m t) (rowIn m (rowNo m t)) i v))
       → RefusedBut9
       → P (step m (write t i v))
-  unfolding step
-  write-by t i v s f g r = cond-by P (isStation m) (λ e. r 25 (λ z. omega arith) (λ z. omega arith)) (λ e. write-step-by t i v s f g (r (writeRefusal m (rowNo m t) i)))
+  write-by t i v s f g r =
+      bool-by (isStation m) (λ e. subst P (sym (writes-refused m e t i v)) (r 25 (λ z. omega arith) (λ z. omega arith)))
+      (λ e. subst P (sym (writes-so m e t i v)) (write-step-by t i v s f g (r (writeRefusal m (rowNo m t) i))))
 
   pub ask-by : (t : ℕ)
       → (askRefusal m (rowNo m t) ≡ 0 → P (readOnlyAt m (rowNo m t)))
@@ -74,8 +92,10 @@ module _ (P : Outcome → Type 0) (m : Memory) where
   withdraw-by t f r = unless-by P _ m f r
 
   pub send-by : (b : List ℕ) → (sendRefusal m b ≡ 0 → P (sendNow m)) → RefusedBut9 → P (step m (send b))
-  unfolding step sendStep sendRefusal
-  send-by b f r = cond-by P (isStation m) (λ e. r 25 (λ z. omega arith) (λ z. omega arith)) (λ e. unless-by P (sendRefusal m b) m f (r (sendRefusal m b) (not-first 9 _ refl)))
+  unfolding sendStep sendRefusal
+  send-by b f r =
+      bool-by (isStation m) (λ e. subst P (sym (sends-refused m e b)) (r 25 (λ z. omega arith) (λ z. omega arith)))
+      (λ e. subst P (sym (sends-so m e b)) (unless-by P (sendRefusal m b) m f (r (sendRefusal m b) (not-first 9 _ refl))))
 
   pub deliver-by : (b : List ℕ) → (deliverRefusal m b ≡ 0 → P (deliverNow m b)) → Refused (deliverRefusal m b) → P (step m (deliver b))
   unfolding step deliverStep

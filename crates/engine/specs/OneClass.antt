@@ -1,4 +1,4 @@
--- With no table of classes loaded a write is what it was before document 02's Req 02, on every memory that calls lead to (but for a station's 25, which came later).
+-- With no table of classes loaded a write is what it was before document 02's Req 02, on every memory that calls lead to.
 use Prim.Native.Nat.{ℕ, _≤_, _<_}
 use mathlib.Core.Path.{_≡_}
 use mathlib.Core.Bool.{Bool, true, false, cond, not, _&&_}
@@ -7,8 +7,8 @@ use lib.Dec.{eqb}
 use lib.IntN.{ℤ}
 use lib.ListN.{length, replicate}
 use Rattle.block.specs.Answers.{refuse, firstOf}
-use Rattle.memory.specs.Memory.{Memory, writesLent}
-use Rattle.engine.specs.Calls.{Outcome, unlessStation}
+use Rattle.memory.specs.Memory.{Memory, isStation, writesLent}
+use Rattle.engine.specs.Calls.{Outcome}
 use Rattle.engine.specs.Calls.Answer.{loaded}
 use Rattle.engine.specs.Make.{madeMemory}
 use Rattle.engine.specs.Classes.{isApplying}
@@ -34,7 +34,7 @@ formerRefusal m r item =
     ∷ []))
 
 abbrev pub formerWrite : Memory → ℕ → ℕ → ℤ → Outcome
-formerWrite m ticket item value = unlessStation m (writeUnless (formerRefusal m (rowNo m ticket) item) m (rowNo m ticket) item value)
+formerWrite m ticket item value = writeUnless (formerRefusal m (rowNo m ticket) item) m (rowNo m ticket) item value
 
 -- no table is loaded
 abbrev pub Unloaded : Memory → Type 0
@@ -58,7 +58,7 @@ noLoads [] = true
 noLoads (c ∷ cs) = not (isLoad c) && noLoads cs
 
 pub record OneClass : Type 0 where
-  pub writes : {over : ℕ} (m : Memory) → Shape over m → Unloaded m → (ticket item : ℕ) (value : ℤ)
+  pub writes : {over : ℕ} (m : Memory) → Shape over m → isStation m ≡ false → Unloaded m → (ticket item : ℕ) (value : ℤ)
       → step m (write ticket item value) ≡ formerWrite m ticket item value
   -- an accepted load alone changes the table
   pub kept : (m : Memory) (c : Call) → (step m c .answer ≡ loaded → ⊥) → step m c .memory .store .classes ≡ m .store .classes

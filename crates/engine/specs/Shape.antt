@@ -30,7 +30,7 @@ pub record Lengths (m : Memory) : Type 0 where
 pub record Ranges (over : ℕ) (m : Memory) : Type 0 where
   pub least : 2 ≤ m .counts .replicas
   pub most : m .counts .replicas ≤ 6
-  -- a station has no number; any other is one of the group's
+  -- a replica's number is below N (`Numbered.stays`: a replica is no station); a station has none
   pub own : isStation m ≡ false → m .counts .own < m .counts .replicas
   pub slot : m .turn .slot ≤ maxSlots
   pub tickets : m .counts .tickets ≤ maxTickets
