@@ -2,8 +2,8 @@
 //! of document 02, Req 01, and the stations of Req 05. The loads of Req 02 change nothing on it.
 //!
 //! It is fed member, call and answer of each call and nothing else, a member being a replica or a
-//! station, and says which sentences of document 01's demand 3 the group breaks. For tests: its memory
-//! and the time of a check grow with the list of calls.
+//! station, and says which sentences of document 01's demand 3 the group breaks, and which answers a
+//! station may not give. For tests: its memory and the time of a check grow with the list of calls.
 
 mod check;
 mod restart;

@@ -34,16 +34,16 @@ impl Observer {
         call: &Call,
         answer: &Result<Answer, u8>,
     ) -> bool {
-        let (what, only_reads) = match call {
+        let (what, turned_away) = match call {
             Call::Write { .. } => ("a write", true),
             Call::Send => ("a send", true),
             _ => ("a call", false),
         };
         let refused = answer.as_ref().err().copied();
         let wrong = match refused {
-            Some(STATION_ONLY_READS) => !only_reads,
+            Some(STATION_ONLY_READS) => !turned_away,
             Some(NOT_SENT | NOT_ACTIVE) => true,
-            _ => only_reads,
+            _ => turned_away,
         };
         if wrong {
             let said = match refused {
@@ -57,6 +57,6 @@ impl Observer {
             let text = format!("{}: an ask did not end as read-only", self.name(member));
             self.broken.push(text);
         }
-        !only_reads
+        !turned_away
     }
 }
