@@ -7,6 +7,7 @@ use mathlib.Core.Logic.{_⊎_, inl, inr}
 use borrow.Author.Tests.{eq-eqb, ne-eqb}
 use lib.Dec.{eqb}
 use lib.ListN.{length}
+use Rattle.memory.specs.Memory.{numberless}
 use Rattle.memory.specs.declared.Counts.{Counts}
 use Rattle.replay_parse.specs.declared.Call.{Call}
 use Rattle.replay_journal.specs.declared.Change.{Change}
@@ -14,15 +15,15 @@ use Rattle.replay_journal.specs.declared.Held.{Held}
 use Rattle.replay_journal.specs.Journals.{Journal, changed, journalOf, hasPart, bytesGiven}
 use Rattle.replay_calls.specs.declared.Played.{Played}
 use Rattle.replay_calls.specs.declared.Replica.{Replica}
-use Rattle.replay_calls.specs.Effects.{memoryOf, sizeLent, areStation, Effect, played, Plays}
+use Rattle.replay_calls.specs.Effects.{memoryOf, sizeLent, Effect, played, Plays}
 use Rattle.replay.specs.Places.{isReplica, isThere, isAnswered, asMade, PlaysAt}
 
 -- ---- whether there is an answer
 
-pub replica-not : (counts : Counts) → areStation counts ≡ true → false ≡ isReplica counts
+pub replica-not : (counts : Counts) → numberless counts ≡ true → false ≡ isReplica counts
 replica-not counts e = rw e
 
-pub replica-made : (counts : Counts) → areStation counts ≡ false → not (eqb (counts .replicas) 0) ≡ isReplica counts
+pub replica-made : (counts : Counts) → numberless counts ≡ false → not (eqb (counts .replicas) 0) ≡ isReplica counts
 replica-made counts e = rw e
 
 module _ (c : Call) (counts : Counts) where

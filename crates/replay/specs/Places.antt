@@ -5,17 +5,18 @@ use mathlib.Core.Bool.{Bool, false, true, cond, not, _&&_, _||_}
 use mathlib.Core.List.{List}
 use lib.Dec.{eqb}
 use lib.ListN.{length}
+use Rattle.memory.specs.Memory.{numberless}
 use Rattle.memory.specs.declared.Counts.{Counts}
 use Rattle.replay_parse.specs.declared.Call.{Call}
 use Rattle.replay_journal.specs.declared.Held.{Held}
 use Rattle.replay_journal.specs.Journals.{Journal, changed, journalOf, hasPart, bytesGiven}
 use Rattle.replay.specs.declared.Placed.{Placed}
 use Rattle.replay_calls.specs.declared.Replica.{Replica}
-use Rattle.replay_calls.specs.Effects.{memoryOf, isMake, sizeLent, areStation, Effect, played, Plays}
+use Rattle.replay_calls.specs.Effects.{memoryOf, isMake, sizeLent, Effect, played, Plays}
 
 -- a replica was made, and not a station
 abbrev pub isReplica : Counts → Bool
-isReplica counts = not (areStation counts) && not (eqb (counts .replicas) 0)
+isReplica counts = not (numberless counts) && not (eqb (counts .replicas) 0)
 
 -- J, P and Z are calls at a replica alone: a station has no journal, and no classes
 abbrev pub isReplicas : ℕ → Bool

@@ -7,7 +7,7 @@ use native.Mathlib.Omega.{arith}
 use borrow.Author.Tests.{eq-eqb}
 use lib.Dec.{eqb}
 use lib.IntN.{ℤ}
-use Rattle.memory.specs.Memory.{Memory, noNumber}
+use Rattle.memory.specs.Memory.{Memory, noNumber, numberless}
 use Rattle.engine.specs.Calls.{numberOf, Outcome, outcome, unlessStation}
 use Rattle.engine.specs.Calls.Answer.{refused, made}
 use Rattle.engine.specs.Make.{madeMemory, makeRefusal, makeStep}
@@ -16,18 +16,18 @@ use Rattle.engine.proofs.Stations.{stations}
 use Rattle.replay_journal.specs.declared.Change.the-variants.{Stays, Begins}
 use Rattle.replay_calls.specs.declared.Played.{Played}
 use Rattle.replay_calls.specs.declared.Replica.{Replica}
-use Rattle.replay_calls.specs.Effects.{memoryOf, areStation, withoutNumber, withCounts, Effect, effect, Plays}
+use Rattle.replay_calls.specs.Effects.{memoryOf, withoutNumber, withCounts, Effect, effect, Plays}
 use Rattle.replay_calls.proofs.EffectLaws.{plays-bare}
 
 -- ---- 25 at a station
 
 module _ (size : ℕ) (replica : Replica) {p : Played} (lent : List ℕ) (o : Outcome) where
-  pub station-refuses : areStation (replica .counts) ≡ true
+  pub station-refuses : numberless (replica .counts) ≡ true
       → p ≡ record { replica = replica; number = 25; count = 0; numbers = p .numbers; shown = 0; values = p .values; change = Stays }
       → Plays size replica p lent (effect lent (unlessStation (memoryOf size replica) o))
   station-refuses e is = rw e (plays-bare is refl refl)
 
-  pub replica-does : {left : List ℕ} → areStation (replica .counts) ≡ false → Plays size replica p left (effect lent o)
+  pub replica-does : {left : List ℕ} → numberless (replica .counts) ≡ false → Plays size replica p left (effect lent o)
       → Plays size replica p left (effect lent (unlessStation (memoryOf size replica) o))
   replica-does e h = rw e h
 

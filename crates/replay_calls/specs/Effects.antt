@@ -67,10 +67,6 @@ isMake c = eqb (c .letter) 77 || (eqb (c .letter) 89 || eqb (c .letter) 65)
 abbrev pub sizeLent : Call → Counts → ℕ
 sizeLent c counts = placesSize (cond (isMake c) (c .first) (counts .replicas))
 
--- whether the numbers are a station's: so is then every memory that has them, by `isStation`
-abbrev pub areStation : Counts → Bool
-areStation counts = eqb (counts .own) noNumber
-
 abbrev pub withoutNumber : Counts → Counts
 withoutNumber c = record {
   replicas = c .replicas;

@@ -1,6 +1,7 @@
 // A call at a replica or a station, by its letter. Both have one kind of memory, which goes in and out by value.
 ghost use mathlib.Core.Path.{_≡_};
-ghost use Rattle.replay_calls.specs.Effects.{noReplica, areStation};
+ghost use Rattle.memory.specs.Memory.{numberless};
+ghost use Rattle.replay_calls.specs.Effects.{noReplica};
 use memory::Counts;
 use memory::NO_NUMBER;
 use memory::Turn;
@@ -43,7 +44,7 @@ pub struct Played {
 
 // Whether the numbers are a station's.
 pub fn is_station(counts: Counts) -> bool
-    ensures { λ r. ⌜ r ≡ areStation counts ⌝ }
+    ensures { λ r. ⌜ r ≡ numberless counts ⌝ }
 {
     counts.own == NO_NUMBER
 }

@@ -170,15 +170,6 @@ impl Refusal {
     }
 }
 
-/// `Ok` of a value for 0, the refusal for any other number.
-#[inline]
-pub(crate) fn accepted<T>(number: u8, value: T) -> Result<T, Refusal> {
-    match Refusal::from_number(number) {
-        None => Ok(value),
-        Some(refusal) => Err(refusal),
-    }
-}
-
 impl fmt::Display for Refusal {
     fn fmt(&self, f: &mut fmt::Formatter) -> fmt::Result {
         write!(f, "{} ({})", self.words(), self.number())
