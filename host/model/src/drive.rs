@@ -67,10 +67,8 @@ pub struct Group<S> {
     /// What the run met.
     pub seen: Seen,
     style: Style,
-    /// The replica that gets no block for now.
+    /// The member that gets no block for now; most often there is none of this index.
     withheld: usize,
-    /// The station that gets no block for now.
-    lagging: Option<usize>,
     /// Station and slot of the blocks handed out that it refused by 18 and has not taken since.
     refused_far: BTreeSet<(usize, u32)>,
 }
@@ -88,7 +86,6 @@ impl<S: Subject> Group<S> {
             withheld: members.len(),
             replicas: members.len(),
             stations: Vec::new(),
-            lagging: None,
             refused_far: BTreeSet::new(),
             members,
         }
@@ -129,12 +126,10 @@ impl<S: Subject> Group<S> {
                 }
                 Call::Send
             }
-            10..35 if self.withheld != k && self.lagging != Some(k) => {
-                match self.random_bytes(random, k) {
-                    Some(bytes) => Call::Deliver { bytes },
-                    None => Call::Work,
-                }
-            }
+            10..35 if self.withheld != k => match self.random_bytes(random, k) {
+                Some(bytes) => Call::Deliver { bytes },
+                None => Call::Work,
+            },
             _ => Call::Work,
         };
         // A refused call answers, and no more; an answer is checked by the tests.

@@ -30,16 +30,10 @@ impl<S: Subject> Group<S> {
         &self.stations
     }
 
-    /// The station of the next random call, if it is one's; now and then one starts or ends to lag.
-    pub(super) fn random_station(&mut self, random: &mut Random) -> Option<usize> {
-        if self.stations.is_empty() {
-            return None;
-        }
-        if random.below(200) == 0 {
-            let at = random.below(2 * self.stations.len());
-            self.lagging = self.stations.get(at).copied();
-        }
-        (random.below(4) == 0).then(|| random.pick(&self.stations))
+    /// The station of the next random call, if it is one's: so few that stations fall behind.
+    pub(super) fn random_station(&self, random: &mut Random) -> Option<usize> {
+        let is_stations = !self.stations.is_empty() && random.below(4) == 0;
+        is_stations.then(|| random.pick(&self.stations))
     }
 
     /// What became of a block that was handed out. Other bytes say nothing.

@@ -119,7 +119,7 @@ impl Group {
     fn offer(&mut self, list: &mut List, at: usize, slot: u32) {
         let place = self.stations[at].place;
         let number = self.blocks[&slot];
-        let kept = list.replay.block(number).is_some() && slot % 8 > 0;
+        let kept = list.replay.block(number).is_some() && !slot.is_multiple_of(8);
         let answer = match self.handed_out(list, slot) {
             Some(block) if !kept => list.deliver_bytes(place, &block),
             _ => list.call(&format!("D {place} {number}")),
