@@ -237,7 +237,7 @@ impl Replica {
         )
     }
 
-    /// Gives each of the 128 items a conflict class, 1 to [`CLASSES`], in the place of the ones that it
+    /// Gives each of the 128 items a conflict class, 1 to [`crate::CLASSES`], in the place of the ones that it
     /// had. While a block of another is applied, writeset by writeset, only items wait (7) whose class
     /// holds an item of a writeset still to be applied. After [`Replica::new`] and after
     /// [`Replica::restart`] all items are of one class. Classes are the host's own matter: they go into no
