@@ -81,7 +81,8 @@ impl Replica {
     }
 
     /// A replica of a memory that was taken from one before. Where its places have another length
-    /// than its counts say, write, deliver and work are refused by 1.
+    /// than its counts say, write, deliver and work are refused by 1. Of a station's memory, which has no
+    /// number, write and send are refused by 25, and [`crate::Station::from_memory`] makes a station.
     pub fn from_memory(memory: Memory) -> Replica {
         Replica {
             memory: Box::new(memory),
@@ -116,8 +117,8 @@ impl Replica {
     }
 
     /// Puts the item with its value into the writeset and locks it. While a block of another is applied,
-    /// 7 if an item of its class is still to come (see [`Replica::load`]). Refused by 25 (on a station's
-    /// memory), 1, 2, 3, 4, 7, 8, 9, 10.
+    /// 7 if an item of its class is still to come (see [`Replica::load`]). Refused by 25, 1, 2, 3, 4, 7, 8,
+    /// 9, 10.
     #[inline]
     pub fn write(&mut self, ticket: u32, item: u32, value: i32) -> Result<(), Refusal> {
         let m = &mut *self.memory;
@@ -177,7 +178,7 @@ impl Replica {
 
     /// The block for the own slot, with the writesets of all transactions asked so far, be it none. It
     /// goes to every replica of the group, this one too; where there is a journal, once it stands there
-    /// and is durable. Refused by 25 (on a station's memory), 13, 11, 12.
+    /// and is durable. Refused by 25, 13, 11, 12.
     #[inline]
     pub fn send(&mut self) -> Result<[u8; BLOCK], Refusal> {
         let mut block = [0; BLOCK];
@@ -237,7 +238,7 @@ impl Replica {
         )
     }
 
-    /// Gives each of the 128 items a conflict class, 1 to [`CLASSES`], in the place of the ones that it
+    /// Gives each of the 128 items a conflict class, 1 to [`crate::CLASSES`], in the place of the ones that it
     /// had. While a block of another is applied, writeset by writeset, only items wait (7) whose class
     /// holds an item of a writeset still to be applied. After [`Replica::new`] and after
     /// [`Replica::restart`] all items are of one class. Classes are the host's own matter: they go into no

@@ -351,3 +351,29 @@ fn takes_at_altered_memory() {
     "#;
     assert_eq!(run_c("takes", source, b""), "14 0:\n0 22: 1 2\n20 0:\n");
 }
+
+/// It is never a station's turn, also where altered memory has no replicas and the slot is its number.
+#[test]
+fn no_turn_at_a_station() {
+    let source = r#"
+        #include "same.h"
+        int main(void) {
+            static stemline_replica r;
+            static int32_t start[STEMLINE_ITEMS];
+            uint8_t block[STEMLINE_BLOCK];
+            for (uint32_t slot = 0; slot < 600; slot++) {
+                for (uint8_t n = 0; n <= 6; n++) {
+                    stemline_replica_make_station(&r, 2, start);
+                    r.turn.slot = slot;
+                    r.counts.replicas = n;
+                    hold(!stemline_replica_is_turn(&r), "is_turn at a station");
+                    hold(stemline_replica_send(&r, block) == STEMLINE_STATION_ONLY_READS, "send: not 25");
+                }
+            }
+            stemline_replica_make(&r, 2, 0, start);
+            printf("%d\n", stemline_replica_is_turn(&r));
+            return 0;
+        }
+    "#;
+    assert_eq!(run_c("station_turn", source, b""), "1\n");
+}
