@@ -46,8 +46,11 @@ maxSlots = 100_000_000
 abbrev pub noNumber : ℕ
 noNumber = 255
 
+abbrev pub numberless : Counts → Bool
+numberless c = eqb (c .own) noNumber
+
 abbrev pub isStation : Memory → Bool
-isStation m = eqb (m .counts .own) noNumber
+isStation m = numberless (m .counts)
 
 -- one more; at its type's limit, where no list of calls leads, a count stays
 unfoldable pub bump : ℕ → ℕ

@@ -48,11 +48,33 @@ pub struct Restarted {
     pub last: Option<[u8; BLOCK]>,
 }
 
-/// What one [`crate::Replica::take`] did.
+/// What one [`crate::Station::work`] did. It aborts nobody, and has no journal to append to.
+#[derive(Clone, Copy, Debug, PartialEq, Eq)]
+pub struct Step {
+    /// The replica whose block stands at the turn.
+    pub sender: u8,
+    /// The ticket of the writeset committed, 0 for a block without records.
+    pub ticket: u32,
+    /// Whether the turn went up.
+    pub moved: bool,
+}
+
+impl Step {
+    /// What a step is at a station.
+    pub(crate) fn of(work: &Work) -> Step {
+        Step {
+            sender: work.sender,
+            ticket: work.ticket,
+            moved: work.moved,
+        }
+    }
+}
+
+/// What one [`crate::Replica::take`] did, or one [`crate::Station::take`], by [`Step`]s.
 #[derive(Clone, Debug, PartialEq, Eq)]
-pub struct Taken {
+pub struct Taken<W = Work> {
     /// The steps, in their order.
-    pub steps: Vec<Work>,
+    pub steps: Vec<W>,
     /// The refusal, other than [`Refusal::NothingWaits`], of a work that ended the steps. Only altered
     /// memory leads to one.
     pub refused: Option<Refusal>,

@@ -2,11 +2,14 @@
 
 mod list;
 mod rewrite;
+mod station;
 
 use std::io::Write;
 
 use self::list::{answered, hex, List};
-use crate::{works, Asked, Refusal, Replica, Report, Restarted, Taken, Work, BLOCK, ITEMS};
+pub use self::station::StationRecorder;
+use crate::replica::works;
+use crate::{Asked, Refusal, Replica, Report, Restarted, Taken, Work, BLOCK, ITEMS};
 
 /// The most bytes that a line of the list delivers, restarts from, and loads.
 const DELIVERED: usize = 520;
