@@ -79,7 +79,7 @@ to-second = record {
 }
 
 all-given : AllGiven 2 zeros given
-all-given k h b m =
+all-given k h b m ahead =
     subst (Given 2 zeros given k) (sym (only b (subst (Mem b) (given-computed .0) m)))
     (same-by k 0 (λ e. subst (λ (i : ℕ). Given 2 zeros given i slotZero) (sym e) to-first)
     (λ d. let e : k ≡ 1 = omega (arith, d) in subst (λ (i : ℕ). Given 2 zeros given i slotZero) (sym e) to-second))

@@ -34,7 +34,7 @@ use Rattle.protocol.specs.Lists.{Mem, any}
 use Rattle.protocol.specs.Observer.{sequence, applyAll}
 use Rattle.protocol.proofs.ListLaws.{any-true, any-false}
 use Rattle.agreement.specs.Group.{GroupCall, call, restart, argumentsOf, messageIn, heard, Disk, journalAfter, Group, CallAt, fresh, run, did, next, Comes, MayBeAt, Calls, Lent, Premise}
-use Rattle.agreement_runs.specs.Worked.{story, forgery, outages, watched, watching, numbers, watchedValues, seen, after, HeldBy, held, holding, storyValues, outageValues, WorkedRuns, halfApplied, classes, classesValues}
+use Rattle.agreement_runs.specs.Worked.{story, forgery, outages, fourth, watched, watching, numbers, watchedValues, seen, after, HeldBy, held, holding, storyValues, outageValues, WorkedRuns, halfApplied, classes, classesValues}
 use Rattle.agreement.proofs.Theorem.{agreement}
 
 -- ---- the premise as a test
@@ -185,12 +185,13 @@ stations-computed : (allowed 3 zeros (fresh 3 zeros) (watched ++ watching) [] �
       replica-0 = holding watchedValues 2;
       station-3 = holding watchedValues 2;
       station-4 = holding (set zeros 10 (pos 80)) 1;
-      since = got (pos 80);
-      before = got (pos 0);
+      applied-before = got (pos 80);
+      applied-after = got (pos 0);
       report = record { turn = 2; commits = 2; tickets = 2; «open_count» = 1; committed = 0; «read_only» = 1; aborted = 0; withdrawn = 0 };
     })
+    × (any (sameBytes fourth) (after watched .blocks) ≡ true)
 unfolding bytesOf numberFrom valueBytes valueOf word sumTo weightedTo firstCheck secondCheck checkBytes checkMatches ownerOf within kindFits entriesFit recordFits recordsFit ticketAbsent ticketsDiffer valid signed32 entryBytes entriesBytes recordBytes recordsBytes headerFor headerBytes bodyBytes blockOf entryOf entriesOf recordOf recordsOf messageOf allZero entriesPadded recordPadded recordsPadded padded wellFormed firstOf headerOf recordAt entryAt entriesFrom bump rowFrom rowOf freeRow indexFrom has holderFrom countBelow placeStart madeMemory beginRefusal beginAt beginRow writeRefusal rewriteAt insertWrite staleAt writeRow hasClass classFrom classToCome mustWait areClasses loadRefusal loadStep askRefusal readOnlyAt queueAt askRow reportOf waiting writesetOf messageFor sendRefusal sendNow sendStep sameBytes deliverRefusal deliverNow deliverStep entriesFor applied stamped shares afterAborts insertRising hitTickets without workRefusal passNext commitWriteset workStep step run any allowed numbers openCount readRefusal valueFor readRow
-stations-computed = (refl, refl, refl)
+stations-computed = (refl, refl, refl, refl)
 
 story-calls : Calls 3 story
 unfolding any signed32
@@ -221,6 +222,7 @@ worked-runs = record {
   station-runs = let c = stations-computed in record {
     calls = stations-calls;
     premise = premise-met 3 zeros (watched ++ watching) [] (c .0);
+    handed = let m = any-true (sameBytes fourth) (after watched .blocks) (c .3) in subst (λ (b : List ℕ). Mem b (after watched .blocks)) (sym (same-bytes fourth (m .0) (m .1 .1))) (m .1 .0);
     answers = c .1;
     ends = c .2;
   };

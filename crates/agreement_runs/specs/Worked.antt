@@ -13,6 +13,7 @@ use Rattle.engine.specs.Client.{reportOf}
 use Rattle.engine.specs.Step.{Call, step}
 use Rattle.engine.specs.Worked.{zeros}
 use Rattle.engine.specs.Step.Call.{begin, read, write, ask, send, deliver, work, load}
+use Rattle.protocol.specs.Lists.{Mem}
 use Rattle.agreement.specs.Group.{Group, call, restart, CallAt, fresh, did, next, run, Calls, Premise}
 
 abbrev pub at : ℕ → Call → CallAt
@@ -214,13 +215,13 @@ pub record ClassesRun : Type 0 where
   pub replica-1 : held classes 1 ≡ holding classesValues 3
   pub replica-2 : held classes 2 ≡ holding classesValues 3
 
--- what replica 0 and the stations hold, and what station 3 reads and reports
+-- what replica 0 and the stations hold, and what station 3 reads, of an item applied before the begin and of one applied after it, and reports
 pub record Seen : Type 0 where
   pub replica-0 : HeldBy
   pub station-3 : HeldBy
   pub station-4 : HeldBy
-  pub since : Answer
-  pub before : Answer
+  pub applied-before : Answer
+  pub applied-after : Answer
   pub report : Report
 
 abbrev pub seen : Group → Seen
@@ -228,22 +229,24 @@ seen g = record {
   replica-0 = holding (g .memories 0 .store .values) (reportOf (g .memories 0) .commits);
   station-3 = holding (g .memories 3 .store .values) (reportOf (g .memories 3) .commits);
   station-4 = holding (g .memories 4 .store .values) (reportOf (g .memories 4) .commits);
-  since = step (g .memories 3) (read 2 10) .answer;
-  before = step (g .memories 3) (read 2 20) .answer;
+  applied-before = step (g .memories 3) (read 2 10) .answer;
+  applied-after = step (g .memories 3) (read 2 20) .answer;
   report = reportOf (g .memories 3);
 }
 
--- the stations' calls meet the premise; station 3 holds what replica 0 holds, station 4 what it held after slot 0; a read gives what was there at its begin
+-- the stations' calls meet the premise; slot 3's block was handed out, and station 4 answers it by 18; station 3 holds what replica 0 holds, station 4 what replica 0 held after slot 0; a read
+-- gives what was there at its begin
 pub record StationRun : Type 0 where
   pub calls : Calls 3 (watched ++ watching)
   pub premise : Premise 3 zeros (watched ++ watching)
+  pub handed : Mem fourth (after watched .blocks)
   pub answers : numbers (after watched) watching ≡ 0 ∷ 0 ∷ 18 ∷ 0 ∷ 0 ∷ 0 ∷ 0 ∷ 25 ∷ 25 ∷ 25 ∷ 0 ∷ 0 ∷ 0 ∷ []
   pub ends : seen (after (watched ++ watching)) ≡ record {
     replica-0 = holding watchedValues 2;
     station-3 = holding watchedValues 2;
     station-4 = holding (set zeros 10 (pos 80)) 1;
-    since = got (pos 80);
-    before = got (pos 0);
+    applied-before = got (pos 80);
+    applied-after = got (pos 0);
     report = record { turn = 2; commits = 2; tickets = 2; «open_count» = 1; committed = 0; «read_only» = 1; aborted = 0; withdrawn = 0 };
   }
 

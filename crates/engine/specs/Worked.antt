@@ -115,6 +115,6 @@ pub record RightAnswers : Type 0 where
       ∷ work ∷ write 1 8 (pos 1) ∷ write 2 40 (pos 2) ∷ write 1 6 (pos 1)
       ∷ work ∷ write 2 40 (pos 2) ∷ load threeClasses ∷ load (replicate 128 9) ∷ load [] ∷ [])))
       ≡ 0 ∷ 0 ∷ 7 ∷ 7 ∷ 23 ∷ 0 ∷ 0 ∷ 7 ∷ 9 ∷ 0 ∷ 0 ∷ 0 ∷ 2 ∷ 1 ∷ []
-  -- document 02's Req 05: a station is made in a group of 2 to 6; where its parts have no length a write and a send still give 25, and it takes replica 0's block
+  -- document 02's Req 05: a station is made in a group of 2 to 6; a write of no item and a send lent no bytes give 25, and it takes replica 0's block
   pub station : map (λ (n : ℕ). numberOf (stationStep (fresh 6 0) n zeros .answer)) (1 ∷ 6 ∷ 7 ∷ []) ≡ 2 ∷ 0 ∷ 2 ∷ []
   pub station-calls : numbers (stationMemory 2 zeros) (write 1 128 (pos 1) ∷ send [] ∷ deliver (nextBlock 2 0 0) ∷ work ∷ []) ≡ 25 ∷ 25 ∷ 0 ∷ 0 ∷ []
