@@ -90,7 +90,7 @@ module _ (m : Memory) (ticket item : ℕ) (value : ℤ) where
       not-so (staleAndHeld m ticket item)
       (λ e.
       let z : _≡_ {A = ℕ} 9 8 =
-          ap (λ (o : Outcome). numberOf (o .answer)) (sym (changed e .1)) ∙ (ap numberOf q ∙ ap (λ (o : Outcome). numberOf (o .answer)) (changed e .0)) in
+      ap (λ (o : Outcome). numberOf (o .answer)) (sym (changed e .1)) ∙ (ap numberOf q ∙ ap (λ (o : Outcome). numberOf (o .answer)) (changed e .0)) in
       omega arith)
 
 pub staleness-first : StalenessFirst
