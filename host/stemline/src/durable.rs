@@ -1,11 +1,11 @@
 //! A replica whose blocks stand in a journal, so that it can be opened again after a cut of the power.
 
 use std::path::Path;
-use std::{error, fmt};
+use std::{error, fmt, io};
 
-use crate::{
-    Asked, DiskError, Journal, Refusal, Replica, Report, Restarted, Taken, Work, BLOCK, ITEMS,
-};
+use crate::head::Head;
+use crate::journal::Journal;
+use crate::{Asked, DiskError, Refusal, Reopened, Replica, Report, Taken, Work, BLOCK, ITEMS};
 
 /// One replica of a group with its journal in a file.
 ///
@@ -16,24 +16,31 @@ use crate::{
 /// more than the file has. The [`Replica`] itself is not given out, since after a failed send it holds a
 /// block that nobody may have.
 ///
-/// What an open cuts off the file has a limit, which [`Durable::open`] names.
+/// The file says whose journal it is ([`crate::Head`]), and keeps copies of its last two rounds: what an
+/// open takes up, mends, cuts off and refuses, [`Durable::open`] names.
 ///
 /// ```
 /// use stemline::{Durable, Failure, ITEMS};
 ///
 /// fn main() -> Result<(), Failure> {
 ///     let path = std::env::temp_dir().join(format!("stemline-{}.journal", std::process::id()));
-///     let (mut replica, _) = Durable::open(&path, 2, 0, &[0; ITEMS])?;
+///     let (mut replica, _) = Durable::open(&path, "grotesque", 2, 0, &[0; ITEMS])?;
 ///     let ticket = replica.begin()?;
 ///     replica.write(ticket, 5, 40)?;
 ///     replica.ask(ticket)?;
 ///     let block = replica.send()?;
 ///     // The power is cut before anybody has the block.
 ///     drop(replica);
-///     let (replica, restarted) = Durable::open(&path, 2, 0, &[0; ITEMS])?;
+///     let (replica, reopened) = Durable::open(&path, "grotesque", 2, 0, &[0; ITEMS])?;
 ///     assert_eq!(replica.values()[5], 40);
+///     assert_eq!(reopened.committed, [ticket]);
 ///     // It is handed out once more.
-///     assert_eq!(restarted.last, Some(block));
+///     assert_eq!(reopened.last, Some(block));
+///     // Nobody else's file is taken up.
+///     drop(replica);
+///     let other = Durable::open(&path, "antiqua", 2, 0, &[0; ITEMS]);
+///     let words = "it is of the group \"grotesque\", not of \"antiqua\"";
+///     assert!(other.unwrap_err().to_string().ends_with(words));
 /// #   let _ = std::fs::remove_file(path);
 ///     Ok(())
 /// }
@@ -53,42 +60,59 @@ pub enum Failure {
 }
 
 impl Durable {
-    /// Opens replica `own` of `n` from its journal, with the group's values to start with; with no
-    /// file, or an empty one, it is a new replica. What a cut tore is cut off the file. The last own
-    /// block goes to every replica of the group once more. No classes are loaded. Refused by 2.
+    /// Opens replica `own` of `n` of a group from its journal, with the group's values to start with. With
+    /// no file, or an empty one, it is a new replica, and the file gets its head. The last own block goes to
+    /// every replica of the group once more. No classes are loaded. Refused by 2.
     ///
-    /// A cut tears at most the blocks up to the next own slot, `n` at most, since that one's is made
-    /// durable before anything follows. A file with more behind its last good block is left as it is, with
-    /// an error: it is damaged, or of a group of another size. Damage within what a cut can tear looks as
-    /// if a cut had torn it: it is cut off, also an own block that was handed out.
+    /// A file with another head, of another replica, group, size or start, or with none, is left as it is,
+    /// with an error that names what differs. The group's name has 1 to 255 bytes and no control characters.
     ///
-    /// A block says the size of its group and nothing else of it: the journal of another replica, or of
-    /// a group with other values to start with, is taken up as if it were this one's. The host sees to
-    /// that, for instance by the file's name.
+    /// What a cut tore is cut off the file. It tears at most the blocks up to the next own slot, `n` at
+    /// most, since that one's is made durable before anything follows; a file with more behind its last good
+    /// block is damaged and left as it is, with an error.
     ///
-    /// A file from before the check of 32-bit sums has no good block. With more than `own + 1` blocks it
-    /// is such an error, with fewer it is cut off as torn: all replicas of a group change together, each
-    /// with a new file.
+    /// Where the good blocks end before the last own one that was sent, they are put back from the copies in
+    /// the head, which reach two rounds back. Damage before that is an error, and the file is left as it is.
+    /// So no own block that was handed out is ever cut off and sent anew, if not both the block and its copy
+    /// are damaged at once.
+    ///
+    /// Tickets above the highest in own blocks are given again: see [`Reopened`].
     pub fn open(
         path: impl AsRef<Path>,
+        group: &str,
         n: u32,
         own: u32,
         values: &[i32; ITEMS],
-    ) -> Result<(Durable, Restarted), Failure> {
+    ) -> Result<(Durable, Reopened), Failure> {
+        let path = path.as_ref();
         // What is refused makes no file.
         Replica::new(n, own, values)?;
-        let (mut journal, bytes) = Journal::open(path)?;
-        let (replica, restarted) = Replica::restart(n, own, values, &bytes)?;
-        let taken = BLOCK * restarted.blocks as usize;
-        if bytes.len() - taken > torn(n, own, restarted.blocks) {
-            let words = format!(
-                "its block {} is none of the group's, and more than a cut can tear is behind it",
-                restarted.blocks
-            );
-            return Err(journal.error("take up", &words).into());
+        let head = Head::new(group, n, own, values)
+            .map_err(|words| DiskError::new("open", path, io::Error::other(words)))?;
+        let (mut journal, found) = Journal::open(path, &head)?;
+        let restart = |bytes: &[u8]| Replica::restart(n, own, values, bytes);
+        let (replica, restarted) = journal.lend(&found, restart)??;
+        if restarted.blocks != found.tally.turn {
+            // The reader of blocks is held to the restart by tests.
+            let words = "a restart does not take up the blocks that are read";
+            return Err(journal.error("take up", words).into());
         }
-        journal.cut(taken as u64)?;
-        Ok((Durable { replica, journal }, restarted))
+        journal.take_up(&found)?;
+        let reopened = Reopened {
+            blocks: restarted.blocks,
+            last: restarted.last,
+            cut: found.behind,
+            why: found.stop,
+            mended: found.mended.len() as u32,
+            committed: found
+                .tally
+                .committed
+                .iter()
+                .map(|&(ticket, _)| ticket)
+                .collect(),
+            tickets: replica.report().tickets,
+        };
+        Ok((Durable { replica, journal }, reopened))
     }
 
     /// As [`Replica::values`].
@@ -139,8 +163,7 @@ impl Durable {
     /// As [`Replica::send`]; the block, and all that the journal has before it, is durable.
     pub fn send(&mut self) -> Result<[u8; BLOCK], Failure> {
         let block = self.going()?.send()?;
-        self.journal.append(&block)?;
-        self.journal.sync()?;
+        self.journal.send(&block)?;
         Ok(block)
     }
 
@@ -175,13 +198,6 @@ impl Durable {
         self.journal.going()?;
         Ok(&mut self.replica)
     }
-}
-
-/// The most bytes that a cut tears behind so many good blocks: those of the slots up to the next own one,
-/// which is durable before anything follows.
-fn torn(n: u32, own: u32, blocks: u32) -> usize {
-    let others = (own + n - blocks % n) % n;
-    BLOCK * (others as usize + 1)
 }
 
 impl Failure {

@@ -49,23 +49,31 @@
 mod answers;
 mod block;
 mod blocks;
+mod digest;
 mod disk;
 mod durable;
 pub mod ffi;
+mod head;
 mod journal;
+mod map;
 mod memory;
 mod recorder;
 mod refusal;
+mod reopened;
+mod round;
+mod tally;
 
 pub use answers::{Asked, Restarted, Taken, Work};
 pub use block::{Block, DigitsError, Record};
 pub use blocks::{Blocks, Stop};
 pub use durable::{Durable, Failure};
 pub use ffi::{Entry, Report};
-pub use journal::{DiskError, Journal};
+pub use head::{Head, HEAD};
+pub use journal::DiskError;
 pub use memory::Memory;
 pub use recorder::Recorder;
 pub use refusal::Refusal;
+pub use reopened::Reopened;
 
 // The limits, by the names and with the numbers that they have in C (`STEMLINE_` in front).
 

@@ -1,9 +1,10 @@
 //! Shows and checks journals and blocks.
 //!
-//! - `journal show FILE` prints a line for each good block, as [`Block`] writes it, and a last one that
-//!   says where they stop and why.
-//! - `journal check FILE` prints that last line alone. The status is 0 where the file is good blocks to
-//!   its end, 1 where they stop before.
+//! - `journal show FILE` prints whose journal it is, as [`Head`] writes it, which slots its head has copies
+//!   of, a line for each good block, as [`Block`] writes it, and a last one that says where they stop and
+//!   why.
+//! - `journal check FILE` prints the same without the blocks. The status is 0 where the file is good blocks
+//!   to its end, 1 where they stop before or the head has a copy of more, and where it is no journal.
 //! - `journal block HEX..` prints a line for each block given as hexadecimal digits; `journal block -` for
 //!   those on standard input, one on each line. The status is 1 where one of them is no good block.
 //!
@@ -13,12 +14,12 @@
 
 use std::ffi::{OsStr, OsString};
 use std::fs::File;
-use std::io::{self, BufRead, BufReader, BufWriter, Write};
+use std::io::{self, BufRead, BufReader, BufWriter, Read, Write};
 use std::path::Path;
 use std::process::ExitCode;
 use std::{env, iter};
 
-use stemline::{Block, Blocks, Stop, BLOCK};
+use stemline::{Block, Blocks, Head, Stop, BLOCK, HEAD};
 
 const USAGE: &str =
     "usage: journal show FILE | journal check FILE | journal block HEX.. | journal block -";
@@ -64,12 +65,26 @@ fn run(arguments: &[OsString], out: &mut impl Write) -> Result<bool, End> {
     }
 }
 
-/// Prints where the good blocks of a file stop, and before that each of them if they are to be shown.
-/// Gives whether they go to the file's end.
+/// Prints the head of a file and where its good blocks stop, and before that each of them if they are to be
+/// shown. Gives whether they go to the file's end, and to that of the copies.
 fn look(file: &Path, shown: bool, out: &mut impl Write) -> Result<bool, End> {
     let unread = |error| End::Cannot(format!("cannot read {}: {error}", file.display()));
-    let source = File::open(file).map_err(unread)?;
-    let mut blocks = Blocks::new(BufReader::new(source));
+    let mut source = BufReader::new(File::open(file).map_err(unread)?);
+    let mut front = Vec::new();
+    let mut part = source.by_ref().take(HEAD as u64);
+    let read = part.read_to_end(&mut front).map_err(unread)?;
+    if read == 0 {
+        printed(writeln!(out, "is empty: a journal not yet begun"))?;
+        return Ok(true);
+    }
+    let head = match Head::read(&front) {
+        Ok(head) if read == HEAD => head,
+        Ok(_) => return no_journal("it ends within its head", out),
+        Err(words) => return no_journal(&words, out),
+    };
+    let copies = head.copies(&front);
+    printed(writeln!(out, "{head}; {}", copied(&copies)))?;
+    let mut blocks = Blocks::of(source, head.replicas(), 0);
     let mut good = 0;
     let stop = loop {
         match blocks.next_block().map_err(unread)? {
@@ -80,8 +95,35 @@ fn look(file: &Path, shown: bool, out: &mut impl Write) -> Result<bool, End> {
         good += 1;
     };
     let left = blocks.left().map_err(unread)?;
-    printed(writeln!(out, "{}", ending(good, stop, left)))?;
-    Ok(stop == Stop::End)
+    let more = copies.iter().filter_map(|copy| copy.last());
+    let more = more
+        .map(Block::slot)
+        .max()
+        .filter(|&slot| u64::from(slot) >= good);
+    let more_words = more.map_or(String::new(), |slot| {
+        format!("; the head has a copy of slot {slot}")
+    });
+    printed(writeln!(out, "{}{more_words}", ending(good, stop, left)))?;
+    Ok(stop == Stop::End && more.is_none())
+}
+
+/// Says why a file is no journal.
+fn no_journal(words: &str, out: &mut impl Write) -> Result<bool, End> {
+    printed(writeln!(out, "is not to be taken up: {words}"))?;
+    Ok(false)
+}
+
+/// The slots of the copies in a head.
+fn copied(copies: &[Vec<Block>]) -> String {
+    let slots = copies.iter().filter_map(|copy| {
+        let (first, last) = (copy.first()?.slot(), copy.last()?.slot());
+        Some(format!("{first} to {last}"))
+    });
+    let slots: Vec<String> = slots.collect();
+    match slots.is_empty() {
+        true => "no copies".to_string(),
+        false => format!("copies of slots {}", slots.join(" and ")),
+    }
 }
 
 /// The line of so many good blocks, why they stop, and how many bytes are behind them.
@@ -93,7 +135,7 @@ fn ending(good: u64, stop: Stop, left: u64) -> String {
     let place = format!(
         "after {}, at byte {}",
         many(good, "block"),
-        good * BLOCK as u64
+        HEAD as u64 + good * BLOCK as u64
     );
     match stop {
         Stop::End => format!("ends {place}"),
