@@ -5,7 +5,9 @@ use std::{error, fmt, io};
 
 use crate::head::Head;
 use crate::journal::Journal;
-use crate::{Asked, DiskError, Refusal, Reopened, Replica, Report, Taken, Work, BLOCK, ITEMS};
+use crate::{
+    Asked, Digest, DiskError, Refusal, Reopened, Replica, Report, Taken, Work, BLOCK, ITEMS,
+};
 
 /// One replica of a group with its journal in a file.
 ///
@@ -133,6 +135,24 @@ impl Durable {
     /// As [`Replica::is_turn`].
     pub fn is_turn(&self) -> bool {
         self.replica.is_turn()
+    }
+
+    /// What is committed up to the present turn, the same at all replicas of the group at this turn. Where
+    /// it differs, the copies differ for good: a number is used twice, or a replica is of another group.
+    ///
+    /// A host sends it along with its blocks, and hands what comes to [`Durable::agrees`].
+    pub fn digest(&self) -> Digest {
+        let turn = self.report().turn;
+        let digests = &self.journal.digests;
+        // The journal is at most one block ahead: the own one, sent and not yet taken.
+        digests.at(turn).unwrap_or_else(|| digests.last())
+    }
+
+    /// Whether another replica has committed the same: `None` where this one was not yet at that turn, or
+    /// no more knows, which it does for 64 turns.
+    pub fn agrees(&self, other: &Digest) -> Option<bool> {
+        let own = self.journal.digests.at(other.turn)?;
+        Some(own == *other)
     }
 
     /// As [`Replica::begin`].

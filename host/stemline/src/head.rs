@@ -18,7 +18,7 @@
 use std::borrow::Cow;
 use std::fmt;
 
-use crate::digest::digest;
+use crate::digest::{digest, START};
 use crate::round::{places, Round};
 use crate::{Block, ITEMS};
 
@@ -94,7 +94,7 @@ impl Head {
                 "it is of version {version}, and this program knows version {VERSION}"
             ));
         }
-        let check = digest(0, &bytes[..CHECK]).to_le_bytes();
+        let check = digest(START, &bytes[..CHECK]).to_le_bytes();
         if bytes[CHECK..] != check || length as usize > NAME {
             return Err("its head is damaged: the check does not match".into());
         }
@@ -118,7 +118,7 @@ impl Head {
         for (at, value) in (STARTS..).step_by(4).zip(self.values.iter()) {
             bytes[at..][..4].copy_from_slice(&value.to_le_bytes());
         }
-        let check = digest(0, &bytes[..CHECK]);
+        let check = digest(START, &bytes[..CHECK]);
         bytes[CHECK..].copy_from_slice(&check.to_le_bytes());
         bytes
     }
@@ -164,7 +164,7 @@ impl Head {
             own: 0,
             ..self.clone()
         };
-        digest(0, &any.bytes())
+        digest(START, &any.bytes())
     }
 
     /// Whether a file that begins with these bytes, `HEAD` at most, is to be made: `true` for one that is
@@ -226,7 +226,7 @@ impl Head {
 impl fmt::Display for Head {
     fn fmt(&self, f: &mut fmt::Formatter) -> fmt::Result {
         let (own, n, group) = (self.own, self.n, self.group());
-        let start = digest(0, &self.bytes()[STARTS..CHECK]);
+        let start = digest(START, &self.bytes()[STARTS..CHECK]);
         write!(
             f,
             "replica {own} of {n} of the group {group:?}, version {VERSION}, start {start:016x}"

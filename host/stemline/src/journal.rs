@@ -4,6 +4,7 @@ use std::io::{self, BufReader, Read};
 use std::path::{Path, PathBuf};
 use std::{error, fmt};
 
+use crate::digest::Digests;
 use crate::disk::Disk;
 use crate::head::{Head, HEAD};
 use crate::map::lend;
@@ -27,6 +28,8 @@ pub(crate) struct Journal {
     kept: u32,
     /// The blocks behind the last own one.
     since: Vec<[u8; BLOCK]>,
+    /// What its blocks have committed.
+    pub digests: Digests,
     /// Where a copy was begun since the last good sync.
     copied: Option<u64>,
     failed: bool,
@@ -81,6 +84,7 @@ impl Journal {
             blocks: found.tally.turn,
             kept: found.tally.turn,
             since: found.tally.since.clone(),
+            digests: found.tally.digests.clone(),
             copied: None,
             failed: false,
         };
@@ -130,10 +134,14 @@ impl Journal {
     /// Appends a block of another. It is durable after the next [`Journal::send`].
     pub fn append(&mut self, block: &[u8; BLOCK]) -> Result<(), DiskError> {
         self.going()?;
+        // Only altered memory gives another.
+        let read = Block::read(block).map_err(io::Error::other);
+        let read = self.done("append to", read)?;
         let written = self.disk.write(place(self.blocks), block);
         self.done("append to", written)?;
         self.blocks += 1;
         self.since.push(*block);
+        self.digests.add(&read);
         Ok(())
     }
 

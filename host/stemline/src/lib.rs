@@ -66,6 +66,7 @@ mod tally;
 pub use answers::{Asked, Restarted, Taken, Work};
 pub use block::{Block, DigitsError, Record};
 pub use blocks::{Blocks, Stop};
+pub use digest::Digest;
 pub use durable::{Durable, Failure};
 pub use ffi::{Entry, Report};
 pub use head::{Head, HEAD};

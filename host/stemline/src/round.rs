@@ -8,7 +8,7 @@
 //! Its bytes, numbers with the lowest byte first: digest of the rest (8), first slot (4), number of blocks
 //! (4), the blocks.
 
-use crate::digest::digest;
+use crate::digest::{digest, START};
 use crate::head::PAGE;
 use crate::{Block, BLOCK};
 
@@ -39,7 +39,7 @@ impl Round {
         bytes.extend(self.first.to_le_bytes());
         bytes.extend((self.blocks.len() as u32).to_le_bytes());
         bytes.extend(self.blocks.as_flattened());
-        let check = digest(0, &bytes[8..]);
+        let check = digest(START, &bytes[8..]);
         bytes[..8].copy_from_slice(&check.to_le_bytes());
         bytes
     }
@@ -52,7 +52,7 @@ impl Round {
             return None;
         }
         let bytes = page.get(..FRONT + BLOCK * count as usize)?;
-        if digest(0, &bytes[8..]).to_le_bytes() != bytes[..8] {
+        if digest(START, &bytes[8..]).to_le_bytes() != bytes[..8] {
             return None;
         }
         let (blocks, _) = bytes[FRONT..].as_chunks();

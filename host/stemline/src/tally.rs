@@ -1,5 +1,6 @@
 //! What the good blocks of a journal amount to, as an open reads them.
 
+use crate::digest::Digests;
 use crate::head::Head;
 use crate::round::Round;
 use crate::{Block, BLOCK};
@@ -10,8 +11,8 @@ pub(crate) struct Tally {
     own: u32,
     /// How many blocks there are: the slot that comes next.
     pub turn: u32,
-    /// How many writesets they have.
-    pub commits: u32,
+    /// What they have committed.
+    pub digests: Digests,
     /// The own tickets among these, each with its place in the sequence, counted from 1.
     pub committed: Vec<(u32, u32)>,
     /// The blocks up to the last own one, from behind the one before.
@@ -25,7 +26,7 @@ impl Tally {
         Tally {
             own: head.own(),
             turn: 0,
-            commits: 0,
+            digests: Digests::new(head),
             committed: Vec::new(),
             last: None,
             since: Vec::new(),
@@ -36,11 +37,11 @@ impl Tally {
     pub fn add(&mut self, block: &Block) {
         let own = u32::from(block.sender()) == self.own;
         if own && !block.is_next() {
-            let places = self.commits + 1..;
+            let places = self.digests.last().commits + 1..;
             let tickets = block.records().map(|record| record.ticket);
             self.committed.extend(tickets.zip(places));
         }
-        self.commits += block.records().len() as u32;
+        self.digests.add(block);
         self.since.push(*block.bytes());
         self.turn += 1;
         if own {

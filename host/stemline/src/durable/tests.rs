@@ -166,7 +166,7 @@ fn back_to_what_is_durable() {
     drop(replica);
     // Never less than was there when it was opened.
     let (mut replica, _) = open(&room, 2, 0).unwrap();
-    replica.journal.append(&[2; BLOCK]).unwrap();
+    replica.journal.append(&blocks[3]).unwrap();
     replica.journal.fail();
     assert!(blocks_of(&room) == blocks[..3].concat());
 }

@@ -85,7 +85,7 @@ fn an_open_makes_durable() {
     for slots in [1, 5, 6, 7, 20] {
         let room = Room::new("reopen");
         let (mut replica, _) = open(&room, 2, 0).unwrap();
-        fill(&mut replica, slots);
+        let blocks = fill(&mut replica, slots);
         drop(replica);
         let good = fs::read(room.journal()).unwrap();
         for extra in [0, 1, 512] {
@@ -95,9 +95,9 @@ fn an_open_makes_durable() {
             assert_eq!(told::steps(), opening(&room, slots as usize));
             assert!(fs::read(room.journal()).unwrap() == good);
             // What is appended goes behind it.
-            replica.journal.append(&[9; BLOCK]).unwrap();
+            replica.journal.append(&blocks[0]).unwrap();
             drop(replica);
-            assert!(fs::read(room.journal()).unwrap() == [&good[..], &[9; BLOCK]].concat());
+            assert!(fs::read(room.journal()).unwrap() == [&good[..], &blocks[0]].concat());
         }
     }
 }
