@@ -324,7 +324,7 @@ static int open_with(
     } else if (words[0] != '\0') {
         return fails(j, "take up", "%s", words);
     }
-    j->digests[0].digest = digest(DIGEST_START, any, END);
+    j->digests[0].digest = digest(DIGEST_START, any, CHECK);
     if (look(j, t, front, length) != 0) {
         return -1;
     }

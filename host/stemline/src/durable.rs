@@ -1,12 +1,15 @@
 //! A replica whose blocks stand in a journal, so that it can be opened again after a cut of the power.
 
+use std::io::{self, Write};
 use std::path::Path;
-use std::{error, fmt, io};
+use std::{error, fmt};
 
 use crate::head::Head;
 use crate::journal::Journal;
+use crate::outcome::Outcomes;
 use crate::{
-    Asked, Digest, DiskError, Refusal, Reopened, Replica, Report, Taken, Work, BLOCK, ITEMS,
+    Asked, Calls, Digest, DiskError, Outcome, Recorder, Refusal, Reopened, Replica, Report,
+    Restarted, Taken, Work, BLOCK, ITEMS,
 };
 
 /// One replica of a group with its journal in a file.
@@ -48,9 +51,11 @@ use crate::{
 /// }
 /// ```
 #[derive(Debug)]
-pub struct Durable {
-    replica: Replica,
+pub struct Durable<R = Replica> {
+    replica: R,
     journal: Journal,
+    outcomes: Outcomes,
+    last: Option<[u8; BLOCK]>,
 }
 
 /// Why a call at a [`Durable`] gives nothing. Both `{}` and `{:?}` write the words.
@@ -86,35 +91,8 @@ impl Durable {
         own: u32,
         values: &[i32; ITEMS],
     ) -> Result<(Durable, Reopened), Failure> {
-        let path = path.as_ref();
-        // What is refused makes no file.
-        Replica::new(n, own, values)?;
-        let head = Head::new(group, n, own, values)
-            .map_err(|words| DiskError::new("open", path, io::Error::other(words)))?;
-        let (mut journal, found) = Journal::open(path, &head)?;
         let restart = |bytes: &[u8]| Replica::restart(n, own, values, bytes);
-        let (replica, restarted) = journal.lend(&found, restart)??;
-        if restarted.blocks != found.tally.turn {
-            // The reader of blocks is held to the restart by tests.
-            let words = "a restart does not take up the blocks that are read";
-            return Err(journal.error("take up", words).into());
-        }
-        journal.take_up(&found)?;
-        let reopened = Reopened {
-            blocks: restarted.blocks,
-            last: restarted.last,
-            cut: found.behind,
-            why: found.stop,
-            mended: found.mended.len() as u32,
-            committed: found
-                .tally
-                .committed
-                .iter()
-                .map(|&(ticket, _)| ticket)
-                .collect(),
-            tickets: replica.report().tickets,
-        };
-        Ok((Durable { replica, journal }, reopened))
+        Durable::take_up(path.as_ref(), group, n, own, values, restart)
     }
 
     /// As [`Replica::values`].
@@ -131,10 +109,112 @@ impl Durable {
     pub fn report(&self) -> Report {
         self.replica.report()
     }
+}
 
-    /// As [`Replica::is_turn`].
-    pub fn is_turn(&self) -> bool {
-        self.replica.is_turn()
+/// A replica that is recorded and has its journal in a file.
+impl<C: Write, A: Write> Durable<Recorder<C, A>> {
+    /// As [`Durable::open`], with the sinks of the calls and the answers, as [`Recorder::restart`] writes them.
+    ///
+    /// ```
+    /// use stemline::{Durable, Failure, ITEMS};
+    ///
+    /// fn main() -> Result<(), Failure> {
+    ///     let path = std::env::temp_dir().join(format!("recorded-{}.journal", std::process::id()));
+    ///     let (mut calls, mut answers) = (Vec::new(), Vec::new());
+    ///     let sinks = (&mut calls, &mut answers);
+    ///     let (mut replica, _) = Durable::record(&path, "grotesque", 2, 0, &[0; ITEMS], sinks)?;
+    ///     let block = replica.send()?;
+    ///     replica.take(&block)?;
+    ///     assert_eq!(replica.stopped(), None);
+    ///     drop(replica);
+    ///     // The restart, the send, the deliver and two works, of which the second finds nothing.
+    ///     assert_eq!(answers.split(|&byte| byte == b'\n').count(), 5 + 1);
+    /// #   let _ = std::fs::remove_file(path);
+    ///     Ok(())
+    /// }
+    /// ```
+    pub fn record(
+        path: impl AsRef<Path>,
+        group: &str,
+        n: u32,
+        own: u32,
+        values: &[i32; ITEMS],
+        (calls, answers): (C, A),
+    ) -> Result<(Durable<Recorder<C, A>>, Reopened), Failure> {
+        let restart = |bytes: &[u8]| Recorder::restart(n, own, values, bytes, calls, answers);
+        Durable::take_up(path.as_ref(), group, n, own, values, restart)
+    }
+
+    /// As [`Recorder::values`].
+    pub fn values(&mut self) -> &[i32; ITEMS] {
+        self.replica.values()
+    }
+
+    /// As [`Recorder::read`].
+    pub fn read(&mut self, ticket: u32, item: u32) -> Result<i32, Refusal> {
+        self.replica.read(ticket, item)
+    }
+
+    /// As [`Recorder::report`].
+    pub fn report(&mut self) -> Report {
+        self.replica.report()
+    }
+
+    /// As [`Recorder::stopped`].
+    pub fn stopped(&self) -> Option<&str> {
+        self.replica.stopped()
+    }
+
+    /// As [`Recorder::left_out`].
+    pub fn left_out(&self) -> u64 {
+        self.replica.left_out()
+    }
+
+    /// As [`Recorder::flush`].
+    pub fn flush(&mut self) {
+        self.replica.flush();
+    }
+}
+
+impl<R: Calls> Durable<R> {
+    /// Opens a journal, with a restart from its blocks.
+    fn take_up(
+        path: &Path,
+        group: &str,
+        n: u32,
+        own: u32,
+        values: &[i32; ITEMS],
+        restart: impl FnOnce(&[u8]) -> Result<(R, Restarted), Refusal>,
+    ) -> Result<(Durable<R>, Reopened), Failure> {
+        // What is refused makes no file.
+        Replica::new(n, own, values)?;
+        let head = Head::new(group, n, own, values)
+            .map_err(|words| DiskError::new("open", path, io::Error::other(words)))?;
+        let (mut journal, found) = Journal::open(path, &head)?;
+        let (replica, restarted) = journal.lend(&found, restart)??;
+        if restarted.blocks != found.tally.turn {
+            // The reader of blocks is held to the restart by tests.
+            let words = "a restart does not take up the blocks that are read";
+            return Err(journal.error("take up", words).into());
+        }
+        journal.take_up(&found)?;
+        let committed = found.tally.committed.iter();
+        let reopened = Reopened {
+            blocks: restarted.blocks,
+            last: restarted.last,
+            cut: found.behind,
+            why: found.stop,
+            mended: found.mended.len() as u32,
+            committed: committed.map(|&(ticket, _)| ticket).collect(),
+            tickets: replica.replica().report().tickets,
+        };
+        let durable = Durable {
+            replica,
+            journal,
+            outcomes: Outcomes::new(own, found.tally, reopened.tickets),
+            last: reopened.last,
+        };
+        Ok((durable, reopened))
     }
 
     /// What is committed up to the present turn, the same at all replicas of the group at this turn. Where
@@ -142,7 +222,7 @@ impl Durable {
     ///
     /// A host sends it along with its blocks, and hands what comes to [`Durable::agrees`].
     pub fn digest(&self) -> Digest {
-        let turn = self.report().turn;
+        let turn = self.replica.replica().memory().turn.slot;
         let digests = &self.journal.digests;
         // The journal is at most one block ahead: the own one, sent and not yet taken.
         digests.at(turn).unwrap_or_else(|| digests.last())
@@ -155,24 +235,56 @@ impl Durable {
         Some(own == *other)
     }
 
+    /// What became of a ticket that was given since the last open, or that the open found committed. A ticket
+    /// above [`Reopened::tickets`] that was given before the open is another transaction's now.
+    ///
+    /// Four bytes are kept for each ticket; [`Durable::forget`] frees them.
+    pub fn outcome(&self, ticket: u32) -> Outcome {
+        self.outcomes.of(ticket)
+    }
+
+    /// Forgets what became of all tickets up to this one, also of those that are still open.
+    pub fn forget(&mut self, ticket: u32) {
+        self.outcomes.forget(ticket);
+    }
+
+    /// The block to hand out again, until the next own one is sent: the one that was sent last, or that the
+    /// open found.
+    pub fn last(&self) -> Option<&[u8; BLOCK]> {
+        self.last.as_ref()
+    }
+
+    /// As [`Replica::is_turn`].
+    pub fn is_turn(&self) -> bool {
+        self.replica.replica().is_turn()
+    }
+
     /// As [`Replica::begin`].
     pub fn begin(&mut self) -> Result<u32, Failure> {
-        Ok(self.going()?.begin()?)
+        let ticket = self.going()?.begin()?;
+        self.outcomes.begun(ticket);
+        Ok(ticket)
     }
 
     /// As [`Replica::write`].
     pub fn write(&mut self, ticket: u32, item: u32, value: i32) -> Result<(), Failure> {
-        Ok(self.going()?.write(ticket, item, value)?)
+        let answer = self.going()?.write(ticket, item, value);
+        self.outcomes.written(ticket, &answer);
+        Ok(answer?)
     }
 
     /// As [`Replica::ask`].
     pub fn ask(&mut self, ticket: u32) -> Result<Asked, Failure> {
-        Ok(self.going()?.ask(ticket)?)
+        let asked = self.going()?.ask(ticket)?;
+        self.outcomes.asked(ticket, asked);
+        Ok(asked)
     }
 
     /// As [`Replica::withdraw`].
     pub fn withdraw(&mut self, ticket: u32) -> Result<(), Failure> {
-        Ok(self.going()?.withdraw(ticket)?)
+        self.going()?.withdraw(ticket)?;
+        self.outcomes.withdrawn(ticket);
+        Ok(())
     }
 
     /// As [`Replica::load`]. No journal keeps the classes: they are to be loaded after every open.
@@ -184,6 +296,8 @@ impl Durable {
     pub fn send(&mut self) -> Result<[u8; BLOCK], Failure> {
         let block = self.going()?.send()?;
         self.journal.send(&block)?;
+        self.outcomes.sent();
+        self.last = Some(block);
         Ok(block)
     }
 
@@ -207,6 +321,7 @@ impl Durable {
     }
 
     fn keep(&mut self, work: &Work) -> Result<(), Failure> {
+        self.outcomes.worked(work);
         match work.append() {
             Some(block) => Ok(self.journal.append(block)?),
             None => Ok(()),
@@ -214,7 +329,7 @@ impl Durable {
     }
 
     /// The replica, while its journal has all that it needs.
-    fn going(&mut self) -> Result<&mut Replica, Failure> {
+    fn going(&mut self) -> Result<&mut R, Failure> {
         self.journal.going()?;
         Ok(&mut self.replica)
     }

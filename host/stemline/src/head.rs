@@ -164,7 +164,8 @@ impl Head {
             own: 0,
             ..self.clone()
         };
-        digest(START, &any.bytes())
+        // Without the digest in it: with that it would be the same for all.
+        digest(START, &any.bytes()[..CHECK])
     }
 
     /// Whether a file that begins with these bytes, `HEAD` at most, is to be made: `true` for one that is

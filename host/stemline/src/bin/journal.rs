@@ -5,6 +5,9 @@
 //!   why.
 //! - `journal check FILE` prints the same without the blocks. The status is 0 where the file is good blocks
 //!   to its end, 1 where they stop before or the head has a copy of more, and where it is no journal.
+//! - `journal values FILE` prints the values that the good blocks leave, a line `ITEM VALUE` for each of the
+//!   128, as the present values to begin a new run from. What is wrong with the file is said in a line on
+//!   standard error, and the status is then 1.
 //! - `journal block HEX..` prints a line for each block given as hexadecimal digits; `journal block -` for
 //!   those on standard input, one on each line. The status is 1 where one of them is no good block.
 //!
@@ -21,8 +24,8 @@ use std::{env, iter};
 
 use stemline::{Block, Blocks, Head, Stop, BLOCK, HEAD};
 
-const USAGE: &str =
-    "usage: journal show FILE | journal check FILE | journal block HEX.. | journal block -";
+const USAGE: &str = "usage: journal show FILE | journal check FILE | journal values FILE | \
+    journal block HEX.. | journal block -";
 
 /// Why the program ends before it is done.
 enum End {
@@ -56,6 +59,7 @@ fn run(arguments: &[OsString], out: &mut impl Write) -> Result<bool, End> {
     match words[..] {
         [verb, file] if verb == "show" => look(Path::new(file), true, out).map(|_| true),
         [verb, file] if verb == "check" => look(Path::new(file), false, out),
+        [verb, file] if verb == "values" => values(Path::new(file), out),
         [verb, dash] if verb == "block" && dash == "-" => blocks(lines(io::stdin().lock()), out),
         [verb, _, ..] if verb == "block" => {
             let digits = words[1..].iter().map(|word| word.to_string_lossy());
@@ -65,52 +69,118 @@ fn run(arguments: &[OsString], out: &mut impl Write) -> Result<bool, End> {
     }
 }
 
-/// Prints the head of a file and where its good blocks stop, and before that each of them if they are to be
-/// shown. Gives whether they go to the file's end, and to that of the copies.
-fn look(file: &Path, shown: bool, out: &mut impl Write) -> Result<bool, End> {
-    let unread = |error| End::Cannot(format!("cannot read {}: {error}", file.display()));
+/// A file that has a head: that, its copies, and the blocks behind.
+struct Opened {
+    head: Head,
+    copies: Vec<Vec<Block>>,
+    blocks: Blocks<BufReader<File>>,
+}
+
+/// Opens a file; or gives in words why it is no journal, `None` where it is empty.
+fn open(file: &Path) -> Result<Result<Opened, Option<String>>, End> {
+    let unread = unread(file);
     let mut source = BufReader::new(File::open(file).map_err(unread)?);
     let mut front = Vec::new();
     let mut part = source.by_ref().take(HEAD as u64);
     let read = part.read_to_end(&mut front).map_err(unread)?;
-    if read == 0 {
-        printed(writeln!(out, "is empty: a journal not yet begun"))?;
-        return Ok(true);
-    }
-    let head = match Head::read(&front) {
-        Ok(head) if read == HEAD => head,
-        Ok(_) => return no_journal("it ends within its head", out),
-        Err(words) => return no_journal(&words, out),
-    };
-    let copies = head.copies(&front);
-    printed(writeln!(out, "{head}; {}", copied(&copies)))?;
-    let mut blocks = Blocks::of(source, head.replicas(), 0);
-    let mut good = 0;
-    let stop = loop {
-        match blocks.next_block().map_err(unread)? {
-            Ok(block) if shown => printed(writeln!(out, "{block}"))?,
-            Ok(_) => {}
-            Err(stop) => break stop,
-        }
-        good += 1;
-    };
-    let left = blocks.left().map_err(unread)?;
-    let more = copies.iter().filter_map(|copy| copy.last());
-    let more = more
-        .map(Block::slot)
-        .max()
-        .filter(|&slot| u64::from(slot) >= good);
-    let more_words = more.map_or(String::new(), |slot| {
-        format!("; the head has a copy of slot {slot}")
-    });
-    printed(writeln!(out, "{}{more_words}", ending(good, stop, left)))?;
-    Ok(stop == Stop::End && more.is_none())
+    Ok(match Head::read(&front) {
+        _ if read == 0 => Err(None),
+        Ok(_) if read < HEAD => Err(Some("it ends within its head".to_string())),
+        Err(words) => Err(Some(words)),
+        Ok(head) => Ok(Opened {
+            copies: head.copies(&front),
+            blocks: Blocks::of(source, head.replicas(), 0),
+            head,
+        }),
+    })
 }
 
-/// Says why a file is no journal.
-fn no_journal(words: &str, out: &mut impl Write) -> Result<bool, End> {
-    printed(writeln!(out, "is not to be taken up: {words}"))?;
-    Ok(false)
+/// What is said of a file that cannot be read.
+fn unread(file: &Path) -> impl Fn(io::Error) -> End + Copy + '_ {
+    move |error| End::Cannot(format!("cannot read {}: {error}", file.display()))
+}
+
+impl Opened {
+    /// Goes through the good blocks. Gives the line that says where they stop and why, and whether that is
+    /// the file's end, and that of the copies.
+    fn all(
+        mut self,
+        file: &Path,
+        mut each: impl FnMut(Block) -> Result<(), End>,
+    ) -> Result<(String, bool), End> {
+        let unread = unread(file);
+        let mut good = 0;
+        let stop = loop {
+            match self.blocks.next_block().map_err(unread)? {
+                Ok(block) => each(block)?,
+                Err(stop) => break stop,
+            }
+            good += 1;
+        };
+        let left = self.blocks.left().map_err(unread)?;
+        let sent = self
+            .copies
+            .iter()
+            .filter_map(|copy| copy.last())
+            .map(Block::slot);
+        let more = sent.max().filter(|&slot| u64::from(slot) >= good);
+        let words = more.map_or(String::new(), |slot| {
+            format!("; the head has a copy of slot {slot}")
+        });
+        let line = format!("{}{words}", ending(good, stop, left));
+        Ok((line, stop == Stop::End && more.is_none()))
+    }
+}
+
+/// Prints the head of a file and where its good blocks stop, and before that each of them if they are to be
+/// shown. Gives whether they go to the file's end, and to that of the copies.
+fn look(file: &Path, shown: bool, out: &mut impl Write) -> Result<bool, End> {
+    let opened = match open(file)? {
+        Ok(opened) => opened,
+        Err(None) => {
+            printed(writeln!(out, "is empty: a journal not yet begun"))?;
+            return Ok(true);
+        }
+        Err(Some(words)) => {
+            printed(writeln!(out, "is not to be taken up: {words}"))?;
+            return Ok(false);
+        }
+    };
+    let copies = copied(&opened.copies);
+    printed(writeln!(out, "{}; {copies}", opened.head))?;
+    let (line, good) = opened.all(file, |block| match shown {
+        true => printed(writeln!(out, "{block}")),
+        false => Ok(()),
+    })?;
+    printed(writeln!(out, "{line}"))?;
+    Ok(good)
+}
+
+/// Prints the values that the good blocks of a file leave. Gives whether these are all.
+fn values(file: &Path, out: &mut impl Write) -> Result<bool, End> {
+    let opened = match open(file)? {
+        Ok(opened) => opened,
+        Err(words) => {
+            let words = words.unwrap_or("it is empty".to_string());
+            complain(&format!("{}: {words}", file.display()));
+            return Ok(false);
+        }
+    };
+    let mut values = *opened.head.values();
+    let (line, good) = opened.all(file, |block| {
+        for entry in block.records().flat_map(|record| record.entries) {
+            values[usize::from(entry.item)] = entry.value;
+        }
+        Ok(())
+    })?;
+    for (item, value) in values.iter().enumerate() {
+        printed(writeln!(out, "{item} {value}"))?;
+    }
+    if !good {
+        printed(out.flush())?;
+        complain(&format!("{}: {line}", file.display()));
+    }
+    Ok(good)
 }
 
 /// The slots of the copies in a head.

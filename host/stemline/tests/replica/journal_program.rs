@@ -176,6 +176,34 @@ fn files() {
     stops(block_of(3, 4, &[]), " is of slot 4, in the place of slot 1");
 }
 
+/// The values of journals, whole and torn, are those that a restart leaves.
+#[test]
+fn values() {
+    Seeds::new(20).each(|seed| {
+        let mut random = Random::new(seed);
+        let n = 2 + seed as u32 % 5;
+        let bytes = restarts::journal(&mut random, n, STYLES[seed as usize / 5 % 4]);
+        let n = sizes(&bytes)[0];
+        let path = file("journal-values", &[&head(n), &bytes[..]].concat());
+        let (said, complaint, status) = run(&[OsStr::new("values"), path.as_os_str()]);
+        let (replica, restarted) = Replica::restart(n, 0, &start_values(), &bytes).unwrap();
+        let lines = replica.values().iter().enumerate();
+        let due: String = lines
+            .map(|(item, value)| format!("{item} {value}\n"))
+            .collect();
+        assert_eq!(said, due);
+        let whole = bytes.len() == BLOCK * restarted.blocks as usize;
+        assert_eq!((complaint.is_empty(), status), (whole, i32::from(!whole)));
+        assert!(complaint.lines().count() <= 1 && (whole || complaint.contains(": stops after ")));
+    });
+    for (bytes, words) in [(&b""[..], "it is empty"), (b"stems", "the mark is missing")] {
+        let path = file("journal-values-none", bytes);
+        let (said, complaint, status) = run(&[OsStr::new("values"), path.as_os_str()]);
+        assert_eq!((&said[..], status), ("", 1));
+        assert!(complaint.ends_with(&format!("{words}\n")), "{complaint}");
+    }
+}
+
 /// As many lines as a restart commits blocks, and the last; the status by whether they are all.
 #[test]
 fn any_journal() {
@@ -239,12 +267,14 @@ fn blocks() {
 /// Arguments that are none, and files that cannot be read: one line, and 2.
 #[test]
 fn bad_usage() {
-    let usage = "journal: usage: journal show FILE | journal check FILE | \
+    let usage = "journal: usage: journal show FILE | journal check FILE | journal values FILE | \
         journal block HEX.. | journal block -\n";
     for arguments in [
         &[][..],
         &["show"],
         &["check"],
+        &["values"],
+        &["values", "a", "b"],
         &["block"],
         &["show", "a", "b"],
         &["check", "a", "b"],
@@ -257,7 +287,7 @@ fn bad_usage() {
     let folder = env!("CARGO_TARGET_TMPDIR");
     let none = Path::new(folder).join("no-such-journal");
     for path in [Path::new(folder), &none] {
-        for verb in ["show", "check"] {
+        for verb in ["show", "check", "values"] {
             let (printed, complaint, status) = run(&[OsStr::new(verb), path.as_os_str()]);
             assert_eq!((&printed[..], status), ("", 2));
             let front = format!("journal: cannot read {}: ", path.display());

@@ -2,6 +2,7 @@
 
 mod altered;
 mod blocks;
+mod build_script;
 mod c;
 mod c_journals;
 mod c_replica;
@@ -18,6 +19,7 @@ mod lent;
 mod looks;
 mod manual;
 mod marks;
+mod outcomes;
 mod prototypes;
 mod recorder;
 mod restarts;
@@ -25,6 +27,7 @@ mod scenes;
 mod seeds;
 mod story;
 mod takes;
+mod twins;
 
 // What a soak shares with the tests.
 use soak::{both, lines, studio};
