@@ -10,7 +10,7 @@ use std::process::{Command, Output};
 use model::samples::Random;
 use stemline::{Durable, Replica, BLOCK, HEAD, ITEMS};
 
-use crate::c::{build, printed, run};
+use crate::c::{build, has_cpp, printed, run};
 use crate::files::Room;
 use crate::looks::digits;
 
@@ -234,6 +234,35 @@ fn failed_steps() {
     }
     let said = printed(&runs.run(0, 0));
     assert!(said.contains("first.journal: 3 blocks\n"), "{said}");
+}
+
+/// The header in each language that it is for, with the file to compile in.
+#[test]
+fn header_in_each_language() {
+    let source = "#include \"stemline_journal.h\"\n#include <stdio.h>\n\
+        int main(void) {\nstatic stemline_journal j; static stemline_replica r; static stemline_reopened f;\n\
+        static const int32_t start[STEMLINE_ITEMS] = {0};\n\
+        printf(\"%d %s\\n\", stemline_journal_open(&j, &r, \"none\", \"\", 2, 0, start, &f), j.why);\n\
+        return 0;\n}\n";
+    let mut languages = vec![("main.c", "cc", "-std=c99"), ("main.c", "cc", "-std=c11")];
+    if has_cpp() {
+        languages.push(("main.cc", "c++", "-std=c++17"));
+    }
+    for (file, compiler, standard) in languages {
+        let main = (file, compiler, standard, source);
+        let journal = ("stemline_journal.c", "cc", "-std=c11", JOURNAL);
+        let program = build("journal_header", &[main, journal]);
+        let due = "-1 cannot open the journal none: the group has no name\n";
+        assert_eq!(printed(&run(&program, b"")), due);
+    }
+    let value = |name: &str| {
+        let header = include_str!("../../../include/stemline_journal.h");
+        let line = header
+            .lines()
+            .find_map(|line| line.strip_prefix(&format!("#define {name} ")));
+        line.and_then(|rest| rest.split_whitespace().next()?.parse().ok())
+    };
+    assert_eq!(value("STEMLINE_JOURNAL_HEAD"), Some(HEAD));
 }
 
 /// A journal of replica `own` of `n` after so many slots.

@@ -78,7 +78,7 @@ fn prints(path: &Path, first: &[&str], lines: &[&str], last: &str, status: i32) 
 fn looks(bytes: &[u8], lines: &[&str], last: &str, status: i32) {
     let path = file("journal-looks", &[&head(3), bytes].concat());
     let first =
-        "replica 1 of 3 of the group \"grotesque\", version 1, start 1d7bafe7fb30cd44; no copies";
+        "replica 1 of 3 of the group \"grotesque\", version 1, start 1c1d552adf88173d; no copies";
     prints(&path, &[first], lines, last, status);
 }
 
@@ -115,7 +115,7 @@ fn copies() {
         replica.take(&block).unwrap();
     }
     drop(replica);
-    let first = "replica 1 of 2 of the group \"grotesque\", version 1, start 1d7bafe7fb30cd44; \
+    let first = "replica 1 of 2 of the group \"grotesque\", version 1, start 1c1d552adf88173d; \
         copies of slots 4 to 5 and 2 to 3";
     let (said, _, status) = run(&[OsStr::new("check"), path.as_os_str()]);
     let last = "ends after 6 blocks, at byte 15360";

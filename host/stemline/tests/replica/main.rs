@@ -16,6 +16,7 @@ mod install;
 mod journal_program;
 mod lengths;
 mod lent;
+mod long;
 mod looks;
 mod manual;
 mod marks;

@@ -143,9 +143,9 @@ fn check(
             let since = Vec::new();
             let mut disk = Simulated { sure, since };
             let during = disk.steps();
-            if at % 16 == 0 {
+            if at % 29 == 0 {
                 for disk in during {
-                    for parts in cuts(&disk, 509) {
+                    for parts in cuts(&disk, 613) {
                         opens(room, group, &disk.left(&parts), blocks, given);
                         opened += 1;
                     }
@@ -160,7 +160,7 @@ fn check(
 #[test]
 fn any_part_in_any_order() {
     let mut opened = 0;
-    for (n, own, each) in [(2, 0, 7), (2, 1, 19), (3, 0, 41), (3, 2, 41), (6, 4, 601)] {
+    for (n, own, each) in [(2, 0, 17), (2, 1, 41), (3, 0, 97), (3, 2, 97), (6, 4, 601)] {
         let room = Room::new(&format!("cuts{n}{own}"));
         told::taken();
         let mut disk = Simulated::default();
@@ -198,7 +198,7 @@ fn any_part_in_any_order() {
             }
         }
     }
-    assert!(opened > 50_000, "{opened}");
+    assert!(opened > 30_000, "{opened}");
 }
 
 /// A send whose sync fails is cut off again, and the next open sends its slot anew with other bytes. Of what
