@@ -1,5 +1,6 @@
 //! Cuts of the power at a simulated disk: of what was written since the last sync any part may be there, in
-//! any order, torn at any byte. No open is refused, and no own block that was given is lost.
+//! any order, torn at any byte. No open is refused, and no own block that was given is lost, also where a bit
+//! of it or of its copy is changed at once.
 
 use super::*;
 use crate::disk::Step;
@@ -137,6 +138,19 @@ fn check(
     for disk in disks {
         for (at, parts) in cuts(disk, each).iter().enumerate() {
             let sure = disk.left(parts);
+            if at % 5 == 0 && given > 0 {
+                // A bit of the own block given last, or of its copy, is changed too.
+                let byte = at * 31 % BLOCK;
+                let slot = given - 1;
+                let block = HEAD + BLOCK * slot as usize + byte;
+                let copy = 4_096 * (1 + slot / group.0 % 2) as usize + byte;
+                for place in [block, copy] {
+                    let mut rotten = sure.clone();
+                    rotten[place] ^= 1 << (at % 8);
+                    opens(room, group, &rotten, blocks, given);
+                    opened += 1;
+                }
+            }
             told::taken();
             opens(room, group, &sure, blocks, given);
             opened += 1;

@@ -119,6 +119,10 @@ fn what_is_told() {
         let block = replica.send().unwrap();
         replica.take(&block).unwrap();
         peer.take(&block).unwrap();
+        // Another's tickets are none of these.
+        let other = peer.begin().unwrap();
+        peer.write(other, 9, round).unwrap();
+        peer.ask(other).unwrap();
         let block = peer.send().unwrap();
         replica.take(&block).unwrap();
         peer.take(&block).unwrap();
