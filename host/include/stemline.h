@@ -168,9 +168,10 @@ static inline uint8_t stemline_replica_make(
  * with. It has no number: begin, read, ask, withdraw, report, deliver, work and take
  * run at it as at a replica to which every sender is another, and none of its
  * transactions writes, so that an ask ends it on the spot and no work aborts it. Write
- * and send are refused by 25. What a work or a take gives to append is for journals,
- * and may be dropped. As with a make, what r held before is no matter, and stays where
- * this is refused. Refused by 2. */
+ * and send are refused by 25. A station has no classes: a load there is answered as at
+ * a replica and changes nothing that a station answers. What a work or a take gives to
+ * append is for journals, and may be dropped. As with a make, what r held before is no
+ * matter, and stays where this is refused. Refused by 2. */
 static inline uint8_t stemline_replica_make_station(
     stemline_replica *r, uint32_t n, const int32_t start[STEMLINE_ITEMS]) {
     return stemline_make_station(
@@ -289,6 +290,8 @@ static inline stemline_work_reply stemline_replica_work(
  * wait (7) whose class holds an item of a writeset still to be applied. After a make
  * and after a restart all items are of one class. Classes are the host's own matter:
  * they go into no block and no journal, and each replica of a group may have others.
+ * A station has no classes: a load there is answered as at a replica and changes
+ * nothing that a station answers.
  * Refused by 1, 2, 23. */
 static inline uint8_t stemline_replica_load(
     stemline_replica *r, const uint8_t *classes, size_t length) {

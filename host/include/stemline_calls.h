@@ -179,7 +179,10 @@ typedef struct stemline_entry_values {
  *
  * Any other length is refused by 1, before anything else is tested; only at a station
  * a write and a send are refused by 25 before that. At a make, of a station too, and
- * at a restart with an n out of range the places may have any length. */
+ * at a restart with an n out of range the places may have any length.
+ *
+ * A station has no classes: a load there is answered as at a replica and changes
+ * nothing that a station answers. */
 
 uint8_t stemline_make(
     stemline_txn *table, size_t table_length, stemline_turn *turn, stemline_counts *counts,

@@ -80,13 +80,17 @@ impl Subject for Both {
         self.before.clone_from(self.library.memory());
         let _named = Named::of(&self.model, call);
         let is_turn = self.library.is_turn();
+        let waiting = self.model.waiting();
         let (mut appended, mut due_appended) = (Vec::new(), Vec::new());
         let answer = play(&mut self.library, call, &mut appended);
         let due = self.model.call_journaled(call, &mut due_appended);
         assert_eq!(answer, due, "{call:?}: the library's answer, the model's");
         if self.station.is_some() {
             self.same_station(call, &answer);
-            // What is given for a journal is dropped.
+            // Whoever sent it, the block whose slot the turn leaves is given; there is no journal for it.
+            let left = matches!(&answer, Ok(Answer::Work(work)) if work.moved);
+            let given = waiting.filter(|_| left).map_or(Vec::new(), Vec::from);
+            assert!(appended == given, "{call:?}: what is given at a station");
             appended.clear();
         }
         assert!(appended == due_appended, "{call:?}: what is appended");

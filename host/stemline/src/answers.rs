@@ -1,6 +1,7 @@
 //! What the calls of a replica give where they are accepted.
 
-use crate::{Refusal, BLOCK, TABLE};
+use crate::ffi::WorkReply;
+use crate::{accepted, Refusal, BLOCK, TABLE};
 
 /// What became of a transaction that asked for commit.
 #[derive(Clone, Copy, Debug, PartialEq, Eq)]
@@ -26,6 +27,20 @@ pub struct Work {
 }
 
 impl Work {
+    /// Of a reply, and the block that was lent for it.
+    #[inline]
+    pub(crate) fn of(reply: &WorkReply, block: &[u8; BLOCK]) -> Result<Work, Refusal> {
+        let work = Work {
+            sender: reply.sender,
+            ticket: reply.ticket,
+            moved: reply.moved,
+            aborted: reply.aborted,
+            count: reply.count,
+            append: reply.append.then(|| Box::new(*block)),
+        };
+        accepted(reply.number, work)
+    }
+
     /// The own transactions aborted, rising.
     pub fn aborted(&self) -> &[u32] {
         &self.aborted[..TABLE.min(usize::from(self.count))]
@@ -61,13 +76,15 @@ pub struct Step {
 }
 
 impl Step {
-    /// What a step is at a station.
-    pub(crate) fn of(work: &Work) -> Step {
-        Step {
-            sender: work.sender,
-            ticket: work.ticket,
-            moved: work.moved,
-        }
+    /// Of a reply at a station. The block that was lent for it is no matter there.
+    #[inline]
+    pub(crate) fn of(reply: &WorkReply) -> Result<Step, Refusal> {
+        let step = Step {
+            sender: reply.sender,
+            ticket: reply.ticket,
+            moved: reply.moved,
+        };
+        accepted(reply.number, step)
     }
 }
 

@@ -31,8 +31,8 @@
 //! }
 //! ```
 //!
-//! A [`Station`] holds the same values and only reads; its calls are those of a replica without write and
-//! send, and it takes no turn.
+//! A [`Station`] holds the same values and only reads; its calls are those of a replica without write,
+//! send, load and restart, and it takes no turn.
 //!
 //! A replica that is to outlive its machine's power keeps a journal: [`Durable`] does so, in a file. Who
 //! keeps one by other means appends the block of each [`Replica::send`] and makes it durable before he

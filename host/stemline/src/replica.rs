@@ -210,15 +210,7 @@ impl Replica {
     pub fn work(&mut self) -> Result<Work, Refusal> {
         let mut block = [0; BLOCK];
         let reply = self.step(&mut block);
-        let work = Work {
-            sender: reply.sender,
-            ticket: reply.ticket,
-            moved: reply.moved,
-            aborted: reply.aborted,
-            count: reply.count,
-            append: reply.append.then(|| Box::new(block)),
-        };
-        accepted(reply.number, work)
+        Work::of(&reply, &block)
     }
 
     /// A work with the block that it is lent.

@@ -44,6 +44,28 @@ use crate::{accepted, Memory, Refusal, Replica, Report, Step, Taken, BLOCK, ITEM
 ///     station.ask(begun)
 /// }
 /// ```
+///
+/// A call that a station has not is an error of the compiler, be it write, send, load or restart:
+///
+/// ```compile_fail,E0599
+/// # let mut station = stemline::Station::new(2, &[0; 128]).unwrap();
+/// # let ticket = station.begin().unwrap();
+/// station.write(ticket, 5, 40);
+/// ```
+///
+/// ```compile_fail,E0599
+/// # let mut station = stemline::Station::new(2, &[0; 128]).unwrap();
+/// station.send();
+/// ```
+///
+/// ```compile_fail,E0599
+/// # let mut station = stemline::Station::new(2, &[0; 128]).unwrap();
+/// station.load(&[1; 128]);
+/// ```
+///
+/// ```compile_fail,E0599
+/// stemline::Station::restart(2, 0, &[0; 128], &[]);
+/// ```
 #[derive(Clone, Debug, PartialEq, Eq)]
 pub struct Station {
     /// A memory without a number. Of its calls those are left out that a station has not.
@@ -137,14 +159,7 @@ impl Station {
     /// records. Refused by 1, 21.
     #[inline]
     pub fn work(&mut self) -> Result<Step, Refusal> {
-        let mut block = [0; BLOCK];
-        let reply = self.replica.step(&mut block);
-        let step = Step {
-            sender: reply.sender,
-            ticket: reply.ticket,
-            moved: reply.moved,
-        };
-        accepted(reply.number, step)
+        Step::of(&self.replica.step(&mut [0; BLOCK]))
     }
 
     /// What a station does with a block that arrives, as [`Replica::take`]: delivers it, then works until

@@ -101,6 +101,13 @@ impl Replica {
         Ok((work, of_another.as_ref().map(block::encode)))
     }
 
+    /// The block that waits for the turn, if one does: the bytes that were delivered.
+    pub fn waiting(&self) -> Option<[u8; BLOCK]> {
+        self.inbox[self.owner(self.turn)]
+            .as_ref()
+            .map(block::encode)
+    }
+
     /// A work, and the message of the slot that the turn left.
     fn step(&mut self) -> Result<(Work, Option<Message>), u8> {
         let Some(message) = &self.inbox[self.owner(self.turn)] else {

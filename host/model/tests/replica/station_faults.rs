@@ -14,8 +14,8 @@ pub enum Fault {
     None,
     /// It is the replica 0 that never sends: that one's blocks it refuses as its own.
     NumberZero,
-    /// Its number is N, which divided by N leaves that of a sender.
-    NumberN,
+    /// The same of the last replica, N - 1.
+    NumberLast,
     /// Its number is 255, which divided by N leaves that of a sender.
     Number255,
     /// It takes the writesets of replica 0 as its own, and looks for the transactions to end.
@@ -38,7 +38,7 @@ pub enum Fault {
 /// replica that is stuck.
 pub const FAULTS: [(Fault, bool); 10] = [
     (Fault::NumberZero, true),
-    (Fault::NumberN, true),
+    (Fault::NumberLast, true),
     (Fault::Number255, true),
     (Fault::EndsItsOwn, false),
     (Fault::Sends, true),
@@ -80,7 +80,7 @@ impl Subject for Faulty {
         let n = station.inbox.len();
         match (self.fault, call) {
             (Fault::NumberZero, Call::Deliver { .. }) => self.call_as(0, call),
-            (Fault::NumberN, Call::Deliver { .. }) => self.call_as(n % n, call),
+            (Fault::NumberLast, Call::Deliver { .. }) => self.call_as(n - 1, call),
             (Fault::Number255, Call::Deliver { .. }) => self.call_as(255 % n, call),
             (Fault::EndsItsOwn, Call::Work) => self.call_as(0, call),
             (Fault::Sends, Call::Send) => self.call_as(0, call),

@@ -1,5 +1,6 @@
 //! The library's station in a pair.
 
+use model::refusal::STATION_ONLY_READS;
 use model::replica::Work;
 use model::trace::{Answer, Call};
 use stemline::{Refusal, Station, Step};
@@ -48,7 +49,7 @@ impl Both {
         };
         match play(station, call) {
             Some(answer) => assert_eq!(answer, *due, "{call:?}: the station's answer, the model's"),
-            None => assert!(due.is_err(), "{call:?}: accepted at a station"),
+            None => assert_eq!(*due, Err(STATION_ONLY_READS), "{call:?}: at a station"),
         }
         let same = station.memory() == self.library.memory();
         assert!(same, "{call:?}: the station's memory");

@@ -5,7 +5,7 @@ use std::io::Write;
 use super::list::List;
 use super::Recorder;
 use crate::replica::works;
-use crate::{Memory, Refusal, Report, Station, Step, Taken, ITEMS};
+use crate::{Memory, Refusal, Report, Station, Step, Taken, BLOCK, ITEMS};
 
 /// The places of a list.
 const PLACES: u32 = 8;
@@ -122,7 +122,7 @@ impl<C: Write, A: Write> StationRecorder<C, A> {
 
     /// As [`Station::work`].
     pub fn work(&mut self) -> Result<Step, Refusal> {
-        self.recorder.work().map(|work| Step::of(&work))
+        Step::of(&self.recorder.step(&mut [0; BLOCK]))
     }
 
     /// As [`Station::take`]; it is recorded as its deliver and its works.

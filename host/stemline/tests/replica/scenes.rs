@@ -51,11 +51,11 @@ impl Subject for Library {
             Library::Replica(replica, disk) => play(replica, call, disk),
             Library::Station(station) => match played_at_station!(station, call) {
                 Some(answer) => answer,
-                // A call that a station has not is refused over its memory, and changes nothing there.
+                // A call that a station has not is refused by 25 over its memory, and changes nothing there.
                 None => {
                     let mut over = Replica::from_memory(station.memory().clone());
                     let answer = play(&mut over, call, &mut Vec::new());
-                    assert!(answer.is_err() && over.memory() == station.memory());
+                    assert!(answer == Err(25) && over.memory() == station.memory());
                     answer
                 }
             },
