@@ -70,7 +70,7 @@ impl Crash {
             }
         }
         let k = self.random.below(N);
-        let bytes = fs::read(journal(&self.room, k)).unwrap_or_default();
+        let bytes = studio::lent(&journal(&self.room, k));
         let durable = self.log.observer.journal(k).floor();
         feed(&mut self.station, &bytes[..durable]);
     }
@@ -120,8 +120,7 @@ impl Crash {
             self.log.restarted(k, None, restarted);
         }
         settle(&mut self.log, &mut group, &mut last);
-        let bytes = fs::read(journal(&self.room, 0)).unwrap();
-        feed(&mut self.station, &bytes);
+        feed(&mut self.station, &studio::lent(&journal(&self.room, 0)));
         self.check(&group);
         fs::remove_dir_all(&self.room).unwrap();
         Met {
