@@ -55,7 +55,8 @@ pub mod Due
 pub mod Waiting
 pub mod Ended
 pub mod Come
--- a station; a replica is none; a write with no table of classes
+-- a station; a replica is none; a write with no table of classes, and the lock before staleness
 pub mod Stations
 pub mod Numbered
 pub mod OneClass
+pub mod Staleness
