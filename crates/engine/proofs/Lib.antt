@@ -47,9 +47,9 @@ pub mod Histories
 pub mod Worked
 pub mod Restarts
 pub mod Tickets
--- with restarts among the calls: 22 is never met; how long a change may wait; a block that has come
+-- with restarts among the calls: own writesets that a work meets; how long a change may wait; a block that has come
 pub mod Reached
-pub mod Unmet
+pub mod OwnSent
 pub mod Traced
 pub mod Due
 pub mod Waiting

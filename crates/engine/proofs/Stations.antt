@@ -26,7 +26,7 @@ use Rattle.engine.specs.Calls.Answer.{refused, made, began, got, wrote, 
 use Rattle.engine.specs.Make.{madeMemory, partsFit, sizeOut, makeRefusal}
 use Rattle.engine.specs.Classes.{loadRefusal}
 use Rattle.engine.specs.Client.{rowNo, isOwn, notOpen, notActive, beginRefusal, beginAt, readRefusal, writeRefusal, askRefusal, readOnlyAt, withdrawRefusal, withdrawAt, reportOf, reportStep}
-use Rattle.engine.specs.Moves.{waiting, sendRefusal, deliverRefusal, deliverNow, blockAtTurn, writesetAt, shares, isHit, afterAborts, hitTickets, nothingWaits, ownNotSent, workRefusal, isLast, passNext, commitWriteset}
+use Rattle.engine.specs.Moves.{waiting, sendRefusal, deliverRefusal, deliverNow, blockAtTurn, writesetAt, shares, isHit, afterAborts, hitTickets, nothingWaits, workRefusal, isLast, passNext, commitWriteset}
 use Rattle.engine.specs.Step.{Call, step, refusalOf, after}
 use Rattle.engine.specs.Step.Call.{begin, read, write, ask, withdraw, report, send, deliver, work, load}
 use Rattle.engine.specs.Shape.{Shape}
@@ -39,7 +39,6 @@ use Rattle.engine.proofs.ShapeTurn.{working}
 use Rattle.engine.proofs.Shapes.{shapes, shape-after}
 use Rattle.engine.proofs.Refusals.{at-replica, refusals}
 use Rattle.engine.proofs.Sent.{sent-shapes}
-use Rattle.engine.proofs.Unmet.{unmet-after}
 use Rattle.engine.proofs.Reports.{report-from, made-own, made-kept, step-counted, tally-kept}
 
 -- ---- every sender is another
@@ -82,9 +81,6 @@ work-other m S h e = waits-other m S h (working m S e .waits)
 and-false : (b : Bool) → b && false ≡ false
 and-false true = refl
 and-false false = refl
-
-none-unsent : {over : ℕ} (m : Memory) → Shape over m → isStation m ≡ true → nothingWaits m ≡ false → ownNotSent m ≡ false
-none-unsent m S h e = rw (waits-other m S h e, and-false) refl
 
 never-own : (m : Memory) → isStation m ≡ true → (c : Call) → refusalOf m c ≡ 19 → ⊥
 unfolding refusalOf beginRefusal readRefusal askRefusal withdrawRefusal workRefusal loadRefusal
@@ -319,7 +315,7 @@ module _ (n : ℕ) (values : List ℤ) (least : 2 ≤ n) (most : n ≤ 6) (long 
   reported-is : reportOf (after (stationMemory n values) cs) ≡ reportFrom 0 (tally noNumber noCalls (stationMemory n values) cs)
   reported-is =
       report-from (after m cs) shaped
-      ∙ ap (reportFrom 0) (tally-kept noNumber m at-first (made-own n noNumber values) cs ∙ ap (λ (t : Tally). tally noNumber t m cs) (made-kept n noNumber values))
+      ∙ ap (reportFrom 0) (tally-kept noNumber m at-first (sent-shapes .made n noNumber values) (made-own n noNumber values) cs ∙ ap (λ (t : Tally). tally noNumber t m cs) (made-kept n noNumber values))
 
   summed : let r = reportOf (after (stationMemory n values) cs) in r .tickets ≡ r .«open_count» + r .«read_only» + r .withdrawn
   unfolding reportOf
@@ -355,9 +351,7 @@ stations = record {
   report = reported-is;
   sum = summed;
   others = λ n values l h v cs. waits-other (after (stationMemory n values) cs) (shaped n values l h v cs) (reading n values l h v cs .station);
-  condition = λ n values l h v cs. none-unsent (after (stationMemory n values) cs) (shaped n values l h v cs) (reading n values l h v cs .station);
   asks = λ n values l h v cs. asked _ (shaped n values l h v cs) (reading n values l h v cs);
   never-4 = λ n values l h v cs c. by-number n values l h v cs c 4 (not-four _ (shaped n values l h v cs) (reading n values l h v cs) c);
-  never-22 = λ n values l h v cs. unmet-after (stationMemory n values) (shape-station n values l h v) (sent-shapes .made n noNumber values) cs;
   aborts = λ n values l h v cs. aborts-none _ (shaped n values l h v cs) (reading n values l h v cs);
 }

@@ -14,7 +14,7 @@ pub mod OneClass
 pub mod Claims
 pub mod Sent
 pub mod History
-pub mod Unmet
+pub mod OwnSent
 pub mod Waiting
 pub mod Station
 pub mod Restarts
