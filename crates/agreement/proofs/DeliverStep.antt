@@ -114,7 +114,7 @@ module _ (n : ℕ) (start : List ℤ) (m : Memory) (S : Sound n m) (b : List ℕ
     own-sent =
         rw (sender-said b, slot-said b)
         (own-by (eqb (headerOf b .sender) (m .counts .own)) (isOwnBlock m b) _ (sent-here m b e)
-        (λ o h. let u = both _ _ h .left in
+        (λ o h. let u = k .own (eqb-true _ _ o) .0 in
         joined u (joined (eq-eqb slot (m .turn .slot) (turns (eqb-true _ _ o) u)) refl)))
 
     model : Rattle.protocol.specs.System.step (setup n start) (view m) (meant (deliver b))

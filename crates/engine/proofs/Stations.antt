@@ -18,7 +18,7 @@ use Rattle.block.proofs.MessageLaws.{message-facts, sender-small}
 use Rattle.block.proofs.AnswerLaws.{is-taken, is-formed}
 use Rattle.memory.specs.declared.Turn.{Turn}
 use Rattle.memory.specs.declared.Txn.{Txn}
-use Rattle.memory.specs.Memory.{Memory, noNumber, isStation, withClasses}
+use Rattle.memory.specs.Memory.{Memory, bump, noNumber, isStation, withClasses}
 use Rattle.memory.specs.Rows.{closed, isOpen, rowOf, rowAt, itemsOf, has}
 use Rattle.memory.specs.Turns.{isOn}
 use Rattle.engine.specs.Calls.{Answer, Step, numberOf, Outcome, outcome}
@@ -26,7 +26,7 @@ use Rattle.engine.specs.Calls.Answer.{refused, made, began, got, wrote, 
 use Rattle.engine.specs.Make.{madeMemory, partsFit, sizeOut, makeRefusal}
 use Rattle.engine.specs.Classes.{loadRefusal}
 use Rattle.engine.specs.Client.{rowNo, isOwn, notOpen, notActive, beginRefusal, beginAt, readRefusal, writeRefusal, askRefusal, readOnlyAt, withdrawRefusal, withdrawAt, reportOf, reportStep}
-use Rattle.engine.specs.Moves.{waiting, sendRefusal, deliverRefusal, deliverNow, blockAtTurn, writesetAt, shares, isHit, afterAborts, hitTickets, nothingWaits, workRefusal, isLast, passNext, commitWriteset}
+use Rattle.engine.specs.Moves.{waiting, sendRefusal, deliverRefusal, deliverNow, blockAtTurn, writesetAt, shares, isHit, afterAborts, hitTickets, endsOwn, nothingWaits, workRefusal, isLast, passNext, commitWriteset}
 use Rattle.engine.specs.Step.{Call, step, refusalOf, after}
 use Rattle.engine.specs.Step.Call.{begin, read, write, ask, withdraw, report, send, deliver, work, load}
 use Rattle.engine.specs.Shape.{Shape}
@@ -36,6 +36,7 @@ use Rattle.engine.proofs.Tests.{cond-by, bool-by, clash, not-first, pas
 use Rattle.engine.proofs.Steps.{writes-refused, sends-refused, begin-by, read-by, ask-by, withdraw-by, deliver-by, work-by, load-by}
 use Rattle.engine.proofs.ShapeMade.{shape-station}
 use Rattle.engine.proofs.ShapeTurn.{working}
+use Rattle.engine.proofs.ShapeWriteset.{ends-other}
 use Rattle.engine.proofs.Shapes.{shapes, shape-after}
 use Rattle.engine.proofs.Refusals.{at-replica, refusals}
 use Rattle.engine.proofs.Sent.{sent-shapes}
@@ -206,7 +207,9 @@ module _ (m : Memory) (R : OnlyReads m) where
         active = λ i. rows i .0;
         unwritten = λ i. rows i .1;
         unsent = cond-by (λ (t : Turn). isOn (t .sent) ≡ false) (isLast m) (λ e. refl) (λ e. R .unsent);
-        committed = R .committed;
+        committed = cond-by (λ (c : ℕ). c ≡ 0) (endsOwn false (m .txns .table) (w .ticket)) {x = bump (m .counts .committed)}
+            (λ e. clash e (ends-other (m .txns .table) (w .ticket)))
+            (λ e. R .committed);
         aborted = rw (nobody-hit (w .entries) (m .txns .items) 0 (m .txns .table) (idle m R), R .aborted) refl;
       }
 

@@ -1,5 +1,9 @@
 -- `end_own` meets its contract: the row found is open as sent, or open otherwise, or there is none.
+use Prim.Native.Nat.{ℕ}
+use mathlib.Core.Path.{_≡_}
+use native.Mathlib.Omega.{arith}
 use borrow.Author.Tests.{eq-eqb, ne-eqb, lt-ltb, le-ltb}
+use Rattle.memory.specs.Rows.{rowAt}
 use borrow.Author.Needs.{needs}
 use Rattle.call_ending.proofs.end_own.Statement.{statement}
 use Rattle.call_ending.proofs.end_own.Tie as tie
@@ -22,18 +26,24 @@ bump-requires-2 c κs = search needs
 array-write-marks : tie.Need-array-write-marks
 array-write-marks c = search needs
 
+-- the stage of the row found
+abbrev stage : tie.After-row-of → ℕ
+stage r = rowAt (r .before .before .args .t2) (r .row-of .result) .stage
+
 returns : tie.Need-returns
 returns c =
     let k = c .before in
     let f = k .before .before .before in
     let r = f .before in
-    rw (← r .row-of .ensures, lt-ltb (r .row-of .result) 6 (f .if1 .taken), eq-eqb _ 2 (k .if2 .taken), c .bump2 .ensures, r .before .bump .ensures)
+    let sent : stage r ≡ 2 = omega (arith, k .if2 .taken) in
+    rw (← r .row-of .ensures, lt-ltb (r .row-of .result) 6 (f .if1 .taken), eq-eqb (stage r) 2 sent, c .bump2 .ensures, r .before .bump .ensures)
 
 returns-2 : tie.Need-returns-2
 returns-2 c =
     let f = c .before .before .before in
     let r = f .before in
-    rw (← r .row-of .ensures, lt-ltb (r .row-of .result) 6 (f .if1 .taken), ne-eqb _ 2 (c .if2 .left), r .before .bump .ensures)
+    let other : stage r ≡ 2 → ⊥ = λ e. omega (arith, c .if2 .left) in
+    rw (← r .row-of .ensures, lt-ltb (r .row-of .result) 6 (f .if1 .taken), ne-eqb (stage r) 2 other, r .before .bump .ensures)
 
 returns-3 : tie.Need-returns-3
 returns-3 c =
