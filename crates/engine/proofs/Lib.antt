@@ -47,9 +47,9 @@ pub mod Histories
 pub mod Worked
 pub mod Restarts
 pub mod Tickets
--- with restarts among the calls: 22 is never met
+-- with restarts among the calls: own writesets that a work meets
 pub mod Reached
-pub mod Unmet
+pub mod OwnSent
 -- a station; a replica is none; a write with no table of classes, and the lock before staleness
 pub mod Stations
 pub mod Numbered
