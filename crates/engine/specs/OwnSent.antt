@@ -11,12 +11,12 @@ use Rattle.block.specs.Message.{Record}
 use Rattle.memory.specs.Memory.{Memory, bump}
 use Rattle.memory.specs.Turns.{advance}
 use Rattle.engine.specs.Calls.{Outcome}
-use Rattle.engine.specs.Calls.Answer.{worked}
-use Rattle.engine.specs.Make.{madeMemory}
-use Rattle.engine.specs.Moves.{blockAtTurn, writesetAt, applied, stamped, isSent, nothingWaits, workRefusal, turnBlocks, isLast}
+use Rattle.engine.specs.Calls.Answer.{refused, worked}
+use Rattle.engine.specs.Make.{madeMemory, makeStep}
+use Rattle.engine.specs.Moves.{blockAtTurn, writesetAt, applied, stamped, isSent, workLent, nothingWaits, turnBlocks, isLast}
 use Rattle.engine.specs.Step.{step}
 use Rattle.engine.specs.Step.Call.{work}
-use Rattle.engine.specs.History.{AnyCall, afterAll}
+use Rattle.engine.specs.History.{AnyCall, anyStep, afterAll}
 
 -- the writeset to commit next, and whether it is the replica's own
 abbrev pub writesetMet : Memory → Record
@@ -25,7 +25,7 @@ writesetMet m = writesetAt (blockAtTurn m) (m .counts .done)
 abbrev pub meetsOwn : Memory → Bool
 meetsOwn m = not (eqb (getD (blockAtTurn m) 0 0) 1) && eqb (getD (blockAtTurn m) 1 0) (m .counts .own)
 
--- it is committed, turn and place as for any own one, and nobody ends: no ending is counted, no row changes, and the applying mark is not set
+-- it is committed, turn and place as for any own one, and nobody ends: no ending is counted, no row changes, and the applying mark is not set. What else a work leaves: `Frames.works`
 pub record EndsNobody (m : Memory) (o : Outcome) : Type 0 where
   pub answer : o .answer ≡ worked (record { sender = m .counts .own; ticket = writesetMet m .ticket; moved = isLast m; aborted = []; append = [] })
   pub commits : o .memory .counts .commits ≡ bump (m .counts .commits)
@@ -40,9 +40,12 @@ pub record EndsNobody (m : Memory) (o : Outcome) : Type 0 where
   pub aborted : m .counts .aborted ≤ 4_294_967_295 → o .memory .counts .aborted ≡ m .counts .aborted
 
 pub record OwnSent : Type 0 where
-  -- at a replica, calls and loads with any arguments, restarts from any journal, accepted or not: an own writeset that a work meets has its ticket open as sent.
+  -- at a replica, calls with any arguments, restarts from any journal, accepted or not: an own writeset that a work meets has its ticket open as sent.
   -- What waits at a station's turn is another's (`Stations.others`)
   pub met : (n own : ℕ) (values : List ℤ) → 2 ≤ n → n ≤ 6 → own < n → length values ≡ 128 → (cs : List AnyCall)
       → let m = afterAll (madeMemory n own values) cs in nothingWaits m ≡ false → meetsOwn m ≡ true → isSent m (writesetMet m .ticket) ≡ true
   -- on any memory, an altered one too: "on an altered state Work commits such a writeset and ends nobody"
-  pub altered : (m : Memory) → workRefusal m ≡ 0 → meetsOwn m ≡ true → isSent m (writesetMet m .ticket) ≡ false → EndsNobody m (step m work)
+  pub altered : (m : Memory) → workLent m ≡ true → nothingWaits m ≡ false → meetsOwn m ≡ true → isSent m (writesetMet m .ticket) ≡ false → EndsNobody m (step m work)
+  -- no call gives 22, on any memory; no other refusal takes the number
+  pub gone : (m : Memory) (c : AnyCall) → anyStep m c .answer ≡ refused 22 → ⊥
+  pub make-gone : (m : Memory) (n own : ℕ) (values : List ℤ) → makeStep m n own values .answer ≡ refused 22 → ⊥

@@ -135,15 +135,17 @@ pub record RightAnswers : Type 0 where
       ∷ got (pos 7)
       ∷ got (pos 8)
       ∷ []
-  -- document 02's Req 08: on that state both writesets are committed, and ticket 1, open as active, stays so: no ending is counted
-  pub altered : answers neverSent (begin ∷ work ∷ work ∷ read 1 5 ∷ begin ∷ read 2 5 ∷ report ∷ [])
-      ≡ began 1
+  -- document 02's Req 08: on that state both writesets are committed, and ticket 1, open as active, and 2, open as asked, stay so: no ending is counted
+  pub altered : drop 2 (answers neverSent (begin ∷ begin ∷ write 2 9 (pos 1) ∷ ask 2 ∷ work ∷ work ∷ read 1 5 ∷ begin ∷ read 3 5 ∷ ask 2 ∷ report ∷ []))
+      ≡ wrote
+      ∷ queued
       ∷ worked (record { sender = 0; ticket = 2; moved = false; aborted = []; append = [] })
       ∷ worked (record { sender = 0; ticket = 1; moved = true; aborted = []; append = [] })
       ∷ got (pos 0)
-      ∷ began 2
+      ∷ began 3
       ∷ got (pos 7)
-      ∷ reported (record { turn = 1; commits = 2; tickets = 2; «open_count» = 2; committed = 0; «read_only» = 0; aborted = 0; withdrawn = 0 })
+      ∷ refused 4
+      ∷ reported (record { turn = 1; commits = 2; tickets = 3; «open_count» = 3; committed = 0; «read_only» = 0; aborted = 0; withdrawn = 0 })
       ∷ []
   -- a block that comes early waits for its turn
   pub early : numbers (fresh 3 0) (deliver (nextBlock 3 2 2) ∷ work ∷ []) ≡ 0 ∷ 21 ∷ []
