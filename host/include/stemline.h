@@ -15,6 +15,19 @@
  * - The block goes to every replica of the group, the sender too, in any order, as
  *   often as you like. Each takes it with stemline_replica_take.
  *
+ * A station holds the same values and only reads. stemline_replica_make_station makes
+ * a stemline_replica one, at which nobody writes or sends. It takes no turn:
+ *
+ * - It gets every block of the group from slot 0 on, as often as you like, in any
+ *   order, by stemline_replica_take, and sends none.
+ * - Nobody waits for it, so it may fall behind and be refused a block by 18 that was
+ *   handed out. Keep that block, and offer it again when the station's turn has come
+ *   nearer. (A replica is waited for: there 18 does not arise of blocks that its group
+ *   handed out, and a block refused so may be dropped.)
+ * - It has no journal and no restart. After a cut of the power it is made anew, with
+ *   the values that the group started with, and needs all blocks from slot 0 on. A
+ *   replica's journal, as far as it is durable, has them in order.
+ *
  * A replica that is to outlast a cut of the power has a journal: a file of blocks,
  * one behind the other, which the host keeps. A file that is new is durable once
  * its folder is (fsync).
@@ -44,7 +57,8 @@
  * transaction. Every call is defined on any content of the memory, and returns.
  *
  * host/examples/first.c is a whole program, host/examples/story.c a longer one,
- * host/examples/durable.c one with a journal.
+ * host/examples/durable.c one with a journal, host/examples/print_room.c one with a
+ * station.
  *
  * Calls at one replica come one after the other. Who keeps the parts of a replica
  * elsewhere than in a stemline_replica lends each call those that it needs: see
@@ -89,6 +103,7 @@ static inline const char *stemline_words(int number) {
     case STEMLINE_NOTHING_WAITS: return "no block waits for the turn";
     case STEMLINE_NOT_OPEN_AS_SENT: return "an own writeset whose transaction is not open as sent";
     case STEMLINE_LOAD_WHILE_APPLYING: return "classes are loaded while a block of another replica is being applied";
+    case STEMLINE_STATION_ONLY_READS: return "a station neither writes nor sends";
     default: return "refused by an unknown number";
     }
 }
@@ -148,6 +163,23 @@ static inline uint8_t stemline_replica_make(
         r->classes, STEMLINE_ITEMS, r->places, stemline_lent_places(n), r->outbox, STEMLINE_BLOCK);
 }
 
+/* Makes r a station of a group of n, 2 to 6, with the 128 values that the group starts
+ * with. It has no number: begin, read, ask, withdraw, report, deliver, work and take
+ * run at it as at a replica to which every sender is another, and none of its
+ * transactions writes, so that an ask ends it on the spot and no work aborts it. Write
+ * and send are refused by 25. A station has no classes: a load there is answered as at
+ * a replica and changes nothing that a station answers. What a work or a take gives to
+ * append is for journals, and may be dropped. As with a make, what r held before is no
+ * matter, and stays where this is refused. Refused by 2. */
+static inline uint8_t stemline_replica_make_station(
+    stemline_replica *r, uint32_t n, const int32_t start[STEMLINE_ITEMS]) {
+    return stemline_make_station(
+        r->table, STEMLINE_TABLE, &r->turn, &r->counts, n, start, STEMLINE_ITEMS,
+        r->queue, STEMLINE_QUEUE, r->items, STEMLINE_WRITTEN, r->writes, STEMLINE_WRITTEN,
+        r->snapshots, STEMLINE_SNAPSHOTS, r->values, STEMLINE_ITEMS, r->stamps, STEMLINE_ITEMS,
+        r->classes, STEMLINE_ITEMS, r->places, stemline_lent_places(n), r->outbox, STEMLINE_BLOCK);
+}
+
 /* As a make, with the values that the group started with; then commits the blocks
  * of a journal, up to the first that is torn, fails its check or form, has another n
  * or is not of the next slot. Transactions that were open are gone; tickets go on
@@ -186,7 +218,7 @@ static inline stemline_read_reply stemline_replica_read(
 /* Puts the item with its value into the writeset and locks it. While a block of
  * another is applied, 7 if an item of the same class is still to come in it: see
  * stemline_replica_load.
- * Refused by 1, 2, 3, 4, 7 and, unless the transaction holds the item, 8, 9, 10. */
+ * Refused by 25, 1, 2, 3, 4, 7 and, unless the transaction holds the item, 8, 9, 10. */
 static inline uint8_t stemline_replica_write(
     stemline_replica *r, uint32_t ticket, uint32_t item, int32_t value) {
     return stemline_write(
@@ -212,17 +244,17 @@ static inline stemline_report_reply stemline_replica_report(const stemline_repli
 }
 
 /* Whether a send would be accepted now: the turn is a slot of this replica, its
- * block for that slot is not sent yet, and slots are left. */
+ * block for that slot is not sent yet, and slots are left. Never at a station. */
 static inline bool stemline_replica_is_turn(const stemline_replica *r) {
-    uint32_t slot = r->turn.slot, n = r->counts.replicas;
+    uint32_t slot = r->turn.slot, n = r->counts.replicas, own = r->counts.own;
     /* only in altered memory is n 0; a slot mod 0 is then the slot itself */
     uint32_t owner = n == 0 ? slot : slot % n;
-    return slot < STEMLINE_SLOTS && owner == r->counts.own && r->turn.sent == 0;
+    return own != STEMLINE_NO_NUMBER && slot < STEMLINE_SLOTS && owner == own && r->turn.sent == 0;
 }
 
 /* Writes the block for the own slot, with all that is asked, be it nothing. It
  * goes to the journal, and from there, once it is durable, to every replica of the
- * group, this one too. Refused by 13, 11, 12. */
+ * group, this one too. Refused by 25, 13, 11, 12. */
 static inline uint8_t stemline_replica_send(stemline_replica *r, uint8_t block[STEMLINE_BLOCK]) {
     return stemline_send(
         r->table, STEMLINE_TABLE, &r->turn, &r->counts, r->queue, STEMLINE_QUEUE,
@@ -230,8 +262,9 @@ static inline uint8_t stemline_replica_send(stemline_replica *r, uint8_t block[S
         block, STEMLINE_BLOCK);
 }
 
-/* Keeps a block until its slot is the turn.
- * Refused by 1, 14, 15, 16, 17, 18, 19, 20. */
+/* Keeps a block until its slot is the turn. A station is to be offered a block again
+ * that it refused by 18.
+ * Refused by 1, 14, 15, 16, 17, 18, 19, 20; 19 never at a station. */
 static inline uint8_t stemline_replica_deliver(
     stemline_replica *r, const uint8_t *bytes, size_t length) {
     return stemline_deliver(
@@ -256,6 +289,8 @@ static inline stemline_work_reply stemline_replica_work(
  * wait (7) whose class holds an item of a writeset still to be applied. After a make
  * and after a restart all items are of one class. Classes are the host's own matter:
  * they go into no block and no journal, and each replica of a group may have others.
+ * A station has no classes: a load there is answered as at a replica and changes
+ * nothing that a station answers.
  * Refused by 1, 2, 23. */
 static inline uint8_t stemline_replica_load(
     stemline_replica *r, const uint8_t *classes, size_t length) {

@@ -1,4 +1,4 @@
-/* The twelve calls of the replica engine over parts that the host lends, and three
+/* The calls of the replica engine over parts that the host lends, and three
  * functions that read a block, for C99 and later, and for C++; their limits, numbers
  * and structs.
  *
@@ -35,6 +35,7 @@ extern "C" {
 #define STEMLINE_WRITTEN 48      /* written items of all rows, 8 for each; as many values beside them */
 #define STEMLINE_SNAPSHOTS 768   /* values of all snapshots, 128 for each row */
 #define STEMLINE_BLOCK 512       /* bytes of a block */
+#define STEMLINE_NO_NUMBER 255   /* in the place of an own number: a station, which only reads */
 /* bytes of the places of n replicas */
 #define STEMLINE_PLACES(n) (STEMLINE_BLOCK * (size_t)(n))
 
@@ -64,7 +65,8 @@ enum stemline_number {
     STEMLINE_SLOT_TAKEN = 20,
     STEMLINE_NOTHING_WAITS = 21,
     STEMLINE_NOT_OPEN_AS_SENT = 22,
-    STEMLINE_LOAD_WHILE_APPLYING = 23
+    STEMLINE_LOAD_WHILE_APPLYING = 23,
+    STEMLINE_STATION_ONLY_READS = 25
 };
 
 /* ---- What a replica holds, beside arrays of numbers */
@@ -86,7 +88,7 @@ typedef struct stemline_turn {
 
 typedef struct stemline_counts {
     uint8_t replicas; /* n */
-    uint8_t own;      /* the replica's own number */
+    uint8_t own;      /* the replica's own number; STEMLINE_NO_NUMBER for a station */
     uint32_t commits; /* writesets committed, own and others' */
     uint8_t done;     /* writesets committed of the block at the turn */
     uint32_t tickets; /* tickets given */
@@ -175,12 +177,25 @@ typedef struct stemline_entry_values {
  * outbox, block, bytes        STEMLINE_BLOCK
  * journal                     any
  *
- * Any other length is refused by 1, before anything else is tested; at a make or
- * restart with an n out of range the places may have any. */
+ * Any other length is refused by 1, before anything else is tested; only at a station
+ * a write and a send are refused by 25 before that. At a make, of a station too, and
+ * at a restart with an n out of range the places may have any length.
+ *
+ * A station has no classes: a load there is answered as at a replica and changes
+ * nothing that a station answers. */
 
 uint8_t stemline_make(
     stemline_txn *table, size_t table_length, stemline_turn *turn, stemline_counts *counts,
     uint32_t n, uint32_t own, const int32_t *start, size_t start_length,
+    uint32_t *queue, size_t queue_length, uint8_t *items, size_t items_length,
+    int32_t *writes, size_t writes_length, int32_t *snapshots, size_t snapshots_length,
+    int32_t *values, size_t values_length, uint32_t *stamps, size_t stamps_length,
+    uint8_t *classes, size_t classes_length,
+    uint8_t *places, size_t places_length, uint8_t *outbox, size_t outbox_length);
+
+uint8_t stemline_make_station(
+    stemline_txn *table, size_t table_length, stemline_turn *turn, stemline_counts *counts,
+    uint32_t n, const int32_t *start, size_t start_length,
     uint32_t *queue, size_t queue_length, uint8_t *items, size_t items_length,
     int32_t *writes, size_t writes_length, int32_t *snapshots, size_t snapshots_length,
     int32_t *values, size_t values_length, uint32_t *stamps, size_t stamps_length,

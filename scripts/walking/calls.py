@@ -42,9 +42,17 @@ class Call:
     @property
     def exported_by(self):
         """The crate that exports it."""
-        if self.makes:
-            return "replica_make"
-        return {"write": "replica_write", "load": "replica_write", "send": "replica_turn", "deliver": "replica_turn", "work": "replica_turn"}.get(self.name, "replica_client")
+        return {"make": "replica_make", "restart": "replica_make", "station": "replica_station", "write": "replica_write", "load": "replica_write", "send": "replica_turn", "deliver": "replica_turn", "work": "replica_turn"}.get(self.name, "replica_client")
+
+    @property
+    def exported(self):
+        """The name that hosts call it by."""
+        return "stemline_" + {"station": "make_station"}.get(self.name, self.name)
+
+    @property
+    def replicas_only(self):
+        """Whether a station is refused by 25, before all else."""
+        return self.name in ("write", "send")
 
     @property
     def crate(self):
@@ -121,8 +129,8 @@ class Call:
 
     @property
     def makes(self):
-        """Whether it makes a replica: it is passed nothing of one that was there, and speaks of every one."""
-        return self.name in ("make", "restart")
+        """Whether it makes a replica or a station: it is passed nothing of one that was there, and speaks of every one."""
+        return self.name in ("make", "restart", "station")
 
     @property
     def turn_passed(self):
@@ -178,6 +186,13 @@ CALLS = {
              ("items", mut("u8")), ("writes", mut("i32")), ("snapshots", mut("i32")), ("values", mut("i32")), ("stamps", mut("u32")),
              ("classes", mut("u8")), ("places", mut("u8")), ("outbox", mut("u8"))],
             "", "allParts {h} {c} {t} " + ALL, "makeStep {m} size me start", "", "allParts {h} {c} {t} " + LATER, "number",
+        ),
+        Call(
+            "station", "call_make.make_station", "Made", "u8",
+            [("table", TABLE_MUT), ("turn", TURN_MUT), ("counts", COUNTS_MUT), ("size", U32), ("start", shared("i32")), ("queue", mut("u32")),
+             ("items", mut("u8")), ("writes", mut("i32")), ("snapshots", mut("i32")), ("values", mut("i32")), ("stamps", mut("u32")),
+             ("classes", mut("u8")), ("places", mut("u8")), ("outbox", mut("u8"))],
+            "", "allParts {h} {c} {t} " + ALL, "stationStep {m} size start", "", "allParts {h} {c} {t} " + LATER, "number",
         ),
         Call(
             "restart", "call_restart.restart", "Restarted", "RestartReply",

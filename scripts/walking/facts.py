@@ -98,8 +98,13 @@ class Facts:
         names = self.holds + self.rest + [("r", den(call.reply))] + changed + self.muts
         after = self.after(**{what: what + "′" for what in call.changing})
         types = " → ".join(t for _, t in names)
-        claim = self.claim("r", after, f"called {self.called()}")
+        claim = self.claim("r", after, self.outcome)
         return f"abbrev pub {self.name}Did : {types} → Type 0\n{self.name}Did {' '.join(n for n, _ in names)} = {call.every}{claim}\n"
+
+    @property
+    def outcome(self):
+        """What the exported call does to the memory."""
+        return f"unlessStation ({self.before()}) (called {self.called()})" if self.call.replicas_only else f"called {self.called()}"
 
     def called(self):
         return f"{self.step} ({self.before()})"
@@ -115,9 +120,21 @@ class Facts:
         lam = "λ m. " * (not call.makes)
         parts = "(refl, refl), refl" if call.lent_block else "refl, refl"
         args = [n for n, _ in self.holds + self.rest] + [f"({no_reply(call)})"] + call.changing + [n[:-1] for n, _ in self.muts]
+        ours, passed, known = (f" → {NUMBERED}", " ours", "ne-eqb (counts .own) 255 ours, ") if call.replicas_only else ("", "", "")
         return (
-            f"pub {call.name}-not : {types} → (length table ≡ 6 → ⊥) → {self.name}Did {' '.join(args)}\n"
-            f"{call.name}-not {names} other = {lam}rw (called-other {self.called()} other) ({parts})\n"
+            f"pub {call.name}-not : {types}{ours} → (length table ≡ 6 → ⊥) → {self.name}Did {' '.join(args)}\n"
+            f"{call.name}-not {names}{passed} other = {lam}rw ({known}called-other {self.called()} other) ({parts})\n"
+        )
+
+    # ---- a station: 25, and nothing changes
+    def at_station(self):
+        call = self.call
+        types, names = self.binder()
+        parts = "(refl, refl), refl" if call.lent_block else "refl, refl"
+        args = [n for n, _ in self.holds + self.rest] + ["25"] + call.changing + [n[:-1] for n, _ in self.muts]
+        return (
+            f"pub {call.name}-station : {types} → counts .own ≡ 255 → {self.name}Did {' '.join(args)}\n"
+            f"{call.name}-station {names} none = λ m. rw (eq-eqb (counts .own) 255 none) ({parts})\n"
         )
 
     # ---- six rows, and nothing changes but what was handed on: what the call by value says
@@ -133,14 +150,18 @@ class Facts:
         )
 
     def text(self):
-        parts = [self.on(), self.did(), self.refused()] + [self.looked()] * (self.call.name in ("read", "report"))
+        parts = [self.on(), self.did(), self.refused()] + [self.at_station()] * self.call.replicas_only + [self.looked()] * (self.call.name in ("read", "report"))
         return "\n".join(parts)
 
+
+# a replica's own number
+NUMBERED = "(counts .own ≡ 255 → ⊥)"
 
 # what the contract of a call by value says beside what it gives
 BESIDE = {
     "write": "(6 ≤ at → r .row ≡ t)",
     "make": "(r .turn ≡ turnZero) × (r .counts ≡ ifMade (r .number) (countsFor size me) (countsFor 0 0))",
+    "station": "(r .turn ≡ turnZero) × (r .counts ≡ ifMade (r .number) (countsFor size noNumber) (countsFor 0 0))",
 }
 
 # what a call that is lent no table says
@@ -160,6 +181,8 @@ SAYS = "-- What each call says by value (`On`), what it says of the lent parts (
 MODULES = [
     ("Rattle.memory.specs.Rows", "closed, endRows, rowOf, rowAt"),
     ("Rattle.engine.specs.Make", "turnZero, countsFor, makeStep"),
+    ("Rattle.engine.specs.Station", "stationStep"),
+    ("Rattle.engine.specs.Calls", "unlessStation"),
     ("Rattle.engine.specs.Restart", "restartStep"),
     ("Rattle.engine.specs.Client", "beginRow, beginStep, readRow, readStep, writeRow, writeStep, askRow, askStep, withdrawRow, withdrawStep, reportStep"),
     ("Rattle.engine.specs.Moves", "sendStep, deliverStep, workStep"),
@@ -176,9 +199,9 @@ MODULES = [
     ("Rattle.host_table.proofs.TableLaws", "loaded-six"),
 ]
 PLAIN = [
-    ("Prim.Native.Nat", "ℕ, _≤_"), ("mathlib.Core.Path", "_≡_, refl"), ("mathlib.Core.Bool", "false"), ("mathlib.Core.List", "List"), ("lib.IntN", "ℤ, pos"),
+    ("Prim.Native.Nat", "ℕ, _≤_"), ("mathlib.Core.Path", "_≡_, refl"), ("mathlib.Core.Bool", "false"), ("mathlib.Core.List", "List"), ("borrow.Author.Tests", "eq-eqb, ne-eqb"), ("lib.IntN", "ℤ, pos"),
     ("lib.ListN", "length, set, replicate"), ("Rattle.memory.specs.declared.Counts", "Counts"), ("Rattle.memory.specs.declared.Turn", "Turn"),
-    ("Rattle.memory.specs.declared.Txn", "Txn"), ("Rattle.memory.specs.Memory", "Memory"),
+    ("Rattle.memory.specs.declared.Txn", "Txn"), ("Rattle.memory.specs.Memory", "Memory, noNumber"),
 ]
 
 

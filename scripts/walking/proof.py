@@ -53,7 +53,7 @@ class Proof(Walk):
         call, out = self.call, [USES.rstrip()]
         own = f"Rattle.{call.exported_by}.proofs"
         name = call.name
-        laws = [] if call.table is None else [f"{name.capitalize()}Did", f"{name}-not"] + [f"{name}-did"] * (name in ("read", "report"))
+        laws = [] if call.table is None else [f"{name.capitalize()}Did", f"{name}-not"] + [f"{name}-station"] * call.replicas_only + [f"{name}-did"] * (name in ("read", "report"))
         out.append("use Rattle.host_table.proofs.Handed.{handed, goes-handed, all-ended, all-ended-val, all-ended-is, is-marks}")
         out.append(f"use {own}.Facts.{{{', '.join([name.capitalize() + 'On'] + laws)}}}")
         if name in WAYS:
@@ -68,7 +68,7 @@ class Proof(Walk):
         laws = sorted({h.law for h in map(HELPERS.get, self.helpers)})
         contracts = sorted({HELPERS[n].contract for n in self.helpers})
         out.append(f"use Rattle.host_table.proofs.Callees.{{{', '.join(contracts + [f'{what}-{law}' for law in laws for what in ('to', 'asks', 'gives')])}}}")
-        own = f"{own}.stemline_{name}"
+        own = f"{own}.{call.exported}"
         out += [f"use {own}.Key.{{name as #own}}", f"use {own} as own", f"use {own}.Statement as stated", f"use {own}.Code as code"]
         return "\n".join(out) + "\n\n"
 
@@ -224,12 +224,13 @@ class Proof(Walk):
         table = call.changes("table")
         its, k = self.items_at_end({"table": "ys", "turn": "h", "counts": "c"}, "Rest"), 2 * call.held
         back = " ∷ ".join([str(i) for i in range(1, k + 1)] + ["0", "[]"])
-        args = [f"({no_reply(call)})"] + [self.var(i) for what, i in call.holds if call.changes(what)] + [self.var(i) for i in self.muts] + ["is"] + ["refl"] * table
+        changed = [self.var(i) for what, i in call.holds if call.changes(what)] + [self.var(i) for i in self.muts]
+        args = ["r"] + changed + ["is"] + ["refl"] * table
         names = [self.var(i) for _, i in call.holds] + [self.var(i) for i in rest]
         gone = f"go-all 𝓤 H A W {n} ({listed(self.slot(i) for i in rest)}) {nested(['yes'] * len(rest))} {nested(stays)} {nested(goes)} {self.lifetimes(call.refs)} rest {nested(last)} rest-at {nested(fits)}"
-        text = f"  ends-not : (v : Val) → Is {row} ({no_reply(call)}) (v ∷ []) → (length ys ≡ 6 → ⊥) → ent 𝓤 (⋆ 𝓤 H A ({its})) (Post v)\n"
-        text += f"  ends-not v is other =\n      qed W ({its}) ∵ updating ! $ move ! ({k} ∷ []) $ use1 W (later (‵ {self.lefts('')})) ({gone}) $ await ! tt $ move ! ({back}) $\n"
-        return text + f"      by ! (ends v {' '.join(args)} ({call.name}-not {' '.join(names)} other))\n\n"
+        text = f"  ends-not : (v : Val) (r : {den(call.reply)}) → Is {row} r (v ∷ []) → {call.name.capitalize()}Did {' '.join(names + ['r'] + changed)} → ent 𝓤 (⋆ 𝓤 H A ({its})) (Post v)\n"
+        text += f"  ends-not v r is did =\n      qed W ({its}) ∵ updating ! $ move ! ({k} ∷ []) $ use1 W (later (‵ {self.lefts('')})) ({gone}) $ await ! tt $ move ! ({back}) $\n"
+        return text + f"      by ! (ends v {' '.join(args)} did)\n\n"
 
     def walked(self):
         call = self.call
@@ -264,7 +265,7 @@ class Proof(Walk):
         text += f"  walks : Walks 𝓤 H A own.ended stayed {run} (own.clauses 𝓤 H A mem run)\n  walks = walked 𝓤 H A own.ended stayed (own.clauses 𝓤 H A mem run) {run} (λ κs. {nested(spells)}) (λ κs. {nested(tells)})\n"
         text += f"      (λ κs qs bounds a _ are. via 𝓤 _ (fst∗ 𝓤 _ (emp 𝓤)) (walk 𝓤 H A W mem run {self.actuals()} (𝓣 .C) (𝓣 .Λ) (fmOf 𝓤 H (W .laws) 𝓣) {' '.join('g-' + c for c in self.callees)}))\n\n"
         text += f"  meets : Meets 𝓤 H A own.signature {run} (own.spec 𝓤 H A mem run)\n  meets = walk-meets 𝓤 H A own.ended stayed W {nested(goes)} (own.clauses 𝓤 H A mem run)\n      {run} (WpFn-mono 𝓤 H (W .laws) 𝓣 code.function) walks\n\n"
-        name = f"stemline-{call.name}-spec"
+        name = call.exported.replace("_", "-") + "-spec"
         text += f"pub {name} : {{M : Type 1}} → stated.statement M\nunfolding code.routine tablesOf\n{name} 𝓤 H 𝓜 𝓖 𝓡 =\n    entered 𝓤 H (tripleOf 𝓤 H (𝓖 .A) own.signature (own.spec 𝓤 H (𝓖 .A) (𝓜 .mem) (𝓡 .run)))\n"
         text += "    (tables 𝓤 H 𝓜 𝓡 code.env .C) (tables 𝓤 H 𝓜 𝓡 code.env .Λ) #own code.function (code.unfolded 𝓤 H 𝓜 𝓡)\n"
         text += "    (meets 𝓤 H (𝓖 .A) (givenOf 𝓤 H 𝓜 𝓖) (𝓜 .mem) (𝓡 .run) (tablesOf 𝓤 H 𝓜 (tables 𝓤 H 𝓜 𝓡 code.env))"
@@ -273,7 +274,7 @@ class Proof(Walk):
         return text + ")\n"
 
     def text(self):
-        name = f"stemline_{self.call.name}"
+        name = self.call.exported
         says = f"-- `{name}` meets its contract: a walk of its code, written by `scripts/walks`. The lent parts are taken apart, the call by value is made with what is left of\n-- them, and what changed is put back. Assumes nothing.\n"
         zero = "zero-fits : 0 < 2 ^ 32\nzero-fits = omega arith\n\n" if "scan" in self.helpers else "one-fits : 1 < 2 ^ 32\none-fits = omega arith\n\n" if "stage" in self.helpers else ""
         module = f"module _ {GIVEN}\n    {self.binder()} where\n"

@@ -23,7 +23,7 @@ use contract.Monad.{Fun, fact}
 use contract.Running.{givenOf, tables, tablesOf}
 use types.Kit.{Given, Item, ‵, raw, _⊛_, some, given, later, ⋆, _$_, _∵_, !, qed, by, move, drop, use0, use1, use2, learn, updating, split, join, pick, rewrite, fsplit, fjoin, suffices, frame, await, done}
 use types.Part.{whole, sub, look-in, agg, rep}
-use types.Run.{look, init, store, stop, hop, fld, from, load, lit, true-lit, addr, bin, of-opd, and-then, no-more, assigns, land, returns, returns-within, enter, alloc1, alloc0, params1, pass1, pass0, free0}
+use types.Run.{look, init, store, stop, hop, fld, from, load, lit, neg-lit, true-lit, addr, bin, of-opd, and-then, no-more, assigns, land, returns, returns-within, enter, alloc1, alloc0, params1, pass1, pass0, free0}
 use sound.WpLaws.{FmC, fmOf, WpFn-mono}
 use denote.Array.{Array, array-lawful, array-makes}
 use denote.Builtin.{u8, u32, usize, i32}

@@ -30,7 +30,7 @@ HELPERS = {  # by the name in a proof
 }
 # the law behind each return but that of a wrong table, in order
 WAYS = {
-    "make": ["make-kept", "make-did"], "restart": ["restart-kept", "restart-did"], "begin": ["begin-kept", "begin-did"], "write": ["write-stale", "write-kept", "write-did"], "ask": ["ask-kept", "ask-ended", "ask-queued"],
+    "make": ["make-kept", "make-did"], "station": ["station-kept", "station-did"], "restart": ["restart-kept", "restart-did"], "begin": ["begin-kept", "begin-did"], "write": ["write-stale", "write-kept", "write-did"], "ask": ["ask-kept", "ask-ended", "ask-queued"],
     "withdraw": ["withdraw-kept", "withdraw-did"], "send": ["send-kept", "send-did"], "work": ["work-kept", "work-did"],
 }
 
@@ -180,7 +180,9 @@ class Walk(Names):
             what = f"(agg ! {self.operands(parts, F)})"
             typed = f"(tt, (tt, (record {{ fits = room{sub(place(parts[1][1])[0] - 1)} .0 }}, tt)))"
         elif value[0] == "op2":
-            what, typed = f"(bin ! {self.operand(value[2], F)} (lit ! tt) tt)", "(tt, tt)"
+            _, width, number = value[3]
+            upper = 2 * int(number) >= 2 ** int(width)  # a literal of the upper half is read as a negative one
+            what, typed = f"(bin ! {self.operand(value[2], F)} ({'neg-lit' if upper else 'lit'} ! tt) tt)", "(tt, tt)"
             self.compared[local] = (value[1], value[3][2])
         elif value[0] == "repeat":
             what, typed = f"(rep ! {value[2]} (true-lit !))", "(array-lawful 𝓤 H A W Boolean (bool-lawful 𝓤 H A W) 6 .typed all-ended _ all-ended-is .0)"
@@ -214,6 +216,8 @@ class Walk(Names):
         self.bring(["rest", "toks"])
         values = ["v₂"] * call.row_passed + ["v₅"] * call.by_rows + ["v₃"] * call.turn_passed + ["v₇"] * call.counts_passed
         facts = [v.replace("v", "is") for v in values]
+        if call.replicas_only:  # the counts were read on the way
+            values, facts = [v.replace("v₇", "(N.val c)") for v in values], [f.replace("is₇", "is₈") for f in facts]
         to = f"(to-call {' '.join(values)})"
         fits = ["(is₁ .1)"] * (call.by_row is not None)
         self.say("-- the call by value")
@@ -262,6 +266,9 @@ class Walk(Names):
             self.copies_record("turn", "copy", "U", "h", "₃", operands, local)
         elif name == "copy_counts":
             self.copies_record("counts", "copied", "N", "c", "₇", operands, local)
+            if call.replicas_only:  # its fields are read
+                self.say(f"rewrite ! {self.at(local, len(self.front))} (λ (w : Val). ‵ (fat fullShare Q′.mir l{local} 0 w)) (ap only (N.tells c _ is₇)) refl $")
+                self.say("let is₈ = subst (λ (vs : List Val). Is N.R c vs) (N.tells c _ is₇) is₇ in")
         elif name == "put":
             after, row = f"(set ys {index} (r .row))", call.field("row")
             self.writes_table("put", after, f"(length-set ys {index} (r .row))", f"{index} (is₁ .1) (r .row) (D′.the-laws{row} .val (T.the-type .to (r .row)))", operands, local, f" (fields{row})")
@@ -301,9 +308,10 @@ class Walk(Names):
     def wrong_table(self, then):
         """The table is not six rows: the answer is 1."""
         self.say("-- another table than six rows")
+        not_six = f"({self.call.name}-not {self.given_all} {'ours ' * self.call.replicas_only}(unequal (length ys) 6 other))"
         if then[1][0] == "assign":
             self.assign(0, then[1][2])
-            self.leave("ends-not _ (refl, omega arith) (unequal (length ys) 6 other))", "returns-within ! Post refl")
+            self.leave(f"ends-not _ 1 (refl, omega arith) {not_six})", "returns-within ! Post refl")
             return
         F = len(self.front)
         self.say("use0 W (raw (Refuse 𝓤 H A mem run .pre to-refuse)) asks-refuse $")
@@ -311,13 +319,28 @@ class Walk(Names):
         reply, laws = ("D", "D′") if self.call.direct else ("Y", "Y′")
         self.say(f"use1 W (later (given (Is {reply}.the-row ({no_reply(self.call)}) (u ∷ [])) (‵ ftrue))) (answers 𝓤 H A W refuse.ended (refuse.clauses 𝓤 H A mem run) to-refuse ({no_reply(self.call)}) (λ r e. id⊢ 𝓤 _) u) $ await ! tt $ learn ! (λ is. drop ! $")
         self.say(f"land ! (from ! (stop !)) {self.put(0, f'(LL.lawful {reply}.the-type {laws}.the-laws 𝓤 H A W .typed ({no_reply(self.call)}) _ is .0)')} $")
-        self.leave("ends-not _ is (unequal (length ys) 6 other))))", "returns-within ! Post refl")
+        self.leave(f"ends-not _ ({no_reply(self.call)}) is {not_six})))", "returns-within ! Post refl")
+
+    @property
+    def given_all(self):
+        """What is held and what is handed on, as it came."""
+        return " ".join([self.var(i) for _, i in self.call.holds] + [self.var(i) for i in self.call.rest])
+
+    def at_station(self, then):
+        """It has no number: the answer is 25."""
+        self.say("-- a station")
+        self.assign(0, then[1][2])
+        self.leave(f"ends-not _ 25 (refl, omega arith) ({self.call.name}-station {self.given_all} (eqb→eq (c .own) 255 none)))", "returns-within ! Post refl")
 
     def test(self, statement):
         """An early return, where the test holds."""
         local, _ = place(statement[1][1])
         kept = set(self.full), list(self.front), dict(self.now), self.long, list(self.tests)
-        if self.result_in is None:
+        if self.result_in is None and self.numbered_by(local):
+            self.say(f"when ! (load ! (from ! (stop !)) (look ! {self.at(local, len(self.front))} refl)) (λ none.")
+            self.at_station(statement[2])
+            over, fails, shown = "ours₀", "let ours = missed (c .own) 255 ours₀ in", []
+        elif self.result_in is None:
             self.say(f"when ! (load ! (from ! (stop !)) (look ! {self.at(local, len(self.front))} refl)) (λ other.")
             self.wrong_table(statement[2])
             over, fails, shown = "six₀", "let six = equal (length ys) 6 six₀ in", []
@@ -342,6 +365,10 @@ class Walk(Names):
         self.tests += shown
         self.say(f"(λ {over}. {fails}".rstrip(), 1)
 
+    def numbered_by(self, local):
+        """Whether the test is on the own number."""
+        return self.compared.get(local) == ("eq", "255")
+
     def returned(self):
         """What is returned, that it is what the machine has, and the law that says why."""
         call, way = self.call, self.ways.pop(0)
@@ -350,7 +377,7 @@ class Walk(Names):
         reply, shown = (reply_of(call), "is" if call.direct else "(fields .0)") if call.reply == "u8" else (reply_of(call), "is" if call.direct else self.reply_is)
         if self.plain is not None:
             reply, shown = self.plain, "(refl, omega arith)"
-        args = [self.var(i) for _, i in call.holds] + [self.var(i) for i in call.rest] + ["r"] + [self.last(i) for i in self.muts] + ["six", "said"] + self.tests
+        args = [self.var(i) for _, i in call.holds] + [self.var(i) for i in call.rest] + ["r"] + [self.last(i) for i in self.muts] + ["ours"] * call.replicas_only + ["six", "said"] + self.tests
         return reply, shown, f"({way} {' '.join(args)})"
 
     def end(self):

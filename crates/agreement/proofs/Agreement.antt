@@ -1,7 +1,7 @@
 -- Agreement: the statement's proof, from what each call owes. Assumes nothing.
 use Prim.Native.Nat.{ℕ, suc, _-_, _<_, _≤_}
-use mathlib.Core.Path.{_≡_, refl, sym, ap, _∙_, subst}
-use mathlib.Core.List.{List, List·Memᴰ·head, List·Memᴰ·not-nil, Memᴰ·append-left, Memᴰ·append-right, [], _∷_}
+use mathlib.Core.Path.{_≡_, sym, ap, _∙_, subst}
+use mathlib.Core.List.{List, List·Memᴰ·not-nil, Memᴰ·append-left, [], _∷_}
 use native.Mathlib.Omega.{arith}
 use lib.IntN.{ℤ, pos}
 use lib.ListN.{length, length-map, getD, take}
@@ -120,12 +120,11 @@ module _ (n : ℕ) (start : List ℤ) (least : 2 ≤ n) (most : n ≤ 6) (long :
   at-call : (before : List CallAt) (c : CallAt) → Comes cs before c → Said n start least most long owes F (run n start (fresh n start) before) c
   at-call before c e = said n start least most long owes F cs f noJournals (fresh n start) claims before c e
 
-  -- a call of the list is at a replica of the group, whose memory is sound
+  -- the memory that a call of the list acts on is sound
   sound-at : (before : List CallAt) (c : CallAt) → Comes cs before c → Sound n (run n start (fresh n start) before .memories (c .at))
   sound-at before c e =
       kept-run n start least most long owes before (λ d q. f d (subst (Mem d) (sym (e .1)) (Memᴰ·append-left (c ∷ e .0) q))) noJournals (fresh n start)
-      (fresh-kept n start least most long owes) .sound (c .at)
-      (f c (subst (Mem c) (sym (e .1)) (Memᴰ·append-right before (List·Memᴰ·head refl))) .0) .sound
+      (fresh-kept n start least most long owes) .sound (c .at) .sound
 
   module _ (before : List CallAt) (k : ℕ) (s : Step) (e : Comes cs before (record { at = k; does = call work })) (a : step (groupAfter n start cs before .memories k) work .answer ≡ worked s) where
     abbrev seen : Observed ℤ
@@ -168,6 +167,7 @@ module _ (n : ℕ) (start : List ℤ) (least : 2 ≤ n) (most : n ≤ 6) (long :
     blocks = λ b m. group .messages .each (messageIn b) (mem-map messageIn (g .blocks) b m);
     handed = λ h m. group .messages .all (handoutMessage h) (mem-map handoutMessage (g .handouts) h m);
     replicas = λ k h. agrees k;
+    stations = λ k h. agrees k;
     reads = reading;
     first = λ q h u. first-committer F q h (group .first (q - 1) (omega arith));
     works = λ before k s e a z. rw (next-place (length (run n start (fresh n start) before .observed k .commits))) (committing before k s e a z .named);

@@ -1,5 +1,5 @@
 -- Blocks read back, and six rows: what holds with no premise. Assumes nothing.
-use Prim.Native.Nat.{ℕ, _≤_, _<_}
+use Prim.Native.Nat.{ℕ, _≤_}
 use mathlib.Core.Path.{_≡_, refl, sym, subst}
 use mathlib.Core.Bool.{cond}
 use mathlib.Core.Logic.{_⊎_, inl, inr}
@@ -32,13 +32,13 @@ use Rattle.agreement.proofs.Sendable.{sendable}
 use Rattle.agreement.proofs.Runs.{kept-run, fresh-kept}
 use Rattle.agreement.proofs.Theorem.{owes}
 
--- the memory of each replica after any list of calls
-sound-run : (n : ℕ) (start : List ℤ) → 2 ≤ n → n ≤ 6 → length start ≡ 128 → (cs : List CallAt) → Calls n cs → (k : ℕ) → k < n → Sound n (run n start (fresh n start) cs .memories k)
-sound-run n start least most long cs f k h =
-    kept-run n start least most long (owes n start) cs f (λ j. journal [] 0) (fresh n start) (fresh-kept n start least most long (owes n start)) .sound k h .sound
+-- the memory of each replica and station after any list of calls
+sound-run : (n : ℕ) (start : List ℤ) → 2 ≤ n → n ≤ 6 → length start ≡ 128 → (cs : List CallAt) → Calls n cs → (k : ℕ) → Sound n (run n start (fresh n start) cs .memories k)
+sound-run n start least most long cs f k =
+    kept-run n start least most long (owes n start) cs f (λ j. journal [] 0) (fresh n start) (fresh-kept n start least most long (owes n start)) .sound k .sound
 
 pub six-rows : SixRows
-six-rows = record { tables = λ n start least most long cs f k h. sound-run n start least most long cs f k h .shape .lengths .table }
+six-rows = record { tables = λ n start least most long cs f k. sound-run n start least most long cs f k .shape .lengths .table }
 
 -- ---- send
 
@@ -49,7 +49,7 @@ sent-back n m s lent block =
     (λ e q. let r = theorems .round-trip (messageFor m) (sendable n m s lent e) in
     let i : blockOf (messageFor m) ≡ block = cc in
     subst (λ (b : List ℕ). (blockRefusal b ≡ 0) × (messageOf b ≡ messageFor m)) i (r .taken, r .message))
-    (λ e q. let z : _≡_ {A = ℕ} 0 1 = cc in absurd (let w : ⊥ = omega arith in w))
+    (λ k d e q. let z : _≡_ {A = ℕ} 0 1 = cc in absurd (let w : ⊥ = omega arith in w))
 
 -- ---- deliver
 
@@ -80,7 +80,7 @@ restart-given m n own values journal lent count block =
 
 pub reads-back : ReadsBack
 reads-back = record {
-  sends = λ n start least most long cs f k h. sent-back n _ (sound-run n start least most long cs f k h);
+  sends = λ n start least most long cs f k h. sent-back n _ (sound-run n start least most long cs f k);
   restarts = restart-given;
   keeps = kept-only;
 }

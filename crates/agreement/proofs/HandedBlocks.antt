@@ -108,11 +108,11 @@ module _ (n k : ℕ) (m : Memory) (B : List (List ℕ)) (s : Sound n m) (own : m
   unfolding beginAt staleAt rewriteAt insertWrite readOnlyAt queueAt withdrawAt deliverNow passNext commitWriteset
   hands-call begin = begin-by (Hands n k B) m (λ e. quiet _ refl L) (λ e. quiet _ refl L)
   hands-call (read t i) = read-by (Hands n k B) m t i (λ e. quiet _ refl L) (λ e. quiet _ refl L)
-  hands-call (write t i v) = write-by (Hands n k B) m t i v (λ e. quiet _ refl L) (λ e o. quiet _ refl L) (λ e o. quiet _ refl L) (λ e q. quiet _ refl L)
+  hands-call (write t i v) = write-by (Hands n k B) m t i v (λ e. quiet _ refl L) (λ e o. quiet _ refl L) (λ e o. quiet _ refl L) (λ i e q. quiet _ refl L)
   hands-call (ask t) = ask-by (Hands n k B) m t (λ e. quiet _ refl L) (λ e o. quiet _ refl L) (λ e. quiet _ refl L)
   hands-call (withdraw t) = withdraw-by (Hands n k B) m t (λ e. quiet _ refl L) (λ e. quiet _ refl L)
   hands-call report = unfold step reportStep in quiet _ refl L
-  hands-call (send b) = send-by (Hands n k B) m b (sent-hands b) (λ e. quiet _ refl L)
+  hands-call (send b) = send-by (Hands n k B) m b (sent-hands b) (λ i e q. quiet _ refl L)
   hands-call (deliver b) = deliver-by (Hands n k B) m b (λ e. quiet _ refl L) (λ e. quiet _ refl L)
   hands-call work = work-by (Hands n k B) m
       (λ e q. quiet (passNext m) refl (λ t. clash {b = false} t refl))

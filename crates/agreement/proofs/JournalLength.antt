@@ -1,13 +1,13 @@
 -- How many blocks a replica's journal has, with no premise: every call keeps it. Assumes nothing.
 use Prim.Native.Nat.{ℕ, suc, _*_, _/_, _≤_, _<_}
-use mathlib.Core.Path.{_≡_, refl, sym, ap, _∙_}
+use mathlib.Core.Path.{_≡_, refl, sym, ap, _∙_, subst}
 use mathlib.Core.Bool.{Bool, true, false, cond}
 use mathlib.Core.List.{List, List·Memᴰ·head, List·Memᴰ·tail, [], _∷_, _++_, append-nil}
 use native.Mathlib.Omega.{arith}
 use lib.Dec.{eqb}
 use lib.IntN.{ℤ}
 use lib.ListN.{length, length-append, getD}
-use borrow.Author.Tests.{eq-eqb, ne-eqb}
+use borrow.Author.Tests.{eq-eqb, ne-eqb, lt-ltb}
 use Rattle.block.specs.Message.{ownerOf, signed32}
 use Rattle.block.specs.Bytes.{blockOf}
 use Rattle.block.proofs.BoolLaws.{not-so}
@@ -32,7 +32,7 @@ use Rattle.engine.proofs.SentWork.{sender-owns, is-outbox}
 use Rattle.engine.proofs.Sent.{sent-shapes}
 use Rattle.engine.proofs.RestartLaws.{reads-good, reads-first}
 use Rattle.protocol.specs.Blocks.{join}
-use Rattle.agreement.specs.Group.{GroupCall, call, restart, performed, argumentsOf, journalAfter, Group, CallAt, fresh, next, run, Calls}
+use Rattle.agreement.specs.Group.{GroupCall, call, restart, performed, argumentsOf, journalAfter, Group, CallAt, madeMember, fresh, next, run, Calls}
 use Rattle.agreement.specs.Journals.{blocksAt, JournalLength}
 use Rattle.agreement.proofs.View.{Sound}
 use Rattle.agreement.proofs.Sendable.{sendable, send-passed}
@@ -89,11 +89,11 @@ module _ (n : ℕ) (m : Memory) (s : Sound n m) (Q : SentShape m) (l : List ℕ)
   unfolding beginAt staleAt rewriteAt insertWrite readOnlyAt queueAt withdrawAt sendNow deliverNow passNext commitWriteset
   call-filled begin = begin-by (Filled begin) m (λ e. H) (λ e. H)
   call-filled (read t i) = read-by (Filled (read t i)) m t i (λ e. H) (λ e. H)
-  call-filled (write t i v) = write-by (Filled (write t i v)) m t i v (λ e. H) (λ e o. H) (λ e o. H) (λ e q. H)
+  call-filled (write t i v) = write-by (Filled (write t i v)) m t i v (λ e. H) (λ e o. H) (λ e o. H) (λ k e q. H)
   call-filled (ask t) = ask-by (Filled (ask t)) m t (λ e. H) (λ e o. H) (λ e. H)
   call-filled (withdraw t) = withdraw-by (Filled (withdraw t)) m t (λ e. H) (λ e. H)
   call-filled report = unfold step reportStep in H
-  call-filled (send x) = send-by (Filled (send x)) m x (λ e. let h = send-filled x e in omega arith) (λ e. H)
+  call-filled (send x) = send-by (Filled (send x)) m x (λ e. let h = send-filled x e in omega arith) (λ k e q. H)
   call-filled (deliver x) = deliver-by (Filled (deliver x)) m x (λ e. H) (λ e. H)
   call-filled work = work-by (Filled work) m (λ e k. left (working m (s .shape) e) true) (λ e k. left (working m (s .shape) e) (isLast m)) (λ e. H)
   call-filled (load l) = load-by (Filled (load l)) m l (λ e. H) (λ e. H)
@@ -136,22 +136,25 @@ module _ (n : ℕ) (start : List ℤ) (least : 2 ≤ n) (most : n ≤ 6) (long :
   abbrev AllFilled : Group → Type 0
   AllFilled g = (k : ℕ) → k < n → FilledAt k (g .memories k) (g .disks k .journal)
 
-  group-next : (g : Group) (c : CallAt) → AllFilled g → (c .at < n) × (signed32 (argumentsOf (c .does) .value) ≡ true) → AllFilled (next n start g c)
-  group-next g c F h k below = same-by k (c .at)
-      (λ e. rw (e, eq-eqb (c .at) (c .at) refl) (filled-next (c .at) (g .memories (c .at)) (g .disks (c .at) .journal) (F (c .at) (h .0)) (c .does) (h .1)))
+  group-next : (g : Group) (c : CallAt) → AllFilled g → signed32 (argumentsOf (c .does) .value) ≡ true → AllFilled (next n start g c)
+  group-next g c F v k below = same-by k (c .at)
+      (λ e. rw (e, eq-eqb (c .at) (c .at) refl) (filled-next (c .at) (g .memories (c .at)) (g .disks (c .at) .journal) (F (c .at) (rw e at below)) (c .does) v))
       (λ d. rw (ne-eqb k (c .at) d) (F k below))
 
   filled-run : (cs : List CallAt) → Calls n cs → (g : Group) → AllFilled g → AllFilled (run n start g cs)
   unfolding run
   filled-run [] f g F = F
-  filled-run (c ∷ cs) f g F = filled-run cs (λ d q. f d (List·Memᴰ·tail q)) (next n start g c) (group-next g c F (f c (List·Memᴰ·head refl)))
+  filled-run (c ∷ cs) f g F = filled-run cs (λ d q. f d (List·Memᴰ·tail q)) (next n start g c) (group-next g c F (f c (List·Memᴰ·head refl) .1))
 
   fresh-filled : AllFilled (fresh n start)
-  fresh-filled k h = record {
-    sound = made-sound n start least most long (owes n start) k h;
+  fresh-filled k h = rw (lt-ltb k n h) (record {
+    sound = subst (SoundAt n start least most long (owes n start) k) is (made-sound n start least most long (owes n start) k);
     sent = sent-shapes .made n k start;
     filled = unfold madeMemory in refl;
-  }
+  })
+    where
+      is : madeMember n start k ≡ madeMemory n k start
+      is = rw (lt-ltb k n h) refl
 
   -- each replica after a list of calls
   pub filled-after : (cs : List CallAt) → Calls n cs → let g = run n start (fresh n start) cs in (k : ℕ) → k < n → FilledAt k (g .memories k) (g .disks k .journal)

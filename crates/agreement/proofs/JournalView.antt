@@ -162,11 +162,11 @@ module _ (n : ℕ) (start : List ℤ) (m : Memory) (s : Sound n m) where
   unfolding heard appended beginAt staleAt rewriteAt insertWrite readOnlyAt queueAt withdrawAt sendNow deliverNow
   appends begin = begin-by (Appends begin) m (λ e. no-block n) (λ e. no-block n)
   appends (read t i) = read-by (Appends (read t i)) m t i (λ e. no-block n) (λ e. no-block n)
-  appends (write t i v) = write-by (Appends (write t i v)) m t i v (λ e. no-block n) (λ e o. no-block n) (λ e o. no-block n) (λ e q. no-block n)
+  appends (write t i v) = write-by (Appends (write t i v)) m t i v (λ e. no-block n) (λ e o. no-block n) (λ e o. no-block n) (λ k e q. no-block n)
   appends (ask t) = ask-by (Appends (ask t)) m t (λ e. no-block n) (λ e o. no-block n) (λ e. no-block n)
   appends (withdraw t) = withdraw-by (Appends (withdraw t)) m t (λ e. no-block n) (λ e. no-block n)
   appends report = unfold step reportStep in no-block n
-  appends (send l) = send-by (Appends (send l)) m l (λ e. one-block n (blockOf (messageFor m)) (sent-good l e)) (λ e. no-block n)
+  appends (send l) = send-by (Appends (send l)) m l (λ e. one-block n (blockOf (messageFor m)) (sent-good l e)) (λ k e q. no-block n)
   appends (deliver l) = deliver-by (Appends (deliver l)) m l (λ e. no-block n) (λ e. no-block n)
   appends work =
       work-by (Appends work) m

@@ -23,6 +23,7 @@ pub mod WorkStep
 pub mod RestartView
 pub mod RestartAnswers
 pub mod RestartStep
+pub mod MemberStep
 -- the journals
 pub mod JournalView
 -- the replicas as a machine of the protocol, its runs, the theorem

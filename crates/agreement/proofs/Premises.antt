@@ -8,6 +8,7 @@ use native.Mathlib.Omega.{arith}
 use lib.Dec.{eqb}
 use lib.IntN.{ℤ}
 use lib.ListN.{length, length-append, length-map, getD}
+use borrow.Author.Tests.{eqb-true}
 use Rattle.block.specs.Message.{signed32}
 use Rattle.block.proofs.AnswerLaws.{is-taken}
 use Rattle.memory.specs.Memory.{Memory}
@@ -95,13 +96,13 @@ module _ (n : ℕ) (start : List ℤ) (least : 2 ≤ n) (most : n ≤ 6) (long :
 
   -- the first call's premise, as the machine's
   first : (g : Group) (c : CallAt) (cs : List CallAt) → PremiseFrom n start g (c ∷ cs) → (J : ℕ → Journal ℤ) → Holds J g
-      → ((k : ℕ) → 512 * J k .safe ≤ g .disks k .floor) → (h : (c .at < n) × (signed32 (argumentsOf (c .does) .value) ≡ true))
+      → ((k : ℕ) → k < n → 512 * J k .safe ≤ g .disks k .floor) → (h : signed32 (argumentsOf (c .does) .value) ≡ true)
       → CommandPremise (setup n start) (machine n start least most long owes) (machineOf n start least most long owes J g) (command n start least most long owes c h ∷ [])
   unfolding run CommandPremise
   first g c cs A J K low h = (
     (
       handed-at n start least most long owes (g .blocks) (c .at) (g .memories (c .at)) (c .does) (λ b e q. A .delivered [] (c .at) b (cs, ap is e) q),
-      lent-at n start least most long owes (J (c .at)) (g .disks (c .at)) (K .disks (c .at)) (low (c .at)) (c .at) (g .memories (c .at)) (K .sound (c .at) (h .0)) (c .does) (h .1)
+      lent-at n start least most long owes (J (c .at)) (g .disks (c .at)) (c .at) (K .disks (c .at)) (low (c .at)) (g .memories (c .at)) (K .sound (c .at)) (c .does) h
           (λ j l x b e q. A .lent [] (c .at) j l x b (cs, ap is e) q),
     ),
     tt,
@@ -110,7 +111,7 @@ module _ (n : ℕ) (start : List ℤ) (least : 2 ≤ n) (most : n ≤ 6) (long :
       is : GroupCall → List CallAt
       is d = record { at = c .at; does = d } ∷ cs
 
-  inv-next : (J : ℕ → Journal ℤ) (g : Group) (c : CallAt) (h : (c .at < n) × (signed32 (argumentsOf (c .does) .value) ≡ true)) → Inv J g
+  inv-next : (J : ℕ → Journal ℤ) (g : Group) (c : CallAt) (h : signed32 (argumentsOf (c .does) .value) ≡ true) → Inv J g
       → CommandPremise (setup n start) (machine n start least most long owes) (machineOf n start least most long owes J g) (command n start least most long owes c h ∷ [])
       → Inv (journalsNext n start least most long owes J g c) (next n start g c)
   unfolding runCommands
@@ -118,10 +119,10 @@ module _ (n : ℕ) (start : List ℤ) (least : 2 ≤ n) (most : n ≤ 6) (long :
       subst (MachineInv (setup n start) (machine n start least most long owes) (places-apart n start)) (one n start least most long owes J g c h)
       (inv-commands (setup n start) (machine n start least most long owes) (places-apart n start) (command n start least most long owes c h ∷ []) (machineOf n start least most long owes J g) I p)
 
-  floors-next : (J : ℕ → Journal ℤ) (g : Group) (c : CallAt) → Holds J g → c .at < n
-      → Inv (journalsNext n start least most long owes J g c) (next n start g c) → ((k : ℕ) → 512 * J k .safe ≤ g .disks k .floor)
-      → (k : ℕ) → 512 * journalsNext n start least most long owes J g c k .safe ≤ next n start g c .disks k .floor
-  floors-next J g c K h I low k = by (eqb k (c .at))
+  floors-next : (J : ℕ → Journal ℤ) (g : Group) (c : CallAt) → Holds J g
+      → Inv (journalsNext n start least most long owes J g c) (next n start g c) → ((k : ℕ) → k < n → 512 * J k .safe ≤ g .disks k .floor)
+      → (k : ℕ) → k < n → 512 * journalsNext n start least most long owes J g c k .safe ≤ next n start g c .disks k .floor
+  floors-next J g c K I low k below = by (eqb k (c .at)) refl
     where
       d′ : Disk
       d′ = diskAfter (g .disks (c .at)) (c .does) (did n start g c .answer)
@@ -129,27 +130,29 @@ module _ (n : ℕ) (start : List ℤ) (least : 2 ≤ n) (most : n ≤ 6) (long :
       J′ : Journal ℤ
       J′ = journalNext n start least most long owes (J (c .at)) (c .at) (g .memories (c .at)) (c .does)
 
-      H′ : OnDisk n (d′ .journal) (J′ .kept)
-      H′ = disk-next n start least most long owes (g .disks (c .at) .journal) (J (c .at)) (K .disks (c .at)) (c .at) (g .memories (c .at)) (K .sound (c .at) h) (c .does)
+      H′ : c .at < n → OnDisk n (d′ .journal) (J′ .kept)
+      H′ h = disk-next n start least most long owes (g .disks (c .at) .journal) (J (c .at)) (K .disks (c .at) h) (c .at) (g .memories (c .at)) (K .sound (c .at)) h (c .does)
 
       s : J′ .safe ≤ length (J′ .kept)
       s = subst (λ (j : Journal ℤ). j .safe ≤ length (j .kept)) (update-same J (c .at) J′) (I .inv .journals (c .at) .safe)
 
-      by : (b : Bool) → 512 * cond b J′ (J k) .safe ≤ cond b d′ (g .disks k) .floor
-      by true = floor-by n (J (c .at)) (g .disks (c .at) .floor) (d′ .journal) _ (c .does) (did n start g c .answer) (low (c .at)) (safe-bytes n (d′ .journal) J′ H′ s)
-      by false = low k
+      by : (b : Bool) → eqb k (c .at) ≡ b → 512 * cond b J′ (J k) .safe ≤ cond b d′ (g .disks k) .floor
+      by true e =
+          let h : c .at < n = rw (eqb-true k (c .at) e) at below in
+          floor-by n (J (c .at)) (g .disks (c .at) .floor) (d′ .journal) _ (c .does) (did n start g c .answer) (low (c .at) h) (safe-bytes n (d′ .journal) J′ (H′ h) s)
+      by false e = low k below
 
-  pub premise : (cs : List CallAt) (f : Calls n cs) (J : ℕ → Journal ℤ) (g : Group) → Holds J g → Inv J g → ((k : ℕ) → 512 * J k .safe ≤ g .disks k .floor) → PremiseFrom n start g cs
+  pub premise : (cs : List CallAt) (f : Calls n cs) (J : ℕ → Journal ℤ) (g : Group) → Holds J g → Inv J g → ((k : ℕ) → k < n → 512 * J k .safe ≤ g .disks k .floor) → PremiseFrom n start g cs
       → CommandPremise (setup n start) (machine n start least most long owes) (machineOf n start least most long owes J g) (commands n start least most long owes cs f)
   unfolding CommandPremise commands
   premise [] f J g K I low A = tt
   premise (c ∷ cs) f J g K I low A =
-      let h = f c (List·Memᴰ·head refl) in
+      let h = f c (List·Memᴰ·head refl) .1 in
       let p = first g c cs A J K low h in
       let K′ = kept-next n start least most long owes J g K c h in
       let I′ = inv-next J g c h I p in (
         p .0,
         subst (λ (s : MachineSystem (setup n start) (machine n start least most long owes)). CommandPremise (setup n start) (machine n start least most long owes) s (commands n start least most long owes cs (λ d q. f d (List·Memᴰ·tail q))))
             (sym (one n start least most long owes J g c h))
-            (premise cs (λ d q. f d (List·Memᴰ·tail q)) (journalsNext n start least most long owes J g c) (next n start g c) K′ I′ (floors-next J g c K (h .0) I′ low) (rest g c cs A)),
+            (premise cs (λ d q. f d (List·Memᴰ·tail q)) (journalsNext n start least most long owes J g c) (next n start g c) K′ I′ (floors-next J g c K I′ low) (rest g c cs A)),
       )

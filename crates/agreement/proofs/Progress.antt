@@ -13,30 +13,34 @@ use borrow.Author.Tests.{eqb-true, ltb-false}
 use Rattle.block.specs.Message.{ownerOf}
 use Rattle.block.specs.Answers.{headerOf}
 use Rattle.block.proofs.BoolLaws.{joined, not-so}
-use Rattle.memory.specs.Memory.{Memory, maxSlots}
+use Rattle.memory.specs.Memory.{Memory, noNumber, maxSlots}
 use Rattle.memory.specs.Turns.{isEmpty}
 use Rattle.engine.specs.Calls.{Outcome}
 use Rattle.engine.specs.Calls.Answer.{restarted}
 use Rattle.engine.specs.Moves.{sentAlready, sameBytes, slotPast, isOwnBlock, notSentHere, nothingWaits}
 use Rattle.engine.specs.Restart.{blocksIn, restartStep}
+use Rattle.engine.specs.Step.{refusalOf}
+use Rattle.engine.specs.Step.Call.{deliver}
 use Rattle.engine.proofs.Tests.{cond-by, bool-by, same-by, less-by}
 use Rattle.engine.proofs.BlockFacts.{taken-block}
 use Rattle.engine.proofs.Steps.{restart-by}
+use Rattle.engine.proofs.Refusals.{refusals}
 use Rattle.engine.proofs.Waiting.{own-slot}
-use Rattle.engine.proofs.Come.{HasCome, come-each, bytes-same, Givable, come-given, works, sends}
+use Rattle.engine.proofs.Come.{HasCome, come-each, bytes-same, Givable, given-number, come-given, works, sends}
 use Rattle.protocol.specs.Lists.{Mem}
 use Rattle.protocol.specs.Writesets.{Message}
 use Rattle.protocol.specs.Journal.{journal}
 use Rattle.protocol.specs.Observer.{Handout, handoutMessage, noHandout}
 use Rattle.protocol.proofs.ListLaws.{update-by, update-same, mem-map, mem-getD, getD-map-in}
 use Rattle.protocol.proofs.SequenceLaws.{mem-at}
-use Rattle.agreement.specs.Group.{messageIn, GroupCall, call, restart, performed, Group, CallAt, fresh, did, next, run, Comes, Calls, Premise}
+use Rattle.agreement.specs.Group.{messageIn, GroupCall, call, restart, performed, Group, CallAt, fresh, did, next, run, Comes, MayBeAt, Calls, Premise}
 use Rattle.agreement.specs.Journals.{blocksAt}
-use Rattle.agreement.specs.Progress.{giving, Given, AllGiven, SlotsLeft, CanSend, CanWork, ProgressTheorem}
+use Rattle.agreement.specs.Progress.{giving, Given, AllGiven, SlotsLeft, CanSend, CanWork, ProgressTheorem, HandedAnswers}
 use Rattle.agreement.proofs.View.{Sound}
 use Rattle.agreement.proofs.DeliverStep.{slot-said}
-use Rattle.agreement.proofs.Runs.{run-on, calls-part, premise-part}
-use Rattle.agreement.proofs.Theorem.{InvAfter, inv-after}
+use Rattle.agreement.proofs.Replicas.{Standing, as-replica, as-station, SoundAt}
+use Rattle.agreement.proofs.Runs.{run-on, calls-part, premise-part, own-is, kept-run, fresh-kept}
+use Rattle.agreement.proofs.Theorem.{owes, InvAfter, inv-after}
 use Rattle.agreement.proofs.JournalLength.{FilledAt, filled-after}
 use Rattle.agreement.proofs.Journals.{journals}
 use Rattle.agreement.proofs.HandedBlocks.{GoodBlock, NewBlock, SentLast, Hands, hands}
@@ -69,6 +73,10 @@ module _ (n : ℕ) (start : List ℤ) (least : 2 ≤ n) (most : n ≤ 6) (long :
     inv : InvAfter n start least most long cs
     inv = inv-after n start least most long cs f p
 
+    -- every member's memory, a station's too
+    stood : (k : ℕ) → SoundAt n start least most long (owes n start) k (mem cs k)
+    stood = kept-run n start least most long (owes n start) cs f (λ j. journal [] 0) (fresh n start) (fresh-kept n start least most long (owes n start)) .sound
+
     held : (k : ℕ) → k < n → FilledAt n start least most long k (mem cs k) (at cs .disks k .journal)
     held = filled-after n start least most long cs f
 
@@ -76,7 +84,7 @@ module _ (n : ℕ) (start : List ℤ) (least : 2 ≤ n) (most : n ≤ 6) (long :
     size-at k h = held k h .sound .sound .size
 
     own-at : (k : ℕ) → k < n → mem cs k .counts .own ≡ k
-    own-at k h = held k h .sound .own
+    own-at k h = own-is n start least most long (owes n start) k (mem cs k) (stood k) h
 
     reach : (k : ℕ) → mem cs k .turn .slot ≤ length (D cs)
     reach k = inv .inv .each k .track .reach
@@ -140,27 +148,51 @@ module _ (n : ℕ) (start : List ℤ) (least : 2 ≤ n) (most : n ≤ 6) (long :
   unfolding headerOf
   owner-of b G = taken-block b (G .taken) .sender ∙ ap (λ (r : ℕ). ownerOf r (headerOf b .slot)) (G .replicas)
 
-  blocks-next : (cs : List CallAt) → Calls n cs → Premise n start cs → (c : CallAt) → c .at < n → Blocks (at cs) → Blocks (next n start (at cs) c)
-  blocks-next cs f p c h B = record {
+  -- i is the number in the memory that the call acts on: the member's at a replica, and no replica's at a station
+  blocks-by : (cs : List CallAt) (c : CallAt) (i : ℕ) → (c .at < n → i ≡ c .at) → (i < n → i ≡ c .at) → Blocks (at cs) → Hands n i (at cs .blocks) (did n start (at cs) c)
+      → Blocks (next n start (at cs) c)
+  blocks-by cs c i own only B H = record {
     good = λ b m. either b (H .grown b m);
-    last = update-by (λ (k : ℕ) (m : Memory). k < n → SentLast k m (next n start (at cs) c .blocks)) (at cs .memories) (c .at) (did n start (at cs) c .memory) (λ l. H .last)
+    last = update-by (λ (k : ℕ) (m : Memory). k < n → SentLast k m (next n start (at cs) c .blocks)) (at cs .memories) (c .at) (did n start (at cs) c .memory)
+        (λ l. subst (λ (k : ℕ). SentLast k (did n start (at cs) c .memory) (next n start (at cs) c .blocks)) (own l) (H .last))
         (λ j d l t b q o z. other j d l t b o z (H .grown b q));
   }
     where
-      marked : (b : List ℕ) → Mem b (at cs .blocks) → headerOf b .sender ≡ c .at → headerOf b .slot ≡ mem cs (c .at) .turn .slot → sentAlready (mem cs (c .at)) ≡ true
-      marked b q o z = mark cs f p (c .at) (ap (ownerOf n) (sym z) ∙ sym (owner-of b (B .good b q)) ∙ o) (subst (λ (s : ℕ). s < length (D cs)) z (known cs f p b q))
-
-      H : Hands n (c .at) (at cs .blocks) (did n start (at cs) c)
-      H = hands n (c .at) (mem cs (c .at)) (at cs .blocks) (held cs f p (c .at) h .sound .sound) (own-at cs f p (c .at) h) (B .last (c .at) h) marked start (c .does)
-
-      either : (b : List ℕ) → Mem b (at cs .blocks) ⊎ NewBlock n (c .at) b → GoodBlock n b
+      either : (b : List ℕ) → Mem b (at cs .blocks) ⊎ NewBlock n i b → GoodBlock n b
       either b (inl q) = B .good b q
       either b (inr N) = N .good
 
       other : (j : ℕ) → (j ≡ c .at → ⊥) → j < n → sentAlready (mem cs j) ≡ true → (b : List ℕ) → headerOf b .sender ≡ j → headerOf b .slot ≡ mem cs j .turn .slot
-          → Mem b (at cs .blocks) ⊎ NewBlock n (c .at) b → b ≡ mem cs j .blocks .outbox
+          → Mem b (at cs .blocks) ⊎ NewBlock n i b → b ≡ mem cs j .blocks .outbox
       other j d l t b o z (inl q) = B .last j l t b q o z
-      other j d l t b o z (inr N) = absurd (d (sym o ∙ N .sender))
+      other j d l t b o z (inr N) = let e : j ≡ i = sym o ∙ N .sender in absurd (d (e ∙ only (subst (λ (k : ℕ). k < n) e l)))
+
+  -- no block is from a member without a number
+  none-from : (b : List ℕ) → GoodBlock n b → headerOf b .sender ≡ noNumber → ⊥
+  unfolding ownerOf
+  none-from b G e = let a = owner-of b G in let l = mod-lt (headerOf b .slot) {m = n} (omega arith) in omega arith
+
+  -- a station's call; it has no restart
+  station-hands : (B : List (List ℕ)) → ((b : List ℕ) → Mem b B → GoodBlock n b) → (k : ℕ) (m : Memory) → Sound n m → n ≤ k → m .counts .own ≡ noNumber → (d : GroupCall) → MayBeAt n k d
+      → Hands n noNumber B (performed n start k m d)
+  station-hands B good k m s above e (call d) h =
+      hands n noNumber m B s e (λ t b q o z. absurd (none-from b (good b q) o)) (λ b q o z. absurd (none-from b (good b q) o)) start (call d)
+  station-hands B good k m s above e (restart j l) h = absurd (let w : ⊥ = omega arith in w)
+
+  blocks-next : (cs : List CallAt) → Calls n cs → Premise n start cs → (c : CallAt) → MayBeAt n (c .at) (c .does) → Blocks (at cs) → Blocks (next n start (at cs) c)
+  blocks-next cs f p c here B = by (stood cs f p (c .at) .stands)
+    where
+      s : Sound n (mem cs (c .at))
+      s = stood cs f p (c .at) .sound
+
+      marked : (b : List ℕ) → Mem b (at cs .blocks) → headerOf b .sender ≡ c .at → headerOf b .slot ≡ mem cs (c .at) .turn .slot → sentAlready (mem cs (c .at)) ≡ true
+      marked b q o z = mark cs f p (c .at) (ap (ownerOf n) (sym z) ∙ sym (owner-of b (B .good b q)) ∙ o) (subst (λ (s : ℕ). s < length (D cs)) z (known cs f p b q))
+
+      by : Standing n start least most long (owes n start) (c .at) (mem cs (c .at)) → Blocks (next n start (at cs) c)
+      by (as-replica h e) = blocks-by cs c (c .at) (λ l. refl) (λ l. refl) B (hands n (c .at) (mem cs (c .at)) (at cs .blocks) s e (B .last (c .at) h) marked start (c .does))
+      by (as-station h e) =
+          blocks-by cs c noNumber (λ l. absurd (let w : ⊥ = omega arith in w)) (λ l. absurd (let w : ⊥ = omega arith in w)) B
+          (station-hands (at cs .blocks) (B .good) (c .at) (mem cs (c .at)) s h e (c .does) here)
 
   blocks-all : (cs : List CallAt) → Calls n cs → Premise n start cs → Blocks (at cs)
   unfolding run
@@ -291,7 +323,7 @@ module _ (n : ℕ) (start : List ℤ) (least : 2 ≤ n) (most : n ≤ 6) (long :
       let u : t % n < n = mod-lt t {m = n} (omega arith) in
       let e = all (t % n) u in
       let R = held n start least most long cs f p (t % n) u in
-      let o : ownerOf (now (t % n) .counts .replicas) (now (t % n) .turn .slot) ≡ now (t % n) .counts .own = rw (R .sound .sound .size, e, R .sound .own) in
+      let o : ownerOf (now (t % n) .counts .replicas) (now (t % n) .turn .slot) ≡ now (t % n) .counts .own = rw (R .sound .sound .size, e, own-at n start least most long cs f p (t % n) u) in
       let s : sentAlready (now (t % n)) ≡ false = not-so (sentAlready (now (t % n))) (λ q. let z = sent-known n start least most long cs f p (t % n) u q in omega arith) in
       (t % n, u, inl (λ lent z. sends (now (t % n)) (R .sound .sound .shape) (R .sent) lent z (omega arith) o s))
 
@@ -309,3 +341,10 @@ module _ (n : ℕ) (start : List ℤ) (least : 2 ≤ n) (most : n ≤ 6) (long :
 
 pub progress : ProgressTheorem
 progress n start least most long cs f p = goes n start least most long cs f p
+
+pub handed-answers : HandedAnswers
+unfolding refusalOf
+handed-answers n start least most long cs f p k h b q =
+    let m = run n start (fresh n start) cs .memories k in
+    subst (λ (a : ℕ). (a ≡ 0) ⊎ ((a ≡ 17) ⊎ (a ≡ 20))) (sym (refusals .number (run n start (fresh n start) cs .memories k) (deliver b)))
+    (given-number (run n start (fresh n start) cs .memories k) (held n start least most long cs f p k h .sound .sound .shape) b (givable n start least most long cs f p k h b q))

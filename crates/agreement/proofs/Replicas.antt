@@ -1,40 +1,44 @@
--- The replicas as a machine of the protocol, from what each call owes. Assumes nothing.
+-- The replicas and the stations as a machine of the protocol, from what each call owes. Assumes nothing.
 use Prim.Native.Nat.{ℕ, _*_, _<_, _≤_}
 use mathlib.Core.Path.{_≡_, refl, sym, _∙_}
 use mathlib.Core.Bool.{true}
 use mathlib.Core.Option.{Option, some}
 use mathlib.Core.List.{List}
 use native.Mathlib.Omega.{arith}
-use lib.IntN.{ℤ, pos}
+use lib.Dec.{ltb}
+use lib.IntN.{ℤ}
 use lib.ListN.{length}
+use borrow.Author.Tests.{ltb-true, ltb-false}
 use Rattle.block.specs.Message.{signed32}
-use Rattle.memory.specs.Memory.{Memory}
+use Rattle.memory.specs.Memory.{Memory, noNumber}
 use Rattle.engine.specs.Calls.{Outcome}
 use Rattle.engine.specs.Make.{madeMemory}
 use Rattle.engine.specs.Moves.{waiting}
 use Rattle.engine.specs.Step.{Call, step}
-use Rattle.engine.specs.Restart.{blocksIn, restartStep}
-use Rattle.engine.proofs.Tests.{less-by}
+use Rattle.engine.specs.Restart.{blocksIn}
+use Rattle.engine.proofs.Tests.{cond-by, less-by}
 use Rattle.engine.proofs.Steps.{restart-by}
+use Rattle.engine.proofs.Passed.{restart-passed}
 use Rattle.engine.proofs.PlaceLaws.{next-round}
 use Rattle.engine.proofs.ShapeMade.{getD-zeros}
 use Rattle.engine.proofs.Reports.{made-own, restarted-own, step-counted}
 use Rattle.protocol.specs.System.{made, PlacesApart}
 use Rattle.protocol.specs.Machine.{Alike, Performed, Refines, Machine}
-use Rattle.agreement.specs.Group.{GroupCall, call, restart, performed, argumentsOf, heard}
-use Rattle.agreement.proofs.View.{setup, rowsFrom, placeAt, view, Sound, meant, Owed, refuses, follows}
-use Rattle.agreement.proofs.Soundness.{sound-each, sound-made}
-use Rattle.agreement.proofs.RestartStep.{lentMessages, meantBy, RestartOwed, turned-away, restores, restart-owes, sound-restarted}
+use Rattle.agreement.specs.Group.{GroupCall, call, restart, performed, argumentsOf, heard, madeMember}
+use Rattle.agreement.proofs.View.{setup, rowsFrom, placeAt, viewAt, Sound, Owed}
+use Rattle.agreement.proofs.Soundness.{sound-each, sound-made, sound-station}
+use Rattle.agreement.proofs.RestartStep.{meantBy, sound-restarted}
+use Rattle.agreement.proofs.MemberStep.{OwedAt, refuses-at, follows-at, replica-owes, replica-restarts, station-owes, station-restarts}
 
 -- a call whose value, where it has one, is a signed 32-bit number
 pub record TypedCall : Type 0 where
   pub call : GroupCall
   pub value : signed32 (argumentsOf call .value) ≡ true
 
--- a replica just made is the model's
-pub made-alike : (n k : ℕ) (start : List ℤ) → Alike (made (setup n start) k) (view (madeMemory n k start))
+-- a replica or a station just made is the model's
+pub made-alike : (n k own : ℕ) (start : List ℤ) → Alike (made (setup n start) k) (viewAt k (madeMemory n own start))
 unfolding madeMemory waiting rowsFrom placeAt
-made-alike n k start = record {
+made-alike n k own start = record {
   own = refl;
   cursor = refl;
   commits = refl;
@@ -59,35 +63,55 @@ module _ (n : ℕ) (start : List ℤ) (least : 2 ≤ n) (most : n ≤ 6) (long :
   abbrev pub meaning : TypedCall → Option (Rattle.protocol.specs.System.Call ℤ)
   meaning a = some (meantBy n (a .call))
 
-  -- the memory of replica k
+  -- member k is a replica with that number, or a station, which has none
+  pub data Standing (k : ℕ) (m : Memory) : Type 0 where
+    as-replica : k < n → m .counts .own ≡ k → Standing k m
+    as-station : n ≤ k → m .counts .own ≡ noNumber → Standing k m
+
+  -- the memory of member k
   pub record SoundAt (k : ℕ) (m : Memory) : Type 0 where
     pub sound : Sound n m
-    pub own : m .counts .own ≡ k
-    pub among : k < n
+    pub stands : Standing k m
 
-  pub refines : (k : ℕ) (m : Memory) (a : TypedCall) → SoundAt k m → Refines (setup n start) (perform k) meaning view m a
-  refines k m a s = go (a .call) (a .value)
+  -- with the same number
+  stands-on : (k : ℕ) (m o : Memory) → o .counts .own ≡ m .counts .own → Standing k m → Standing k o
+  stands-on k m o e (as-replica h q) = as-replica h (e ∙ q)
+  stands-on k m o e (as-station h q) = as-station h (e ∙ q)
+
+  owes-at : (k : ℕ) (m : Memory) → SoundAt k m → (c : GroupCall) → OwedAt n start k m c (performed n start k m c)
+  owes-at k m s c = go c (s .stands)
     where
-      by-call : (c : Call) (v : signed32 (argumentsOf (call c) .value) ≡ true) → Owed n start m c (step m c) → Refines (setup n start) (perform k) meaning view m (record { call = call c; value = v })
-      by-call c v (refuses i h e l) = Refines.refuses i h e l
-      by-call c v (follows e l) = Refines.follows (meant c) refl e l
+      go : (c : GroupCall) → Standing k m → OwedAt n start k m c (performed n start k m c)
+      go (call c) (as-replica h q) = replica-owes n start k m q c (step m c) (step-counted m (s .sound .shape) c .own ∙ q) (owes m (s .sound) c)
+      go (call c) (as-station h q) = station-owes n start most k m (s .sound) h q c (owes m (s .sound) c)
+      go (restart j b) (as-replica h q) = replica-restarts n start k m q j b
+      go (restart j b) (as-station h q) = station-restarts n start most k m (s .sound) h q j b
 
-      by-restart : (j b : List ℕ) (v : signed32 (pos 0) ≡ true) → RestartOwed n start m j b (restartStep m n k start j b) → Refines (setup n start) (perform k) meaning view m (record { call = restart j b; value = v })
-      by-restart j b v (turned-away i h e l) = Refines.refuses i h e l
-      by-restart j b v (restores e l) = Refines.follows (Rattle.protocol.specs.System.Call.restart (lentMessages n j)) refl e l
-
-      go : (c : GroupCall) (v : signed32 (argumentsOf c .value) ≡ true) → Refines (setup n start) (perform k) meaning view m (record { call = c; value = v })
-      go (call c) v = by-call c v (owes m (s .sound) c)
-      go (restart j b) v = by-restart j b v (restart-owes n start m j b k (s .own))
+  pub refines : (k : ℕ) (m : Memory) (a : TypedCall) → SoundAt k m → Refines (setup n start) (perform k) meaning (viewAt k) m a
+  refines k m a s = go (owes-at k m s (a .call))
+    where
+      go : OwedAt n start k m (a .call) (performed n start k m (a .call)) → Refines (setup n start) (perform k) meaning (viewAt k) m a
+      go (refuses-at i h e l) = Refines.refuses i h e l
+      go (follows-at e l) = Refines.follows (meantBy n (a .call)) refl e l
 
   pub stays : (k : ℕ) (m : Memory) (c : GroupCall) → signed32 (argumentsOf c .value) ≡ true → SoundAt k m → SoundAt k (performed n start k m c .memory)
-  stays k m (call c) v s = record { sound = sound-each n m (s .sound) c v; own = step-counted m (s .sound .shape) c .own ∙ s .own; among = s .among }
+  stays k m (call c) v s = record { sound = sound-each n m (s .sound) c v; stands = stands-on k m (step m c .memory) (step-counted m (s .sound .shape) c .own) (s .stands) }
   stays k m (restart j b) v s =
       restart-by (λ (o : Outcome). SoundAt k (o .memory)) m n k start j b
-      (λ e. record { sound = sound-restarted n k start least most (s .among) long j; own = restarted-own n k start (blocksIn n j); among = s .among }) (λ e. s)
+      (λ e. let h = restart-passed m n k start b e .among in
+      record { sound = sound-restarted n k start least most h long j; stands = as-replica h (restarted-own n k start (blocksIn n j)) }) (λ e. s)
 
-  pub made-sound : (k : ℕ) → k < n → SoundAt k (madeMemory n k start)
-  made-sound k h = record { sound = sound-made n k start least most h long; own = made-own n k start; among = h }
+  made-stands : (k : ℕ) → Standing k (madeMember n start k)
+  made-stands k = cond-by (Standing k) (ltb k n) (λ e. as-replica (ltb-true k n e) (made-own n k _)) (λ e. as-station (ltb-false k n e) (made-own n noNumber _))
+
+  pub made-like : (k : ℕ) → Alike (made (setup n start) k) (viewAt k (madeMember n start k))
+  made-like k = cond-by (λ (m : Memory). Alike (made (setup n start) k) (viewAt k m)) (ltb k n) (λ e. made-alike n k k start) (λ e. made-alike n k noNumber start)
+
+  pub made-sound : (k : ℕ) → SoundAt k (madeMember n start k)
+  made-sound k = record {
+    sound = cond-by (Sound n) (ltb k n) (λ e. sound-made n k start least most (ltb-true k n e) long) (λ e. sound-station n start least most long);
+    stands = made-stands k;
+  }
 
   abbrev pub replicas : Machine (setup n start)
   replicas = record {
@@ -95,12 +119,12 @@ module _ (n : ℕ) (start : List ℤ) (least : 2 ≤ n) (most : n ≤ 6) (long :
     Command = TypedCall;
     perform = perform;
     meaning = meaning;
-    Member = λ k. k < n;
-    view = λ k. view;
+    Member = λ k. Unit;
+    view = viewAt;
     Sound = SoundAt;
-    make = λ k. madeMemory n k start;
+    make = madeMember n start;
     refines = refines;
     stays = λ k m a s. stays k m (a .call) (a .value) s;
-    made-sound = made-sound;
-    made-alike = λ k. made-alike n k start;
+    made-sound = λ k h. made-sound k;
+    made-alike = made-like;
   }

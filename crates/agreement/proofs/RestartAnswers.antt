@@ -31,11 +31,11 @@ pub no-restart : (m : Memory) (c : Call) → NoRestart (step m c .answer)
 unfolding beginAt staleAt rewriteAt insertWrite readOnlyAt queueAt withdrawAt sendNow deliverNow passNext commitWriteset
 no-restart m begin = begin-by P m (λ e. tt) (λ e. tt)
 no-restart m (read t i) = read-by P m t i (λ e. tt) (λ e. tt)
-no-restart m (write t i v) = write-by P m t i v (λ e. tt) (λ e o. tt) (λ e o. tt) (λ e q. tt)
+no-restart m (write t i v) = write-by P m t i v (λ e. tt) (λ e o. tt) (λ e o. tt) (λ k e q. tt)
 no-restart m (ask t) = ask-by P m t (λ e. tt) (λ e o. tt) (λ e. tt)
 no-restart m (withdraw t) = withdraw-by P m t (λ e. tt) (λ e. tt)
 no-restart m report = unfold step reportStep in tt
-no-restart m (send b) = send-by P m b (λ e. tt) (λ e. tt)
+no-restart m (send b) = send-by P m b (λ e. tt) (λ k e q. tt)
 no-restart m (deliver b) = deliver-by P m b (λ e. tt) (λ e. tt)
 no-restart m work = work-by P m (λ e k. tt) (λ e k. tt) (λ e. tt)
 no-restart m (load l) = load-by P m l (λ e. tt) (λ e. tt)

@@ -8,6 +8,7 @@ use native.Mathlib.Omega.{arith}
 use lib.Dec.{eqb}
 use lib.IntN.{ℤ}
 use lib.ListN.{length, getD}
+use borrow.Author.Tests.{eqb-true}
 use Rattle.block.specs.Message.{signed32}
 use Rattle.block.specs.Answers.{recordAt}
 use Rattle.memory.specs.Memory.{Memory}
@@ -19,6 +20,7 @@ use Rattle.engine.specs.Step.{Call, step}
 use Rattle.engine.specs.Step.Call.{begin, read, write, ask, withdraw, report, send, deliver, work, load}
 use Rattle.engine.specs.Restart.{restartStep}
 use Rattle.engine.proofs.Tests.{cond-by}
+use Rattle.engine.proofs.Passed.{restart-passed}
 use Rattle.engine.proofs.Steps.{begin-by, read-by, write-by, ask-by, withdraw-by, send-by, deliver-by, work-by, load-by, restart-by}
 use Rattle.protocol.specs.Lists.{opt, update, Mem}
 use Rattle.protocol.specs.Writesets.{Message}
@@ -31,10 +33,11 @@ use Rattle.protocol.proofs.ListLaws.{update-by, mem-map}
 use Rattle.protocol.proofs.SequenceLaws.{map-append}
 use Rattle.agreement.specs.Group as group
 use Rattle.agreement.specs.Group.{messageIn, GroupCall, call, restart, performed, argumentsOf, givenIn, heard, Disk, diskAfter, Group, CallAt, fresh, did, blocksAfter, next, run, Comes, Calls, Lent, PremiseFrom}
-use Rattle.agreement.proofs.View.{setup, view, Sound, meant, Owed}
+use Rattle.agreement.proofs.View.{setup, viewAt, Sound, meant, Owed}
 use Rattle.agreement.proofs.RestartStep.{lentMessages, meantBy}
+use Rattle.agreement.proofs.MemberStep.{view-own}
 use Rattle.agreement.proofs.JournalView.{OnDisk, no-block, disk-call, disk-restart, lent-cut}
-use Rattle.agreement.proofs.Replicas.{SoundAt, stays, made-sound, replicas}
+use Rattle.agreement.proofs.Replicas.{Standing, as-replica, as-station, SoundAt, stays, made-sound, replicas}
 
 -- ---- the messages of the blocks handed out
 
@@ -80,11 +83,11 @@ module _ (n : ℕ) (B : List (Message ℤ)) where
   unfolding heard beginAt staleAt rewriteAt insertWrite readOnlyAt queueAt withdrawAt sendNow deliverNow passNext commitWriteset
   handed m begin f = begin-by (Handed begin) m (λ e. tt) (λ e. tt)
   handed m (read t i) f = read-by (Handed (read t i)) m t i (λ e. tt) (λ e. tt)
-  handed m (write t i v) f = write-by (Handed (write t i v)) m t i v (λ e. tt) (λ e o. tt) (λ e o. tt) (λ e q. tt)
+  handed m (write t i v) f = write-by (Handed (write t i v)) m t i v (λ e. tt) (λ e o. tt) (λ e o. tt) (λ k e q. tt)
   handed m (ask t) f = ask-by (Handed (ask t)) m t (λ e. tt) (λ e o. tt) (λ e. tt)
   handed m (withdraw t) f = withdraw-by (Handed (withdraw t)) m t (λ e. tt) (λ e. tt)
   handed m report f = unfold step reportStep in tt
-  handed m (send b) f = send-by (Handed (send b)) m b (λ e. tt) (λ e. tt)
+  handed m (send b) f = send-by (Handed (send b)) m b (λ e. tt) (λ k e q. tt)
   handed m (deliver b) f =
       deliver-by (λ (o : Outcome). (o .answer ≡ kept → Mem (messageIn b) B) → Handed (deliver b) o) m b (λ e g. g refl) (λ e g. tt) (f b refl)
   handed m work f = work-by (Handed work) m (λ e k. tt) (λ e k. work-handed (recordAt (blockAtTurn m) (m .counts .done) .ticket) _ _ tt tt) (λ e. tt)
@@ -127,16 +130,16 @@ module _ (n : ℕ) (start : List ℤ) (least : 2 ≤ n) (most : n ≤ 6) (long :
   abbrev pub machineOf : (ℕ → Journal ℤ) → Group → MachineSystem (setup n start) machine
   machineOf J g = record { memories = g .memories; journals = J; observed = g .observed; handouts = g .handouts; messages = map messageIn (g .blocks) }
 
-  abbrev pub command : (c : CallAt) → (c .at < n) × (signed32 (argumentsOf (c .does) .value) ≡ true) → CommandAt (setup n start) machine
-  command c h = record { at = c .at; here = h .0; command = record { call = c .does; value = h .1 } }
+  abbrev pub command : (c : CallAt) → signed32 (argumentsOf (c .does) .value) ≡ true → CommandAt (setup n start) machine
+  command c v = record { at = c .at; here = tt; command = record { call = c .does; value = v } }
 
   unfoldable pub commands : (cs : List CallAt) → Calls n cs → List (CommandAt (setup n start) machine)
   commands [] f = []
-  commands (c ∷ cs) f = command c (f c (List·Memᴰ·head refl)) ∷ commands cs (λ d h. f d (List·Memᴰ·tail h))
+  commands (c ∷ cs) f = command c (f c (List·Memᴰ·head refl) .1) ∷ commands cs (λ d h. f d (List·Memᴰ·tail h))
 
   -- the model's journal after a call
   abbrev pub journalNext : Journal ℤ → ℕ → Memory → GroupCall → Journal ℤ
-  journalNext J k m c = let o = performed n start k m c in journalAfter J (appended (setup n start) (view m) (o .memory .turn .slot) (heard n c (o .answer))) (heard n c (o .answer))
+  journalNext J k m c = let o = performed n start k m c in journalAfter J (appended (setup n start) (viewAt k m) (o .memory .turn .slot) (heard n c (o .answer))) (heard n c (o .answer))
 
   abbrev pub journalsNext : (ℕ → Journal ℤ) → Group → CallAt → ℕ → Journal ℤ
   journalsNext J g c = update J (c .at) (journalNext (J (c .at)) (c .at) (g .memories (c .at)) (c .does))
@@ -145,7 +148,7 @@ module _ (n : ℕ) (start : List ℤ) (least : 2 ≤ n) (most : n ≤ 6) (long :
   journalsRun J g [] = J
   journalsRun J g (c ∷ cs) = journalsRun (journalsNext J g c) (next n start g c) cs
 
-  pub one : (J : ℕ → Journal ℤ) (g : Group) (c : CallAt) (h : (c .at < n) × (signed32 (argumentsOf (c .does) .value) ≡ true))
+  pub one : (J : ℕ → Journal ℤ) (g : Group) (c : CallAt) (h : signed32 (argumentsOf (c .does) .value) ≡ true)
       → afterCommand (setup n start) machine (machineOf J g) (command c h) ≡ machineOf (journalsNext J g c) (next n start g c)
   one J g c h =
       ap (λ (l : List (Message ℤ)). record { memories = next n start g c .memories; journals = journalsNext J g c; observed = next n start g c .observed; handouts = next n start g c .handouts; messages = l })
@@ -155,39 +158,50 @@ module _ (n : ℕ) (start : List ℤ) (least : 2 ≤ n) (most : n ≤ 6) (long :
   unfolding runCommands commands run journalsRun
   runs [] f J g = refl
   runs (c ∷ cs) f J g =
-      ap (λ (s : MachineSystem (setup n start) machine). runCommands (setup n start) machine s (commands cs (λ d h. f d (List·Memᴰ·tail h)))) (one J g c (f c (List·Memᴰ·head refl)))
+      ap (λ (s : MachineSystem (setup n start) machine). runCommands (setup n start) machine s (commands cs (λ d h. f d (List·Memᴰ·tail h)))) (one J g c (f c (List·Memᴰ·head refl) .1))
       ∙ runs cs (λ d h. f d (List·Memᴰ·tail h)) (journalsNext J g c) (next n start g c)
 
   -- ---- the memories and the disks, before each call
 
   pub record Kept (J : ℕ → Journal ℤ) (g : Group) : Type 0 where
-    pub sound : (k : ℕ) → k < n → Good k (g .memories k)
-    pub disks : (k : ℕ) → OnDisk n (g .disks k .journal) (J k .kept)
+    pub sound : (k : ℕ) → Good k (g .memories k)
+    -- a replica's; a station has none
+    pub disks : (k : ℕ) → k < n → OnDisk n (g .disks k .journal) (J k .kept)
 
   pub fresh-kept : Kept (λ k. journal [] 0) (fresh n start)
-  fresh-kept = record { sound = made-sound n start least most long owes; disks = λ k. no-block n }
+  fresh-kept = record { sound = made-sound n start least most long owes; disks = λ k h. no-block n }
 
-  pub disk-next : (l : List ℕ) (J : Journal ℤ) → OnDisk n l (J .kept) → (k : ℕ) (m : Memory) → Good k m → (c : GroupCall)
+  -- replica k's number is its own
+  pub own-is : (k : ℕ) (m : Memory) → Good k m → k < n → m .counts .own ≡ k
+  own-is k m s below = go (s .stands)
+    where
+      go : Standing n start least most long owes k m → m .counts .own ≡ k
+      go (as-replica h q) = q
+      go (as-station h q) = absurd (let w : ⊥ = omega arith in w)
+
+  pub disk-next : (l : List ℕ) (J : Journal ℤ) → OnDisk n l (J .kept) → (k : ℕ) (m : Memory) → Good k m → k < n → (c : GroupCall)
       → OnDisk n (group.journalAfter l c (performed n start k m c .answer)) (journalNext J k m c .kept)
-  disk-next l J H k m s (call c) = disk-call n l J H start m (s .sound) c
-  disk-next l J H k m s (restart j b) = disk-restart n l J H start m k j b
+  disk-next l J H k m s h (call c) = rw (view-own k m (own-is k m s h)) (disk-call n l J H start m (s .sound) c)
+  disk-next l J H k m s h (restart j b) = rw (view-own k m (own-is k m s h)) (disk-restart n l J H start m k j b)
 
-  pub kept-next : (J : ℕ → Journal ℤ) (g : Group) → Kept J g → (c : CallAt) → (c .at < n) × (signed32 (argumentsOf (c .does) .value) ≡ true) → Kept (journalsNext J g c) (next n start g c)
-  kept-next J g K c h = record {
-    sound = update-by (λ (k : ℕ) (m : Memory). k < n → Good k m) (g .memories) (c .at) (did n start g c .memory)
-        (λ l. stays n start least most long owes (c .at) (g .memories (c .at)) (c .does) (h .1) (K .sound (c .at) (h .0))) (λ j d. K .sound j);
-    disks = λ k. by k (eqb k (c .at));
+  pub kept-next : (J : ℕ → Journal ℤ) (g : Group) → Kept J g → (c : CallAt) → signed32 (argumentsOf (c .does) .value) ≡ true → Kept (journalsNext J g c) (next n start g c)
+  kept-next J g K c v = record {
+    sound = update-by Good (g .memories) (c .at) (did n start g c .memory)
+        (stays n start least most long owes (c .at) (g .memories (c .at)) (c .does) v (K .sound (c .at))) (λ j d. K .sound j);
+    disks = λ k h. by k h (eqb k (c .at)) refl;
   }
     where
-      by : (k : ℕ) (b : Bool) → OnDisk n (cond b (diskAfter (g .disks (c .at)) (c .does) (did n start g c .answer)) (g .disks k) .journal)
+      by : (k : ℕ) → k < n → (b : Bool) → eqb k (c .at) ≡ b → OnDisk n (cond b (diskAfter (g .disks (c .at)) (c .does) (did n start g c .answer)) (g .disks k) .journal)
           (cond b (journalNext (J (c .at)) (c .at) (g .memories (c .at)) (c .does)) (J k) .kept)
-      by k true = disk-next (g .disks (c .at) .journal) (J (c .at)) (K .disks (c .at)) (c .at) (g .memories (c .at)) (K .sound (c .at) (h .0)) (c .does)
-      by k false = K .disks k
+      by k h true e =
+          let i : c .at < n = rw (eqb-true k (c .at) e) at h in
+          disk-next (g .disks (c .at) .journal) (J (c .at)) (K .disks (c .at) i) (c .at) (g .memories (c .at)) (K .sound (c .at)) i (c .does)
+      by k h false e = K .disks k h
 
   pub kept-run : (cs : List CallAt) → Calls n cs → (J : ℕ → Journal ℤ) (g : Group) → Kept J g → Kept (journalsRun J g cs) (run n start g cs)
   unfolding run journalsRun
   kept-run [] f J g K = K
-  kept-run (c ∷ cs) f J g K = kept-run cs (λ d h. f d (List·Memᴰ·tail h)) (journalsNext J g c) (next n start g c) (kept-next J g K c (f c (List·Memᴰ·head refl)))
+  kept-run (c ∷ cs) f J g K = kept-run cs (λ d h. f d (List·Memᴰ·tail h)) (journalsNext J g c) (next n start g c) (kept-next J g K c (f c (List·Memᴰ·head refl) .1))
 
   -- ---- the premise
 
@@ -209,6 +223,11 @@ module _ (n : ℕ) (start : List ℤ) (least : 2 ≤ n) (most : n ≤ 6) (long :
   not-meant work l e = let z : _≡_ {A = ℕ} 0 1 = cc in omega arith
   not-meant (load c) l e = let z : _≡_ {A = ℕ} 0 1 = cc in omega arith
 
+  -- an accepted restart is a replica's
+  among : (k : ℕ) (m : Memory) (j l : List ℕ) (x : ℕ) (b : List ℕ) → restartStep m n k start j l .answer ≡ restarted x b → k < n
+  among k m j l x b = restart-by (λ (o : Outcome). o .answer ≡ restarted x b → k < n) m n k start j l
+      (λ e q. restart-passed m n k start l e .among) (λ e q. absurd (let z : _≡_ {A = ℕ} 0 1 = cc in let w : ⊥ = omega arith in w))
+
   -- what is heard of a restart says that it was accepted
   accepted : (k : ℕ) (m : Memory) (j l : List ℕ) (held : List (Message ℤ)) (given : Option (Message ℤ)) → heard n (restart j l) (restartStep m n k start j l .answer) ≡ Event.restarted held given
       → (x : ℕ) × (b : List ℕ) × (restartStep m n k start j l .answer ≡ restarted x b)
@@ -216,15 +235,16 @@ module _ (n : ℕ) (start : List ℤ) (least : 2 ≤ n) (most : n ≤ 6) (long :
   accepted k m j l held given = restart-by (λ (o : Outcome). heard n (restart j l) (o .answer) ≡ Event.restarted held given → (x : ℕ) × (b : List ℕ) × (o .answer ≡ restarted x b)) m n k start j l
       (λ e h. (_, _, refl)) (λ e h. let z : _≡_ {A = ℕ} 0 1 = cc in absurd (let w : ⊥ = omega arith in w))
 
-  pub lent-at : (J : Journal ℤ) (d : Disk) → OnDisk n (d .journal) (J .kept) → 512 * J .safe ≤ d .floor → (k : ℕ) (m : Memory) → Good k m → (c : GroupCall) (v : signed32 (argumentsOf c .value) ≡ true)
+  pub lent-at : (J : Journal ℤ) (d : Disk) (k : ℕ) → (k < n → OnDisk n (d .journal) (J .kept)) → (k < n → 512 * J .safe ≤ d .floor) → (m : Memory) → Good k m → (c : GroupCall) (v : signed32 (argumentsOf c .value) ≡ true)
       → ((j l : List ℕ) (x : ℕ) (b : List ℕ) → c ≡ restart j l → restartStep m n k start j l .answer ≡ restarted x b → Lent m d j)
       → CommandLent (setup n start) machine J k m (record { call = c; value = v })
-  lent-at J d H low k m s (call c) v f lent held given q e = absurd (not-meant c lent (let i : meant c ≡ Rattle.protocol.specs.System.Call.restart lent = cc in i))
-  lent-at J d H low k m s (restart j l) v f lent held given q e =
+  lent-at J d k H low m s (call c) v f lent held given q e = absurd (not-meant c lent (let i : meant c ≡ Rattle.protocol.specs.System.Call.restart lent = cc in i))
+  lent-at J d k H low m s (restart j l) v f lent held given q e =
       let w = accepted k m j l held given e in
       let L = f j l (w .0) (w .1) refl (w .2) in
       let i : lentMessages n j ≡ lent = cc in
-      (record { call = call (L .ended); value = L .value }, subst (Cut J _) i (lent-cut n (d .journal) J H start m (s .sound) (d .floor) low j L))
+      let h = among k m j l (w .0) (w .1) (w .2) in
+      (record { call = call (L .ended); value = L .value }, rw (view-own k m (own-is k m s h)) (subst (Cut J _) i (lent-cut n (d .journal) J (H h) start m (s .sound) (d .floor) (low h) j L)))
 
   -- ---- what is claimed of a call
 
@@ -243,7 +263,7 @@ module _ (n : ℕ) (start : List ℤ) (least : 2 ≤ n) (most : n ≤ 6) (long :
     h .0,
     all-said F cs (λ d q. f d (List·Memᴰ·tail q)) (journalsNext J g c) (next n start g c)
         (subst (λ (s : MachineSystem (setup n start) machine). CommandClaims (setup n start) machine F s (commands cs (λ d q. f d (List·Memᴰ·tail q))))
-        (one J g c (f c (List·Memᴰ·head refl))) (h .1)),
+        (one J g c (f c (List·Memᴰ·head refl) .1)) (h .1)),
   )
 
   said-of : (F : List (Placed ℤ)) (before : List CallAt) (c : CallAt) (after : List CallAt) (g : Group) → AllSaid F g (before ++ (c ∷ after)) → Said F (run n start g before) c

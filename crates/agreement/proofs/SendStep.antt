@@ -20,7 +20,6 @@ use Rattle.engine.specs.Moves.{waiting, messageFor, sendRow, sendRefusal, sendN
 use Rattle.engine.specs.Shape.{Shape}
 use Rattle.engine.specs.Step.{step}
 use Rattle.engine.specs.Step.Call.{send}
-use Rattle.engine.proofs.Tests.{not-first}
 use Rattle.engine.proofs.Steps.{send-by}
 use Rattle.protocol.specs.Replica.{Setup, transactions, Replica, replica, handedOut, Outcome, outcome}
 use Rattle.protocol.specs.Moves as model
@@ -110,8 +109,8 @@ alike-sent m =
     }
 
 pub send-owes : (n : ℕ) (start : List ℤ) (m : Memory) → Sound n m → (b : List ℕ) → Owed n start m (send b) (step m (send b))
-unfolding heard sendRefusal sendNow
-send-owes n start m s b = send-by (Owed n start m (send b)) m b accepted (λ z. refused-owes n start m (send b) (sendRefusal m b) (λ e. not-first 9 _ refl e))
+unfolding heard sendNow
+send-owes n start m s b = send-by (Owed n start m (send b)) m b accepted (λ k h z. refused-owes n start m (send b) k h)
   where
     accepted : sendRefusal m b ≡ 0 → Owed n start m (send b) (sendNow m)
     accepted e =

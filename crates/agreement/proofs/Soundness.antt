@@ -14,6 +14,7 @@ use Rattle.memory.specs.Rows.{writeCount, itemsOf, countBelow, insertAt}
 use Rattle.memory.specs.Turns.{isOn, markApplying, advance}
 use Rattle.engine.specs.Calls.{Outcome}
 use Rattle.engine.specs.Make.{madeMemory}
+use Rattle.engine.specs.Station.{stationMemory}
 use Rattle.engine.specs.Client.{rowNo, rowIn, beginAt, rewriteAt, insertWrite, staleAt, readOnlyAt, queueAt, withdrawAt, reportStep}
 use Rattle.engine.specs.Moves.{sendRefusal, sendNow, deliverNow, passNext, isLast, commitWriteset}
 use Rattle.engine.specs.Step.{Call, step}
@@ -22,6 +23,7 @@ use Rattle.engine.proofs.Tests.{clash, same-by, less-by, passes}
 use Rattle.engine.proofs.PartLaws.{insert-before, insert-here, insert-moved, insert-after, below-part}
 use Rattle.engine.proofs.Passed.{write-passed}
 use Rattle.engine.proofs.Steps.{begin-by, read-by, write-by, ask-by, withdraw-by, send-by, deliver-by, work-by, load-by}
+use Rattle.engine.proofs.ShapeMade.{shape-station}
 use Rattle.engine.proofs.Shapes.{shapes}
 use Rattle.agreement.specs.Group.{call, argumentsOf}
 use Rattle.agreement.proofs.View.{Sound}
@@ -133,11 +135,11 @@ rest-each n m s begin e = begin-by (Rests n m s) m (λ p. begin-rests n m s _) (
 rest-each n m s (read t i) e = read-by (Rests n m s) m t i (λ p. s) (λ p. s)
 rest-each n m s (write t i v) e =
     write-by (Rests n m s) m t i v (λ p. stale-rests n m s _) (λ p o. rewrite-rests n m s _ _ v e)
-    (λ p o. let w = write-passed m t i p in insert-rests n m s (rowNo m t) i (rowIn m (rowNo m t)) v (w .own .row) (w .items) (w .writes) (w .room o) e) (λ p q. s)
+    (λ p o. let w = write-passed m t i p in insert-rests n m s (rowNo m t) i (rowIn m (rowNo m t)) v (w .own .row) (w .items) (w .writes) (w .room o) e) (λ k p q. s)
 rest-each n m s (ask t) e = ask-by (Rests n m s) m t (λ p. read-only-rests n m s _) (λ p o. queue-rests n m s _ _) (λ p. s)
 rest-each n m s (withdraw t) e = withdraw-by (Rests n m s) m t (λ p. withdraw-rests n m s _) (λ p. s)
 rest-each n m s report e = unfold step reportStep in s
-rest-each n m s (send b) e = send-by (Rests n m s) m b (λ p. send-rests n m s b p) (λ p. s)
+rest-each n m s (send b) e = send-by (Rests n m s) m b (λ p. send-rests n m s b p) (λ k p q. s)
 rest-each n m s (deliver b) e = deliver-by (Rests n m s) m b (λ p. deliver-rests n m s b) (λ p. s)
 rest-each n m s work e = work-by (Rests n m s) m (λ p k. next-rests n m s) (λ p k. writeset-rests n m s _ _) (λ p. s)
 rest-each n m s (load l) e = load-by (Rests n m s) m l (λ p. record { size = s .size; fits = s .fits; ours = s .ours }) (λ p. s)
@@ -152,3 +154,7 @@ sound-each n m s c e =
 pub sound-made : (n k : ℕ) (start : List ℤ) → 2 ≤ n → n ≤ 6 → k < n → length start ≡ 128 → Sound n (madeMemory n k start)
 unfolding madeMemory
 sound-made n k start l h o v = record { over = 0; shape = shapes .made n k start l h o v; size = refl; fits = fits-zeros 48; ours = λ q. clash {b = false} q refl }
+
+pub sound-station : (n : ℕ) (start : List ℤ) → 2 ≤ n → n ≤ 6 → length start ≡ 128 → Sound n (stationMemory n start)
+unfolding madeMemory
+sound-station n start l h v = record { over = 0; shape = shape-station n start l h v; size = refl; fits = fits-zeros 48; ours = λ q. clash {b = false} q refl }

@@ -43,7 +43,7 @@ pub agreement : AgreementTheorem
 agreement n start least most long cs f p =
     agreement-from n start least most long (owes n start) cs f
     (premise n start least most long (owes n start) cs f (λ k. journal [] 0) (fresh n start) (fresh-kept n start least most long (owes n start))
-    (fresh-inv (setup n start) (machine n start least most long (owes n start)) (places-apart n start)) (λ k. omega arith) p)
+    (fresh-inv (setup n start) (machine n start least most long (owes n start)) (places-apart n start)) (λ k h. omega arith) p)
 
 -- ---- the invariant after a list of calls
 
@@ -64,4 +64,4 @@ module _ (n : ℕ) (start : List ℤ) (least : 2 ≤ n) (most : n ≤ 6) (long :
       subst Inv (runs n start least most long (owes n start) cs f (λ j. journal [] 0) (fresh n start))
       (inv-commands (setup n start) (machine n start least most long (owes n start)) (places-apart n start) (commands n start least most long (owes n start) cs f)
       (machineOf n start least most long (owes n start) (λ j. journal [] 0) (fresh n start)) before
-      (premise n start least most long (owes n start) cs f (λ j. journal [] 0) (fresh n start) (fresh-kept n start least most long (owes n start)) before (λ j. omega arith) p))
+      (premise n start least most long (owes n start) cs f (λ j. journal [] 0) (fresh n start) (fresh-kept n start least most long (owes n start)) before (λ j h. omega arith) p))

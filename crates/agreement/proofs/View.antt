@@ -23,6 +23,7 @@ use Rattle.protocol.specs.Writesets.{Write, Message}
 use Rattle.protocol.specs.Replica.{Setup, Transaction, transaction, Cursor, Store, transactions, Blocks, Replica, replica, refused}
 use Rattle.protocol.specs.System.{step}
 use Rattle.protocol.specs.Machine.{Alike}
+use Rattle.protocol.proofs.Stations.{numbered}
 use Rattle.agreement.specs.Group.{writeOf, messageIn, call, heard}
 
 -- `sameMessage` is not asked: where a deliver of the replica's own block is accepted, its bytes are those sent
@@ -73,7 +74,11 @@ blocksOf m = record { places = placeAt (m .blocks .places); outbox = some (messa
 abbrev pub view : Memory → Replica ℤ
 view m = replica (m .counts .own) (cursorOf m) (storeOf m) (transactions (m .counts .tickets) (openTxns (m .txns)) (waiting (m .txns .queue))) (blocksOf m)
 
--- what holds of a replica's memory after every call: its shape; its group's size; each value written is a signed 32-bit number; the sent mark is on at its own slots alone
+-- as member k's: a replica's number is its own, a station's is the group's
+abbrev pub viewAt : ℕ → Memory → Replica ℤ
+viewAt k m = numbered k (view m)
+
+-- what holds of a replica's or a station's memory after every call: its shape; its group's size; each value written is a signed 32-bit number; the sent mark is on at its own slots alone
 pub record Sound (n : ℕ) (m : Memory) : Type 0 where
   pub over : ℕ
   pub shape : Shape over m

@@ -341,4 +341,4 @@ module _ (n : ℕ) (start : List ℤ) {over : ℕ} (m : Memory) (S : Shape over 
 pub write-owes : (n : ℕ) (start : List ℤ) (m : Memory) → Sound n m → (t i : ℕ) (v : ℤ) → Owed n start m (write t i v) (step m (write t i v))
 write-owes n start m s t i v =
     write-by (Owed n start m (write t i v)) m t i v (stale-owes n start m (s .shape) t i v) (again-owes n start m (s .shape) t i v) (new-owes n start m (s .shape) t i v)
-    (λ k e. refused-owes n start m (write t i v) (writeRefusal m (rowNo m t) i) k)
+    (λ j k e. refused-owes n start m (write t i v) j k)

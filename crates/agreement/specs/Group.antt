@@ -1,10 +1,11 @@
--- A group of replicas with its observer and their journals, and lists of calls.
+-- A group of replicas and stations with its observer and the replicas' journals, and lists of calls. Its members are numbered by all of ℕ: with n replicas, k is replica k below n, and from n
+-- on a station. A station has no number: the one here only tells it from others.
 use Prim.Native.Nat.{ℕ, _*_, _≤_, _<_}
 use mathlib.Core.Path.{_≡_}
 use mathlib.Core.Bool.{true, cond}
 use mathlib.Core.Option.{Option, none, some}
 use mathlib.Core.List.{List, [], _∷_, _++_, map}
-use lib.Dec.{eqb}
+use lib.Dec.{eqb, ltb}
 use lib.IntN.{ℤ, pos}
 use lib.ListN.{length, getD, take}
 use Rattle.block.specs.declared.Entry.{Entry}
@@ -14,6 +15,7 @@ use Rattle.memory.specs.Memory.{Memory}
 use Rattle.engine.specs.Calls.{Answer, Outcome}
 use Rattle.engine.specs.Calls.Answer.{refused, made, began, got, wrote, queued, readOnly, withdrew, reported, sent, kept, worked, loaded, restarted}
 use Rattle.engine.specs.Make.{madeMemory}
+use Rattle.engine.specs.Station.{stationMemory}
 use Rattle.engine.specs.Step.{Call, step}
 use Rattle.engine.specs.Step.Call.{begin, read, write, ask, withdraw, report, send, deliver, work, load}
 use Rattle.engine.specs.Restart.{blocksIn, restartStep}
@@ -25,12 +27,12 @@ use Rattle.protocol.specs.Observer.{noting, Observed, observing, Handout, obser
 
 -- ---- the calls
 
--- a call at a replica, or a restart, which is lent a journal and a block, and N, its own number and the starting values as at Make
+-- a call at a replica or a station, or a replica's restart, which is lent a journal and a block, and N, its own number and the starting values as at Make
 pub data GroupCall : Type 0 where
   call : Call → GroupCall
   restart : (journal block : List ℕ) → GroupCall
 
--- at replica k, on the memory that the last call there left
+-- at member k, on the memory that the last call there left
 abbrev pub performed : ℕ → List ℤ → ℕ → Memory → GroupCall → Outcome
 performed n start k m (call c) = step m c
 performed n start k m (restart journal block) = restartStep m n k start journal block
@@ -116,7 +118,7 @@ handedOutIn (restarted c b) = cond (eqb (getD b 0 0) 0) none (some b)
 
 -- ---- the journals, from what calls answer
 
--- what a replica's disk has: the bytes appended, and how many there were when the last own block was handed out
+-- what a replica's disk has: the bytes appended, and how many there were when the last own block was handed out; a station has no disk, and what stands under its number is never asked for
 pub record Disk : Type 0 where
   pub journal : List ℕ
   pub floor : ℕ
@@ -162,17 +164,21 @@ abbrev pub blocksAfter : List (List ℕ) → Answer → List (List ℕ)
 blocksAfter B a = opt (handedOutIn a) B (λ b. B ++ (b ∷ []))
 
 module _ (n : ℕ) (start : List ℤ) where
-  -- n replicas just made, numbers 0 to n − 1, the same values
+  -- member k just made
+  abbrev pub madeMember : ℕ → Memory
+  madeMember k = cond (ltb k n) (madeMemory n k start) (stationMemory n start)
+
+  -- n replicas just made, numbers 0 to n − 1, and stations, the same values
   abbrev pub fresh : Group
   fresh = record {
-    memories = λ k. madeMemory n k start;
+    memories = madeMember;
     disks = λ k. disk [] 0;
     observed = λ k. observing (λ t. noting 0 []) [] [];
     handouts = [];
     blocks = [];
   }
 
-  -- a call acts on the memory that the last call at its replica left
+  -- a call acts on the memory that the last call at its member left
   abbrev pub did : Group → CallAt → Outcome
   did g c = performed n start (c .at) (g .memories (c .at)) (c .does)
 
@@ -199,9 +205,14 @@ module _ (n : ℕ) (start : List ℤ) where
 abbrev pub Comes : List CallAt → List CallAt → CallAt → Type 0
 Comes cs before c = (after : List CallAt) × (cs ≡ before ++ (c ∷ after))
 
--- each call is at a replica of the group, and a value written is a signed 32-bit number, as the calls' types have it; all else is any
+-- a restart is a replica's; any other call may be a station's
+abbrev pub MayBeAt : ℕ → ℕ → GroupCall → Type 0
+MayBeAt n k (call c) = Unit
+MayBeAt n k (restart journal block) = k < n
+
+-- each call is at a replica of the group or at a station, and a value written is a signed 32-bit number, as the calls' types have it; all else is any
 abbrev pub Calls : ℕ → List CallAt → Type 0
-Calls n cs = (c : CallAt) → Mem c cs → (c .at < n) × (signed32 (argumentsOf (c .does) .value) ≡ true)
+Calls n cs = (c : CallAt) → Mem c cs → MayBeAt n (c .at) (c .does) × (signed32 (argumentsOf (c .does) .value) ≡ true)
 
 -- a cut leaves a first part of what was appended, also by the call there which it ended, of any kind, and never less than the floor
 pub record Lent (m : Memory) (d : Disk) (journal : List ℕ) : Type 0 where

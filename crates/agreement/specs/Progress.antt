@@ -1,5 +1,6 @@
--- Document 02's Req 06: "And if, under the agreement's premises, every block handed out has been given to every replica since that replica was made or last restarted, no replica is down, and some replica
--- has slots left, then some replica can send, or work without a refusal." No replica is down: each may be called at the end of the list, on the memory that it has there.
+-- Document 02's Req 06: "And if, under the agreement's premises, every block handed out has been given to every replica since that replica was made or last restarted, no replica
+-- is down, and some replica has slots left, then some replica can send, or work without a refusal." No replica is down: each may be called at the end of the list, on the memory that
+-- it has there. Replicas alone are meant, k < n, in what was given as in what is promised; calls at stations may stand in the list.
 use Prim.Native.Nat.{ℕ, _≤_, _<_}
 use mathlib.Core.Path.{_≡_}
 use mathlib.Core.Logic.{_⊎_}
@@ -45,3 +46,10 @@ CanWork m = numberOf (step m work .answer) ≡ 0
 abbrev pub ProgressTheorem : Type 0
 ProgressTheorem = (n : ℕ) (start : List ℤ) → 2 ≤ n → n ≤ 6 → length start ≡ 128 → (cs : List CallAt) → Calls n cs → Premise n start cs → AllGiven n start cs → SlotsLeft n start cs
     → let g = run n start (fresh n start) cs in (k : ℕ) × (k < n) × (CanSend (g .memories k) ⊎ CanWork (g .memories k))
+
+-- What a host may drop. At a replica a block handed out that is delivered is kept, or answered 17 or 20: never 18, nor 19. So a block answered 18 there was handed out by nobody.
+-- At a station 18 may come for one (`StationRun`), and it is to be delivered again.
+abbrev pub HandedAnswers : Type 0
+HandedAnswers = (n : ℕ) (start : List ℤ) → 2 ≤ n → n ≤ 6 → length start ≡ 128 → (cs : List CallAt) → Calls n cs → Premise n start cs
+    → (k : ℕ) → k < n → (b : List ℕ) → let g = run n start (fresh n start) cs in Mem b (g .blocks)
+    → let a = numberOf (step (g .memories k) (deliver b) .answer) in (a ≡ 0) ⊎ ((a ≡ 17) ⊎ (a ≡ 20))

@@ -1,5 +1,5 @@
--- Every table of a group's run has six rows, with any bytes, any journals and no premise.
-use Prim.Native.Nat.{ℕ, _≤_, _<_}
+-- Every table of a group's run, a station's too, has six rows, with any bytes, any journals and no premise.
+use Prim.Native.Nat.{ℕ, _≤_}
 use mathlib.Core.Path.{_≡_}
 use mathlib.Core.List.{List}
 use lib.IntN.{ℤ}
@@ -7,5 +7,5 @@ use lib.ListN.{length}
 use Rattle.agreement.specs.Group.{CallAt, fresh, run, Calls}
 
 pub record SixRows : Type 0 where
-  pub tables : (n : ℕ) (start : List ℤ) → 2 ≤ n → n ≤ 6 → length start ≡ 128 → (cs : List CallAt) → Calls n cs → (k : ℕ) → k < n
+  pub tables : (n : ℕ) (start : List ℤ) → 2 ≤ n → n ≤ 6 → length start ≡ 128 → (cs : List CallAt) → Calls n cs → (k : ℕ)
       → length (run n start (fresh n start) cs .memories k .txns .table) ≡ 6

@@ -29,7 +29,7 @@ abbrev pub Share : List (Write ℤ) → List (Write ℤ) → Type 0
 Share a b = (i : ℕ) × (has i a ≡ true) × (has i b ≡ true)
 
 module _ (start : List ℤ) (F : List (Placed ℤ)) (D : List (Handout ℤ)) where
-  -- of a replica, what is kept of it and what it reports
+  -- of a replica or a station, what is kept of it and what it reports
   pub record Agrees (p : Observed ℤ) (held : List ℤ) (r : Report) : Type 0 where
     -- its commits are the first c of the sequence, by sender and ticket, c the commit count in its report
     pub commits : p .commits ≡ map idOf (take (r .commits) F)
@@ -57,7 +57,7 @@ module _ (n : ℕ) (start : List ℤ) (cs : List CallAt) where
   abbrev pub F : List (Placed ℤ)
   F = sequence handouts
 
-  -- what a call at replica k answers with `before` in front of it
+  -- what a call at member k answers with `before` in front of it
   abbrev pub answer : List CallAt → ℕ → Call → Answer
   answer before k c = step (groupAfter before .memories k) c .answer
 
@@ -70,7 +70,9 @@ module _ (n : ℕ) (start : List ℤ) (cs : List CallAt) where
     pub handed : (h : Handout ℤ) → Mem h handouts → Mem (handoutMessage h) (map messageIn (groupAfter cs .blocks))
     -- each replica has committed a beginning of the sequence and holds its values
     pub replicas : (k : ℕ) → k < n → Agrees start F handouts (groupAfter cs .observed k) (groupAfter cs .memories k .store .values) (reportOf (groupAfter cs .memories k))
-    -- each accepted read gave the value then noted, else the item's value after the first *start* writesets of the sequence
+    -- so has each station
+    pub stations : (k : ℕ) → n ≤ k → Agrees start F handouts (groupAfter cs .observed k) (groupAfter cs .memories k .store .values) (reportOf (groupAfter cs .memories k))
+    -- each accepted read, at a station too, gave the value then noted, else the item's value after the first *start* writesets of the sequence
     pub reads : (before : List CallAt) (k t i : ℕ) (v : ℤ) → Comes cs before (record { at = k; does = call (read t i) }) → answer before k (read t i) ≡ got v
         → let note = groupAfter before .observed k .noted t in v ≡ lookup i (getD (applyAll start (take (note .start) F)) i (pos 0)) (note .writes)
     -- the first committer wins

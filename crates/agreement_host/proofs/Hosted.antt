@@ -1,35 +1,67 @@
 -- A host's calls are the engine's: the table keeps its six rows. Assumes nothing.
 use Prim.Native.Nat.{ℕ, _≤_, _<_}
 use mathlib.Core.Path.{_≡_, refl, sym, ap, _∙_}
+use mathlib.Core.Bool.{true}
 use mathlib.Core.List.{List, List·Memᴰ·head, List·Memᴰ·not-nil, List·Memᴰ·tail, [], _∷_, _++_}
 use lib.Dec.{eqb}
 use lib.IntN.{ℤ}
 use lib.ListN.{length}
-use Rattle.memory.specs.Memory.{Memory}
-use Rattle.engine.specs.Calls.{Outcome, outcome}
+use Rattle.memory.specs.Memory.{Memory, isStation}
+use Rattle.engine.specs.Calls.{Outcome, outcome, unlessStation}
 use Rattle.engine.specs.Calls.Answer.{refused}
 use Rattle.engine.specs.Shape.{Shape}
 use Rattle.engine.specs.Make.{madeMemory, makeStep}
-use Rattle.engine.specs.Moves.{workStep}
+use Rattle.engine.specs.Moves.{sendStep, workStep}
+use Rattle.engine.specs.Client.{beginStep, readStep, writeStep, askStep, withdrawStep, reportStep}
 use Rattle.engine.specs.Step.{Call, step, after}
+use Rattle.engine.specs.Step.Call.{begin, read, write, ask, withdraw, report, send, deliver, work, load}
+use Rattle.engine.specs.Restart.{restartStep}
+use Rattle.engine.specs.Station.{stationMemory, stationStep}
 use Rattle.engine.proofs.Tests.{cond-by}
+use Rattle.engine.proofs.ShapeMade.{shape-station}
 use Rattle.engine.proofs.Shapes.{shapes}
+use Rattle.engine.proofs.Stations.{stations}
 use Rattle.call_reply.specs.Called.{called, withBlock}
 use Rattle.call_reply.proofs.CalledLaws.{called-six, block-512, block-other}
 use Rattle.protocol.proofs.ListLaws.{snoc-all}
-use Rattle.agreement.specs.Group.{performed, Group, CallAt, nextBy, fresh, next, run, Calls}
+use Rattle.agreement.specs.Group.{GroupCall, call, restart, performed, Group, CallAt, nextBy, fresh, next, run, Calls}
 use Rattle.agreement.proofs.Runs.{run-on}
 use Rattle.agreement.proofs.Handed.{six-rows}
-use Rattle.agreement_host.specs.Hosted.{hostStep, hostAfter, hostDid, hostRun, Hosted}
+use Rattle.agreement_host.specs.Hosted.{hostStep, hostAfter, hostPerformed, hostRun, Hosted}
+
+-- at a station, whatever the table
+station-writes : (m : Memory) → isStation m ≡ true → (ticket item : ℕ) (value : ℤ) → hostStep m (write ticket item value) ≡ outcome (refused 25) m
+station-writes m h t i v = rw h refl
+
+station-sends : (m : Memory) → isStation m ≡ true → (block : List ℕ) → hostStep m (send block) ≡ outcome (refused 25) m
+station-sends m h b = rw h refl
+
+-- with six rows
+host-six : (m : Memory) → length (m .txns .table) ≡ 6 → (c : Call) → hostStep m c ≡ step m c
+unfolding step
+host-six m six begin = called-six beginStep m six
+host-six m six (read t i) = called-six (λ x. readStep x t i) m six
+host-six m six (write t i v) = ap (unlessStation m) (called-six (λ x. writeStep x t i v) m six)
+host-six m six (ask t) = called-six (λ x. askStep x t) m six
+host-six m six (withdraw t) = called-six (λ x. withdrawStep x t) m six
+host-six m six report = called-six reportStep m six
+host-six m six (send b) = ap (unlessStation m) (called-six (λ x. sendStep x b) m six)
+host-six m six (deliver b) = refl
+host-six m six work = called-six workStep m six
+host-six m six (load l) = refl
 
 list-of : {over : ℕ} (cs : List Call) (m : Memory) → Shape over m → hostAfter m cs ≡ after m cs
 unfolding hostAfter after
 list-of [] m s = refl
 list-of (c ∷ cs) m s =
-    ap (λ (o : Outcome). hostAfter (o .memory) cs) (called-six (λ x. step x c) m (s .lengths .table))
+    ap (λ (o : Outcome). hostAfter (o .memory) cs) (host-six m (s .lengths .table) c)
     ∙ list-of cs (step m c .memory) (shapes .each m s c)
 
 module _ (n : ℕ) (start : List ℤ) (least : 2 ≤ n) (most : n ≤ 6) (long : length start ≡ 128) where
+  performs-six : (k : ℕ) (m : Memory) → length (m .txns .table) ≡ 6 → (c : GroupCall) → hostPerformed n start k m c ≡ performed n start k m c
+  performs-six k m six (call c) = host-six m six c
+  performs-six k m six (restart journal block) = called-six (λ x. restartStep x n k start journal block) m six
+
   -- behind a first part of the list
   group-of : (cs before : List CallAt) → Calls n before → Calls n cs → hostRun n start (run n start (fresh n start) before) cs ≡ run n start (run n start (fresh n start) before) cs
   unfolding hostRun run
@@ -38,7 +70,7 @@ module _ (n : ℕ) (start : List ℤ) (least : 2 ≤ n) (most : n ≤ 6) (long :
       let g = run n start (fresh n start) before in
       let on : run n start (fresh n start) (before ++ (c ∷ [])) ≡ next n start g c = run-on n start before (fresh n start) c in
       let here = f c (List·Memᴰ·head refl) in
-      ap (λ (o : Outcome). hostRun n start (nextBy n start o g c) cs) (called-six (λ x. performed n start (c .at) x (c .does)) (g .memories (c .at)) (six-rows .tables n start least most long before b (c .at) (here .0)))
+      ap (λ (o : Outcome). hostRun n start (nextBy n start o g c) cs) (performs-six (c .at) (g .memories (c .at)) (six-rows .tables n start least most long before b (c .at)) (c .does))
       ∙ ap (λ (x : Group). hostRun n start x cs) (sym on)
       ∙ group-of cs (before ++ (c ∷ [])) (snoc-all _ before c b here) (λ d q. f d (List·Memᴰ·tail q))
       ∙ ap (λ (x : Group). run n start x cs) on
@@ -60,9 +92,14 @@ works-not m block h =
 pub hosted : Hosted
 hosted = record {
   makes = λ m n own values six. called-six (λ x. makeStep x n own values) m six;
+  station-makes = λ m n values six. called-six (λ x. stationStep x n values) m six;
+  station-writes = station-writes;
+  station-sends = station-sends;
   works = works;
   works-not = works-not;
-  steps = λ n own values least most mine long cs c. called-six (λ x. step x c) _ (shapes .all n own values least most mine long cs .lengths .table);
+  steps = λ n own values least most mine long cs c. host-six _ (shapes .all n own values least most mine long cs .lengths .table) c;
   lists = λ n own values least most mine long cs. list-of cs (madeMemory n own values) (shapes .made n own values least most mine long);
+  station-steps = λ n values least most long cs c. host-six _ (stations .shape n values least most long cs .lengths .table) c;
+  station-lists = λ n values least most long cs. list-of cs (stationMemory n values) (shape-station n values least most long);
   groups = group;
 }

@@ -1,23 +1,39 @@
 -- A host's calls are the engine's. The contracts of the exported functions that are lent a table have `called`, which puts the test of its length in front of a step (a deliver
 -- and a load are lent none, and have the step itself), and a work also has `withBlock`, the test of the bytes lent for the block to append; on every memory that calls lead to, with 512 bytes
--- lent, it is the step, and with any other length it is refused by 1. So what is proved of lists of calls, the agreement of the copies too, is proved of what hosts' calls do, one after the other, restarts too.
+-- lent, it is the step, and with any other length it is refused by 1. In front of the table's length a write and a send have the test for a station, `unlessStation`. So what is
+-- proved of lists of calls, the agreement of the copies too, is proved of what hosts' calls do, one after the other, restarts too.
 use Prim.Native.Nat.{ℕ, _≤_, _<_}
 use mathlib.Core.Path.{_≡_}
+use mathlib.Core.Bool.{true}
 use mathlib.Core.List.{List, [], _∷_}
 use lib.IntN.{ℤ}
 use lib.ListN.{length}
-use Rattle.memory.specs.Memory.{Memory}
-use Rattle.engine.specs.Calls.{Outcome, outcome}
+use Rattle.memory.specs.Memory.{Memory, isStation}
+use Rattle.engine.specs.Calls.{Outcome, outcome, unlessStation}
 use Rattle.engine.specs.Calls.Answer.{refused}
 use Rattle.engine.specs.Make.{madeMemory, makeStep}
-use Rattle.engine.specs.Moves.{workStep}
+use Rattle.engine.specs.Moves.{sendStep, deliverStep, workStep}
+use Rattle.engine.specs.Classes.{loadStep}
+use Rattle.engine.specs.Client.{beginStep, readStep, writeStep, askStep, withdrawStep, reportStep}
 use Rattle.engine.specs.Step.{Call, step, after}
+use Rattle.engine.specs.Step.Call.{begin, read, write, ask, withdraw, report, send, deliver, work, load}
+use Rattle.engine.specs.Restart.{restartStep}
+use Rattle.engine.specs.Station.{stationMemory, stationStep}
 use Rattle.call_reply.specs.Called.{called, withBlock}
-use Rattle.agreement.specs.Group.{performed, Group, CallAt, nextBy, fresh, run, Calls}
+use Rattle.agreement.specs.Group.{GroupCall, call, restart, Group, CallAt, nextBy, fresh, run, Calls}
 
--- a host's call at one replica
+-- a host's call at one replica or station
 abbrev pub hostStep : Memory → Call → Outcome
-hostStep m c = called (λ x. step x c) m
+hostStep m begin = called beginStep m
+hostStep m (read t i) = called (λ x. readStep x t i) m
+hostStep m (write t i v) = unlessStation m (called (λ x. writeStep x t i v) m)
+hostStep m (ask t) = called (λ x. askStep x t) m
+hostStep m (withdraw t) = called (λ x. withdrawStep x t) m
+hostStep m report = called reportStep m
+hostStep m (send b) = unlessStation m (called (λ x. sendStep x b) m)
+hostStep m (deliver b) = deliverStep m b
+hostStep m work = called workStep m
+hostStep m (load l) = loadStep m l
 
 -- what a list of them leaves
 unfoldable pub hostAfter : Memory → List Call → Memory
@@ -25,9 +41,13 @@ hostAfter m [] = m
 hostAfter m (c ∷ cs) = hostAfter (hostStep m c .memory) cs
 
 module _ (n : ℕ) (start : List ℤ) where
-  -- a host's call at a replica of a group
+  abbrev pub hostPerformed : ℕ → Memory → GroupCall → Outcome
+  hostPerformed k m (call c) = hostStep m c
+  hostPerformed k m (restart journal block) = called (λ x. restartStep x n k start journal block) m
+
+  -- a host's call at a replica or a station of a group
   abbrev pub hostDid : Group → CallAt → Outcome
-  hostDid g c = called (λ x. performed n start (c .at) x (c .does)) (g .memories (c .at))
+  hostDid g c = hostPerformed (c .at) (g .memories (c .at)) (c .does)
 
   unfoldable pub hostRun : Group → List CallAt → Group
   hostRun g [] = g
@@ -36,6 +56,10 @@ module _ (n : ℕ) (start : List ℤ) where
 pub record Hosted : Type 0 where
   -- a make on a table of six rows, whatever else is lent
   pub makes : (m : Memory) (n own : ℕ) (values : List ℤ) → length (m .txns .table) ≡ 6 → called (λ x. makeStep x n own values) m ≡ makeStep m n own values
+  pub station-makes : (m : Memory) (n : ℕ) (values : List ℤ) → length (m .txns .table) ≡ 6 → called (λ x. stationStep x n values) m ≡ stationStep m n values
+  -- at a station 25, whatever the table
+  pub station-writes : (m : Memory) → isStation m ≡ true → (ticket item : ℕ) (value : ℤ) → hostStep m (write ticket item value) ≡ outcome (refused 25) m
+  pub station-sends : (m : Memory) → isStation m ≡ true → (block : List ℕ) → hostStep m (send block) ≡ outcome (refused 25) m
   -- a work that is lent 512 bytes for the block to append
   pub works : (m : Memory) (block : List ℕ) → length block ≡ 512 → called (withBlock block workStep) m ≡ called workStep m
   -- lent any other length it is refused by 1, whatever the table, and the memory is as before
@@ -46,6 +70,11 @@ pub record Hosted : Type 0 where
   -- a list of calls
   pub lists : (n own : ℕ) (values : List ℤ) → 2 ≤ n → n ≤ 6 → own < n → length values ≡ 128 → (cs : List Call)
       → hostAfter (madeMemory n own values) cs ≡ after (madeMemory n own values) cs
-  -- a group, with any bytes, any journals and no premise
+  -- the same of a station
+  pub station-steps : (n : ℕ) (values : List ℤ) → 2 ≤ n → n ≤ 6 → length values ≡ 128 → (cs : List Call) (c : Call)
+      → let m = after (stationMemory n values) cs in hostStep m c ≡ step m c
+  pub station-lists : (n : ℕ) (values : List ℤ) → 2 ≤ n → n ≤ 6 → length values ≡ 128 → (cs : List Call)
+      → hostAfter (stationMemory n values) cs ≡ after (stationMemory n values) cs
+  -- a group with its stations, with any bytes, any journals and no premise
   pub groups : (n : ℕ) (start : List ℤ) → 2 ≤ n → n ≤ 6 → length start ≡ 128 → (cs : List CallAt) → Calls n cs
       → hostRun n start (fresh n start) cs ≡ run n start (fresh n start) cs

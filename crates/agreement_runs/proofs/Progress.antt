@@ -20,7 +20,7 @@ use Rattle.engine.specs.Classes.{hasClass, classFrom, classToCome, mustWait, ar
 use Rattle.engine.specs.Client.{beginRefusal, beginAt, beginRow, writeRefusal, rewriteAt, insertWrite, staleAt, writeRow, askRefusal, readOnlyAt, queueAt, askRow, reportOf, reportStep}
 use Rattle.engine.specs.Moves.{waiting, writesetOf, messageFor, sendRefusal, sendNow, sendStep, sameBytes, deliverRefusal, deliverNow, deliverStep, entriesFor, applied, stamped, shares, afterAborts, insertRising, hitTickets, without, workRefusal, passNext, commitWriteset, workStep}
 use Rattle.engine.specs.Step.{step}
-use Rattle.engine.specs.Step.Call.{report}
+use Rattle.engine.specs.Step.Call.{report, work}
 use Rattle.engine.specs.Restart.{isGood, blocksFrom, firstBlocks, writesetsFrom, commitAll, commitBlocks, highestTicket, highestOwn, ownWritesets, lastOwn, restartedMemory, restartRefusal, restartStep}
 use Rattle.engine.specs.Worked.{zeros}
 use Rattle.engine.proofs.Tests.{same-by, clash}
@@ -28,7 +28,7 @@ use Rattle.protocol.specs.Lists.{Mem, any}
 use Rattle.protocol.proofs.ListLaws.{any-false}
 use Rattle.agreement.specs.Group.{GroupCall, call, restart, messageIn, heard, CallAt, fresh, run, Comes, Calls}
 use Rattle.agreement.specs.Progress.{giving, Given, AllGiven}
-use Rattle.agreement_runs.specs.Worked.{sending}
+use Rattle.agreement_runs.specs.Worked.{at, sending}
 use Rattle.agreement_runs.specs.Progress.{slotZero, given, ungiven, early, emptied, triedOn, tried, after, WorkedProgress}
 use Rattle.agreement_runs.proofs.Worked.{outage, allowed, premise-met, calls-met}
 
@@ -62,20 +62,20 @@ to-first : Given 2 zeros given 0 slotZero
 unfolding any
 to-first = record {
   before = sending 0 ∷ [];
-  later = giving 1 slotZero ∷ [];
+  later = giving 1 slotZero ∷ at 2 work ∷ [];
   comes = refl;
   handed = subst (Mem slotZero) (sym (given-computed .1)) (List·Memᴰ·head refl);
-  since = λ more j l c g q. absurd (none-restarts (giving 1 slotZero ∷ []) more 0 j l refl q);
+  since = λ more j l c g q. absurd (none-restarts (giving 1 slotZero ∷ at 2 work ∷ []) more 0 j l refl q);
 }
 
 to-second : Given 2 zeros given 1 slotZero
 unfolding any
 to-second = record {
   before = sending 0 ∷ giving 0 slotZero ∷ [];
-  later = [];
+  later = at 2 work ∷ [];
   comes = refl;
   handed = subst (Mem slotZero) (sym (given-computed .2)) (List·Memᴰ·head refl);
-  since = λ more j l c g q. absurd (none-restarts [] more 1 j l refl q);
+  since = λ more j l c g q. absurd (none-restarts (at 2 work ∷ []) more 1 j l refl q);
 }
 
 all-given : AllGiven 2 zeros given

@@ -23,7 +23,7 @@ use Rattle.engine.specs.Calls.{Answer}
 use Rattle.engine.specs.Calls.Answer.{refused, made, began, got, wrote, queued, readOnly, withdrew, reported, sent, kept, worked, loaded, restarted}
 use Rattle.engine.specs.Make.{madeMemory, placesFit, partsFit}
 use Rattle.engine.specs.Classes.{hasClass, classFrom, classToCome, mustWait, areClasses, loadRefusal, loadStep}
-use Rattle.engine.specs.Client.{beginRefusal, beginAt, beginRow, writeRefusal, rewriteAt, insertWrite, staleAt, writeRow, askRefusal, readOnlyAt, queueAt, askRow, reportOf, reportStep}
+use Rattle.engine.specs.Client.{beginRefusal, beginAt, beginRow, readRefusal, valueFor, readRow, writeRefusal, rewriteAt, insertWrite, staleAt, writeRow, askRefusal, readOnlyAt, queueAt, askRow, reportOf, reportStep}
 use Rattle.engine.specs.Moves.{waiting, writesetOf, messageFor, sendRefusal, sendNow, sendStep, sameBytes, deliverRefusal, deliverNow, deliverStep, entriesFor, applied, stamped, shares, afterAborts, insertRising, hitTickets, without, workRefusal, passNext, commitWriteset, workStep}
 use Rattle.engine.specs.Step.{Call, step}
 use Rattle.engine.specs.Step.Call.{write, report, send, deliver}
@@ -33,8 +33,8 @@ use Rattle.engine.proofs.Tests.{clash}
 use Rattle.protocol.specs.Lists.{Mem, any}
 use Rattle.protocol.specs.Observer.{sequence, applyAll}
 use Rattle.protocol.proofs.ListLaws.{any-true, any-false}
-use Rattle.agreement.specs.Group.{GroupCall, call, restart, argumentsOf, messageIn, heard, Disk, journalAfter, Group, CallAt, fresh, run, did, next, Comes, Calls, Lent, Premise}
-use Rattle.agreement_runs.specs.Worked.{story, forgery, outages, after, HeldBy, held, holding, storyValues, outageValues, WorkedRuns, halfApplied, classes, classesValues}
+use Rattle.agreement.specs.Group.{GroupCall, call, restart, argumentsOf, messageIn, heard, Disk, journalAfter, Group, CallAt, fresh, run, did, next, Comes, MayBeAt, Calls, Lent, Premise}
+use Rattle.agreement_runs.specs.Worked.{story, forgery, outages, fourth, watched, watching, numbers, watchedValues, seen, after, HeldBy, held, holding, storyValues, outageValues, WorkedRuns, halfApplied, classes, classesValues}
 use Rattle.agreement.proofs.Theorem.{agreement}
 
 -- ---- the premise as a test
@@ -122,13 +122,22 @@ module _ (n : ℕ) (start : List ℤ) where
       at : (before : List CallAt) (c : CallAt) → Comes cs before c → AllowedAt (run n start (fresh n start) before) c
       at before c h = allowed-at before c (h .0) (fresh n start) hs (subst (λ (l : List CallAt). allowed (fresh n start) l hs ≡ true) (h .1) e)
 
+-- a restart is a replica's
+abbrev pub hereIn : ℕ → ℕ → GroupCall → Bool
+hereIn n k (call c) = true
+hereIn n k (restart j l) = ltb k n
+
+here-by : (n k : ℕ) (c : GroupCall) → hereIn n k c ≡ true → MayBeAt n k c
+here-by n k (call c) e = tt
+here-by n k (restart j l) e = ltb-true k n e
+
 abbrev pub astray : ℕ → CallAt → Bool
-astray n c = not (ltb (c .at) n && signed32 (argumentsOf (c .does) .value))
+astray n c = not (hereIn n (c .at) (c .does) && signed32 (argumentsOf (c .does) .value))
 
 pub calls-met : (n : ℕ) (cs : List CallAt) → any (astray n) cs ≡ false → Calls n cs
 calls-met n cs e c m =
-    let h = both (ltb (c .at) n) (signed32 (argumentsOf (c .does) .value)) (not-false _ (any-false (astray n) cs e c m)) in
-    (ltb-true (c .at) n (h .left), h .right)
+    let h = both (hereIn n (c .at) (c .does)) (signed32 (argumentsOf (c .does) .value)) (not-false _ (any-false (astray n) cs e c m)) in
+    (here-by n (c .at) (c .does) (h .left), h .right)
 
 -- ---- the runs
 
@@ -170,6 +179,20 @@ classes-computed : (allowed 3 zeros (fresh 3 zeros) classes [] ≡ true) × (ste
 unfolding bytesOf numberFrom valueBytes valueOf word sumTo weightedTo firstCheck secondCheck checkBytes checkMatches ownerOf within kindFits entriesFit recordFits recordsFit ticketAbsent ticketsDiffer valid signed32 entryBytes entriesBytes recordBytes recordsBytes headerFor headerBytes bodyBytes blockOf entryOf entriesOf recordOf recordsOf messageOf allZero entriesPadded recordPadded recordsPadded padded wellFormed firstOf headerOf recordAt entryAt entriesFrom bump rowFrom rowOf freeRow indexFrom has holderFrom countBelow placeStart madeMemory beginRefusal beginAt beginRow writeRefusal rewriteAt insertWrite staleAt writeRow hasClass classFrom classToCome mustWait areClasses loadRefusal loadStep askRefusal readOnlyAt queueAt askRow reportOf waiting writesetOf messageFor sendRefusal sendNow sendStep sameBytes deliverRefusal deliverNow deliverStep entriesFor applied stamped shares afterAborts insertRising hitTickets without workRefusal passNext commitWriteset workStep step run any allowed
 classes-computed = (refl, refl, refl, refl, refl, refl)
 
+stations-computed : (allowed 3 zeros (fresh 3 zeros) (watched ++ watching) [] ≡ true)
+    × (numbers (after watched) watching ≡ 0 ∷ 0 ∷ 18 ∷ 0 ∷ 0 ∷ 0 ∷ 0 ∷ 25 ∷ 25 ∷ 25 ∷ 0 ∷ 0 ∷ 0 ∷ [])
+    × (seen (after (watched ++ watching)) ≡ record {
+      replica-0 = holding watchedValues 2;
+      station-3 = holding watchedValues 2;
+      station-4 = holding (set zeros 10 (pos 80)) 1;
+      applied-before = got (pos 80);
+      applied-after = got (pos 0);
+      report = record { turn = 2; commits = 2; tickets = 2; «open_count» = 1; committed = 0; «read_only» = 1; aborted = 0; withdrawn = 0 };
+    })
+    × (any (sameBytes fourth) (after watched .blocks) ≡ true)
+unfolding bytesOf numberFrom valueBytes valueOf word sumTo weightedTo firstCheck secondCheck checkBytes checkMatches ownerOf within kindFits entriesFit recordFits recordsFit ticketAbsent ticketsDiffer valid signed32 entryBytes entriesBytes recordBytes recordsBytes headerFor headerBytes bodyBytes blockOf entryOf entriesOf recordOf recordsOf messageOf allZero entriesPadded recordPadded recordsPadded padded wellFormed firstOf headerOf recordAt entryAt entriesFrom bump rowFrom rowOf freeRow indexFrom has holderFrom countBelow placeStart madeMemory beginRefusal beginAt beginRow writeRefusal rewriteAt insertWrite staleAt writeRow hasClass classFrom classToCome mustWait areClasses loadRefusal loadStep askRefusal readOnlyAt queueAt askRow reportOf waiting writesetOf messageFor sendRefusal sendNow sendStep sameBytes deliverRefusal deliverNow deliverStep entriesFor applied stamped shares afterAborts insertRising hitTickets without workRefusal passNext commitWriteset workStep step run any allowed numbers openCount readRefusal valueFor readRow
+stations-computed = (refl, refl, refl, refl)
+
 story-calls : Calls 3 story
 unfolding any signed32
 story-calls = calls-met 3 story refl
@@ -186,10 +209,21 @@ classes-calls : Calls 3 classes
 unfolding any signed32
 classes-calls = calls-met 3 classes refl
 
+stations-calls : Calls 3 (watched ++ watching)
+unfolding any signed32
+stations-calls = calls-met 3 (watched ++ watching) refl
+
 pub worked-runs : WorkedRuns
 worked-runs = record {
   story-runs = let c = story-computed in record { calls = story-calls; premise = premise-met 3 zeros story [] (c .0); replica-0 = c .1; replica-1 = c .2; replica-2 = c .3 };
   forgery-runs = let c = forgery-computed in record { calls = forgery-calls; premise = λ p. forged-apart p forgery-calls (c .0) (c .1); replica-0 = c .0; replica-1 = c .1 };
   outage-runs = let c = outages-computed in record { calls = outage-calls; premise = premise-met 3 zeros outages ends (c .0); replica-0 = c .1; replica-1 = c .2; replica-2 = c .3 };
   classes-runs = let c = classes-computed in record { calls = classes-calls; premise = premise-met 3 zeros classes [] (c .0); free = c .1; waits = c .2; replica-0 = c .3; replica-1 = c .4; replica-2 = c .5 };
+  station-runs = let c = stations-computed in record {
+    calls = stations-calls;
+    premise = premise-met 3 zeros (watched ++ watching) [] (c .0);
+    handed = let m = any-true (sameBytes fourth) (after watched .blocks) (c .3) in subst (λ (b : List ℕ). Mem b (after watched .blocks)) (sym (same-bytes fourth (m .0) (m .1 .1))) (m .1 .0);
+    answers = c .1;
+    ends = c .2;
+  };
 }

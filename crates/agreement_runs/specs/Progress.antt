@@ -19,8 +19,9 @@ slotZero = nextBlock 2 0 0
 abbrev pub slotOne : List ℕ
 slotOne = nextBlock 2 1 1
 
+-- a station is there too, with nothing given to it
 abbrev pub given : List CallAt
-given = sending 0 ∷ at 0 (deliver slotZero) ∷ at 1 (deliver slotZero) ∷ []
+given = sending 0 ∷ at 0 (deliver slotZero) ∷ at 1 (deliver slotZero) ∷ at 2 work ∷ []
 
 abbrev pub ungiven : List CallAt
 ungiven = sending 0 ∷ []

@@ -1,17 +1,20 @@
 -- Runs of a group of three: one that meets the premise, so that the theorem speaks of something; one with a forged block, so that the premise is seen to be
--- needed; one with power cuts and restarts; and one with conflict classes.
+-- needed; one with power cuts and restarts; one with conflict classes; and one with stations.
 use Prim.Native.Nat.{ℕ}
 use mathlib.Core.Path.{_≡_}
 use mathlib.Core.List.{List, [], _∷_, _++_}
 use lib.IntN.{ℤ, pos}
 use lib.ListN.{replicate, set, take}
 use Rattle.block.specs.Bytes.{blockOf}
-use Rattle.engine.specs.Calls.Answer.{refused, wrote}
+use Rattle.engine.specs.declared.Report.{Report}
+use Rattle.engine.specs.Calls.{Answer, numberOf}
+use Rattle.engine.specs.Calls.Answer.{refused, wrote, got}
 use Rattle.engine.specs.Client.{reportOf}
 use Rattle.engine.specs.Step.{Call, step}
 use Rattle.engine.specs.Worked.{zeros}
-use Rattle.engine.specs.Step.Call.{begin, write, ask, send, deliver, work, load}
-use Rattle.agreement.specs.Group.{Group, call, restart, CallAt, fresh, run, Calls, Premise}
+use Rattle.engine.specs.Step.Call.{begin, read, write, ask, send, deliver, work, load}
+use Rattle.protocol.specs.Lists.{Mem}
+use Rattle.agreement.specs.Group.{Group, call, restart, CallAt, fresh, did, next, run, Calls, Premise}
 
 abbrev pub at : ℕ → Call → CallAt
 at k c = record { at = k; does = call c }
@@ -130,6 +133,22 @@ classes =
     ++ taking 0 (blockCommitting 1 1 1 5 (pos 84))
     ++ taking 2 (blockCommitting 1 1 1 5 (pos 84))
 
+-- ---- and stations
+
+-- a *next*
+abbrev pub fourth : List ℕ
+fourth = blockOf (record { kind = 1; sender = 0; replicas = 3; slot = 3; records = [] })
+
+-- slots 0 to 3 are handed out. Station 3 begins, and gets slot 1's block before slot 0's; slot 3's comes to station 4 too early. Station 3 works slot 0, begins once more, works slot 1, and
+-- neither writes, whatever the ticket and the item, nor sends, whatever it lends; it asks under its first ticket. Station 4 stops behind slot 0
+abbrev pub watched : List CallAt
+watched = differentItems ++ (sending 2 ∷ taking 0 third) ++ (sending 0 ∷ [])
+
+abbrev pub watching : List CallAt
+watching =
+    at 3 begin ∷ at 3 (deliver (blockCommitting 1 1 1 20 (pos 70))) ∷ at 4 (deliver fourth) ∷ taking 3 (blockCommitting 0 0 1 10 (pos 80))
+    ++ (at 3 begin ∷ at 3 work ∷ at 3 (write 1 10 (pos 81)) ∷ at 3 (write 9 128 (pos 81)) ∷ at 3 (send []) ∷ at 3 (ask 1) ∷ taking 4 (blockCommitting 0 0 1 10 (pos 80)))
+
 -- ---- what the runs leave
 
 abbrev pub after : List CallAt → Group
@@ -146,8 +165,16 @@ held cs k = record { values = after cs .memories k .store .values; commits = rep
 abbrev pub holding : List ℤ → ℕ → HeldBy
 holding values commits = record { values = values; commits = commits }
 
+-- the numbers that a list of calls is answered with, from the group g
+unfoldable pub numbers : Group → List CallAt → List ℕ
+numbers g [] = []
+numbers g (c ∷ cs) = numberOf (did 3 zeros g c .answer) ∷ numbers (next 3 zeros g c) cs
+
 abbrev pub storyValues : List ℤ
 storyValues = set (set (set zeros 10 (pos 80)) 20 (pos 70)) 5 (pos 84)
+
+abbrev pub watchedValues : List ℤ
+watchedValues = set (set zeros 10 (pos 80)) 20 (pos 70)
 
 abbrev pub classesValues : List ℤ
 classesValues = set (set (set zeros 10 (pos 80)) 20 (pos 70)) 5 (pos 84)
@@ -188,8 +215,44 @@ pub record ClassesRun : Type 0 where
   pub replica-1 : held classes 1 ≡ holding classesValues 3
   pub replica-2 : held classes 2 ≡ holding classesValues 3
 
+-- what replica 0 and the stations hold, and what station 3 reads, of an item applied before the begin and of one applied after it, and reports
+pub record Seen : Type 0 where
+  pub replica-0 : HeldBy
+  pub station-3 : HeldBy
+  pub station-4 : HeldBy
+  pub applied-before : Answer
+  pub applied-after : Answer
+  pub report : Report
+
+abbrev pub seen : Group → Seen
+seen g = record {
+  replica-0 = holding (g .memories 0 .store .values) (reportOf (g .memories 0) .commits);
+  station-3 = holding (g .memories 3 .store .values) (reportOf (g .memories 3) .commits);
+  station-4 = holding (g .memories 4 .store .values) (reportOf (g .memories 4) .commits);
+  applied-before = step (g .memories 3) (read 2 10) .answer;
+  applied-after = step (g .memories 3) (read 2 20) .answer;
+  report = reportOf (g .memories 3);
+}
+
+-- the stations' calls meet the premise; slot 3's block was handed out, and station 4 answers it by 18; station 3 holds what replica 0 holds, station 4 what replica 0 held after slot 0; a read
+-- gives what was there at its begin
+pub record StationRun : Type 0 where
+  pub calls : Calls 3 (watched ++ watching)
+  pub premise : Premise 3 zeros (watched ++ watching)
+  pub handed : Mem fourth (after watched .blocks)
+  pub answers : numbers (after watched) watching ≡ 0 ∷ 0 ∷ 18 ∷ 0 ∷ 0 ∷ 0 ∷ 0 ∷ 25 ∷ 25 ∷ 25 ∷ 0 ∷ 0 ∷ 0 ∷ []
+  pub ends : seen (after (watched ++ watching)) ≡ record {
+    replica-0 = holding watchedValues 2;
+    station-3 = holding watchedValues 2;
+    station-4 = holding (set zeros 10 (pos 80)) 1;
+    applied-before = got (pos 80);
+    applied-after = got (pos 0);
+    report = record { turn = 2; commits = 2; tickets = 2; «open_count» = 1; committed = 0; «read_only» = 1; aborted = 0; withdrawn = 0 };
+  }
+
 pub record WorkedRuns : Type 0 where
   pub story-runs : WorkedRun
   pub forgery-runs : ForgedRun
   pub outage-runs : OutageRun
   pub classes-runs : ClassesRun
+  pub station-runs : StationRun

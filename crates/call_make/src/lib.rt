@@ -1,4 +1,4 @@
-// A replica just made, in the parts lent for it.
+// A replica or a station just made, in the parts lent for it.
 ghost use mathlib.Core.Path.{_≡_};
 ghost use mathlib.Core.Bool.{_&&_, _||_, not};
 ghost use mathlib.Core.List.{List};
@@ -10,14 +10,16 @@ ghost use Rattle.block.specs.Message.{within};
 ghost use Rattle.memory.specs.declared.Counts.{Counts};
 ghost use Rattle.memory.specs.declared.Turn.{Turn};
 ghost use Rattle.memory.specs.declared.Txn.{Txn};
-ghost use Rattle.memory.specs.Memory.{Memory};
+ghost use Rattle.memory.specs.Memory.{Memory, noNumber};
 ghost use Rattle.memory.specs.Rows.{closed};
 ghost use Rattle.engine.specs.Make.{turnZero, countsFor, placesFit, slicesFit, makeRefusal, makeStep};
+ghost use Rattle.engine.specs.Station.{stationStep};
 ghost use Rattle.call_reply.specs.Parts.{allParts};
 ghost use Rattle.call_reply.specs.Replies.{Gives, number};
 ghost use Rattle.call_make.specs.Made.{ifMade};
 use call_reply::Made;
 use memory::Counts;
+use memory::NO_NUMBER;
 use memory::Turn;
 use memory::rows::clear_bytes;
 use memory::rows::clear_numbers;
@@ -187,4 +189,59 @@ pub fn make(
     clear_bytes(&mut *places);
     clear_bytes(&mut *outbox);
     answer(0, n as u8, own as u8)
+}
+
+// What a make gave, but for the number of its own.
+fn without_number(done: Made) -> Made
+    ensures { λ r. ⌜ r ≡ ifMade (done .number) (record { number = 0; turn = turnZero; counts = countsFor (done .counts .replicas) noNumber }) done ⌝ }
+{
+    if done.number != 0 {
+        return done;
+    }
+    let replicas = done.counts.replicas;
+    answer(0, replicas, NO_NUMBER)
+}
+
+// Document 02's station: made as a replica is, by the same function, but for a number of its own.
+pub fn make_station(
+    n: u32,
+    start: &[i32],
+    queue: &mut [u32],
+    items: &mut [u8],
+    writes: &mut [i32],
+    snapshots: &mut [i32],
+    values: &mut [i32],
+    stamps: &mut [u32],
+    classes: &mut [u8],
+    places: &mut [u8],
+    outbox: &mut [u8],
+) -> Made
+    ensures { λ r. ⌜ ((turn : Turn) (counts : Counts) (rows : List Txn) →
+        Gives number
+        (stationStep
+        (allParts turn counts rows (now (queue .entry)) (now (items .entry)) (now (writes .entry)) (now (snapshots .entry))
+        (now (values .entry)) (now (stamps .entry)) (now (classes .entry)) (now (places .entry)) (now (outbox .entry)))
+        n (now (start .entry)))
+        (r .number)
+        (allParts (ifMade (r .number) (r .turn) turn) (ifMade (r .number) (r .counts) counts) (ifMade (r .number) (replicate 6 closed) rows)
+        (now (queue .exit)) (now (items .exit)) (now (writes .exit)) (now (snapshots .exit))
+        (now (values .exit)) (now (stamps .exit)) (now (classes .exit)) (now (places .exit)) (now (outbox .exit))))
+        × (r .turn ≡ turnZero)
+        × (r .counts ≡ ifMade (r .number) (countsFor n noNumber) (countsFor 0 0)) ⌝ }
+{
+    let done = make(
+        n,
+        0,
+        start,
+        queue,
+        items,
+        writes,
+        snapshots,
+        values,
+        stamps,
+        classes,
+        places,
+        outbox,
+    );
+    without_number(done)
 }

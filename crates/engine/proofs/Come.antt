@@ -4,6 +4,7 @@ use mathlib.Core.Path.{_≡_, refl, ap, _∙_}
 use mathlib.Core.Bool.{Bool, true, false}
 use mathlib.Core.Logic.{_⊎_, inl, inr}
 use mathlib.Core.List.{List, [], _∷_}
+use native.Mathlib.Nat.{mod-lt}
 use native.Mathlib.Omega.{arith}
 use lib.Dec.{eqb}
 use lib.ListN.{length, getD}
@@ -14,7 +15,7 @@ use Rattle.block.proofs.BoolLaws.{joined}
 use Rattle.block.proofs.AnswerLaws.{is-taken}
 use Rattle.memory.specs.declared.Counts.{Counts}
 use Rattle.memory.specs.declared.Turn.{Turn}
-use Rattle.memory.specs.Memory.{Blocks, Memory, maxSlots}
+use Rattle.memory.specs.Memory.{Blocks, Memory, isStation, maxSlots}
 use Rattle.memory.specs.Turns.{isEmpty, emptied}
 use Rattle.engine.specs.Calls.{Outcome, numberOf}
 use Rattle.engine.specs.Moves.{sendLent, slotsSpent, othersTurn, sentAlready, sendRefusal, sendNow, sameBytes, deliverLent, otherGroup, slotPast, slotAhead, notSentHere, placeTaken, deliverRefusal, deliverNow, blockAtTurn, workLent, nothingWaits, ownNotSent, workRefusal, isLast, passNext, commitWriteset, writesetAt}
@@ -95,7 +96,7 @@ module _ {over : ℕ} (m : Memory) (S : Shape over m) (s : ℕ) (C : HasCome s m
   come-each (ask t) = let f = frames .asks m t in kept s m (step m (ask t) .memory) (f .kept .turn) (ap (λ (x : Counts). x .replicas) (f .counts)) (f .kept .blocks) C
   come-each (withdraw t) = let f = frames .withdraws m t in kept s m (step m (withdraw t) .memory) (f .kept .turn) (ap (λ (x : Counts). x .replicas) (f .counts)) (f .kept .blocks) C
   come-each report = let f = frames .reports m in rw f C
-  come-each (send b) = send-by (λ (o : Outcome). HasCome s (o .memory)) m b (λ e. come-sent) (λ e. C)
+  come-each (send b) = send-by (λ (o : Outcome). HasCome s (o .memory)) m b (λ e. come-sent) (λ k e d. C)
   come-each (deliver b) = deliver-by (λ (o : Outcome). HasCome s (o .memory)) m b (λ e. come-delivered b (deliver-passed m b e)) (λ e. C)
   come-each work = come-worked
   come-each (load l) = let f = frames .loads m l in
@@ -136,6 +137,19 @@ module _ {over : ℕ} (m : Memory) (S : Shape over m) (b : List ℕ) (G : Givabl
       let h : slotAhead m b ≡ false = lt-leb _ _ (G .high) in
       rw (lent, k .checks, k .forms, g, p, h, G .ours p, t) refl
 
+  -- its number: kept, past or placed already
+  pub given-number : (deliverRefusal m b ≡ 0) ⊎ ((deliverRefusal m b ≡ 17) ⊎ (deliverRefusal m b ≡ 20))
+  unfolding deliverRefusal firstOf
+  given-number =
+      let k = is-taken b (G .taken) in
+      let g : otherGroup m b ≡ false = rw (eq-eqb (headerOf b .replicas) (m .counts .replicas) (G .replicas)) in
+      let h : slotAhead m b ≡ false = lt-leb _ _ (G .high) in
+      bool-by (slotPast m b)
+      (λ p. inr (inl (rw (lent, k .checks, k .forms, g, p) refl)))
+      (λ p. bool-by (placeTaken m b)
+      (λ t. inr (inr (rw (lent, k .checks, k .forms, g, p, h, G .ours p, t) refl)))
+      (λ t. inl (none-refused p t)))
+
   -- a deliver of it is accepted, or the turn has passed its slot or its place is taken
   pub come-given : HasCome (headerOf b .slot) (step m (deliver b) .memory)
   come-given = deliver-by (λ (o : Outcome). HasCome (headerOf b .slot) (o .memory)) m b (λ e. here (deliver-passed m b e))
@@ -166,7 +180,16 @@ module _ {over : ℕ} (m : Memory) (S : Shape over m) (Q : SentShape m) where
   unfolding refusalOf
   works w = refusals .number m work ∙ can-work w
 
+  -- who owns a slot has a number
+  owns-numbered : ownerOf (m .counts .replicas) (m .turn .slot) ≡ m .counts .own → isStation m ≡ false
+  unfolding ownerOf
+  owns-numbered o =
+      let a = S .ranges .least in
+      let b = S .ranges .most in
+      let c = mod-lt (m .turn .slot) {m = m .counts .replicas} (omega arith) in
+      ne-eqb (m .counts .own) 255 (λ z. omega arith)
+
   pub sends : (b : List ℕ) → length b ≡ 512 → m .turn .slot < maxSlots → ownerOf (m .counts .replicas) (m .turn .slot) ≡ m .counts .own → sentAlready m ≡ false
       → numberOf (step m (send b) .answer) ≡ 0
   unfolding refusalOf
-  sends b h t o u = refusals .number m (send b) ∙ can-send b h t o u
+  sends b h t o u = refusals .number m (send b) ∙ rw (owns-numbered o) (can-send b h t o u)

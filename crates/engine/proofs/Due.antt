@@ -72,7 +72,7 @@ module _ {over : ℕ} (m : Memory) (S : Shape over m) (Q : SentShape m) (ticket 
   due-sent b =
       send-by (λ (o : Outcome). Traced ticket m (o .memory) → Due ticket s (o .memory)) m b
       (λ e t. due-by (sendNow m .memory) t (λ r h q d c. record { turn = sent-slot d; asked = c .asked (d .asked); sent = λ z y. sent-now r h (d .asked) }))
-      (λ e t. due-same m t refl)
+      (λ k e d t. due-same m t refl)
       (traced m S ticket some (D .old) (send b))
 
   -- a work that moves the turn out of the slot leaves no row sent, and found the sent mark on

@@ -102,7 +102,7 @@ write-frame m t i v =
     write-by (λ o. WriteFrame m (o .memory) r) m t i v (λ e. stale-frame m r)
     (λ e o. rewrite-frame m r (ownIndex m (rowNo m t) i) v (omega (arith, ltb-true (ownIndex m (rowNo m t) i) (writeCount (rowIn m (rowNo m t))) o)))
     (λ e o. let p = write-passed m t i e in insert-frame m r (rowIn m (rowNo m t)) i v (p .own .row) (p .room o) (p .items) (p .writes))
-    (λ k e. write-same m r)
+    (λ n k e. write-same m r)
 
 -- ---- ask, withdraw
 
@@ -228,7 +228,7 @@ frames = record {
       (λ e. ask-same m (rowNo m t));
   withdraws = λ m t. withdraw-by (λ o. WithdrawFrame m (o .memory) (rowNo m t)) m t (λ e. withdraw-frame m (rowNo m t)) (λ e. withdraw-same m (rowNo m t));
   reports = λ m. unfold step reportStep in refl;
-  sends = λ m b. send-by (λ o. SendFrame m (o .memory)) m b (λ e. send-frame m) (λ e. send-same m);
+  sends = λ m b. send-by (λ o. SendFrame m (o .memory)) m b (λ e. send-frame m) (λ n k e. send-same m);
   delivers = λ m b. deliver-by (λ o. DeliverFrame m (o .memory) (headerOf b .slot)) m b
       (λ e. deliver-frame m b (deliver-passed m b e))
       (λ e. deliver-same m (headerOf b .slot));

@@ -33,7 +33,6 @@ pub mod Refusals
 pub mod WorkFrame
 pub mod Frames
 pub mod Shapes
-pub mod OneClass
 pub mod Rising
 pub mod ReadBack
 pub mod Claims
@@ -56,3 +55,7 @@ pub mod Due
 pub mod Waiting
 pub mod Ended
 pub mod Come
+-- a station; a replica is none; a write with no table of classes
+pub mod Stations
+pub mod Numbered
+pub mod OneClass

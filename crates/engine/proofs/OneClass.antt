@@ -10,7 +10,7 @@ use borrow.Author.Tests.{eq-eqb, lt-ltb, not-true}
 use Rattle.block.specs.Message.{Record}
 use Rattle.block.specs.Answers.{recordAt, entryAt}
 use Rattle.block.proofs.BoolLaws.{both}
-use Rattle.memory.specs.Memory.{Store, Memory}
+use Rattle.memory.specs.Memory.{Store, Memory, isStation}
 use Rattle.engine.specs.Calls.{Outcome}
 use Rattle.engine.specs.Calls.Answer.{loaded}
 use Rattle.engine.specs.Make.{madeMemory}
@@ -23,7 +23,9 @@ use Rattle.engine.specs.Step.Call.{begin, read, write, ask, withdraw, re
 use Rattle.engine.specs.Shape.{Shape}
 use Rattle.engine.specs.OneClass.{formerRefusal, formerWrite, Unloaded, isLoad, noLoads, OneClass}
 use Rattle.engine.proofs.Tests.{bool-by, clash}
-use Rattle.engine.proofs.Steps.{load-by}
+use Rattle.engine.proofs.Steps.{writes-so, load-by}
+use Rattle.engine.proofs.Reports.{made-own, restarted-own}
+use Rattle.engine.proofs.Reached.{numbered, own-after}
 use Rattle.engine.proofs.BlockFacts.{taken-block}
 use Rattle.engine.proofs.ShapeMade.{getD-zeros}
 use Rattle.engine.proofs.Shapes.{shapes, shape-after}
@@ -74,10 +76,9 @@ module _ {over : ℕ} (m : Memory) (S : Shape over m) (none : Unloaded m) where
   refusal-same r item =
       rw (waits-same item, eq-eqb (length (m .store .classes)) 128 (S .lengths .classes), eq-eqb _ _ (S .lengths .places), eq-eqb (length (m .store .stamps)) 128 (S .lengths .stamps)) refl
 
-  write-same : (ticket item : ℕ) (value : ℤ) → step m (write ticket item value) ≡ formerWrite m ticket item value
-  unfolding step writeRow
-  write-same ticket item value =
-      ap (λ (n : ℕ). writeUnless n m (rowNo m ticket) item value) (refusal-same (rowNo m ticket) item)
+  write-same : isStation m ≡ false → (ticket item : ℕ) (value : ℤ) → step m (write ticket item value) ≡ formerWrite m ticket item value
+  unfolding writeRow
+  write-same h ticket item value = writes-so m h ticket item value ∙ ap (λ (n : ℕ). writeUnless n m (rowNo m ticket) item value) (refusal-same (rowNo m ticket) item)
 
 -- ---- the table stays
 
@@ -135,12 +136,14 @@ restarted-none n own values bs = blocks-none bs (startReplay values)
 
 pub one-class : OneClass
 one-class = record {
-  writes = write-same;
+  writes = λ m S h u. write-same m S u h;
   kept = kept;
   made = λ n own values l h o v cs q.
       let m = madeMemory n own values in
-      write-same (after m cs) (shapes .all n own values l h o v cs) (none-after m cs q (made-none n own values));
+      let S = shapes .made n own values l h o v in
+      write-same (after m cs) (shape-after m S cs) (none-after m cs q (made-none n own values)) (numbered (after m cs) n own (own-after m S cs ∙ made-own n own values) o h);
   restarted = λ n own values l h o v journal cs q.
       let m = restartedMemory n own values (blocksIn n journal) in
-      write-same (after m cs) (shape-after m (shapes .restarted n own values l h o v journal) cs) (none-after m cs q (restarted-none n own values (blocksIn n journal)));
+      let S = shapes .restarted n own values l h o v journal in
+      write-same (after m cs) (shape-after m S cs) (none-after m cs q (restarted-none n own values (blocksIn n journal))) (numbered (after m cs) n own (own-after m S cs ∙ restarted-own n own values (blocksIn n journal)) o h);
 }

@@ -203,7 +203,7 @@ pub record RestartPassed (n own : ℕ) (values : List ℤ) : Type 0 where
   pub among : own < n
   pub long : length values ≡ 128
 
-neither : (a b : Bool) → a || b ≡ false → (a ≡ false) × (b ≡ false)
+pub neither : (a b : Bool) → a || b ≡ false → (a ≡ false) × (b ≡ false)
 neither true b h = clash {b = true} refl h
 neither false b h = (refl, h)
 

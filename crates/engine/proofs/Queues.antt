@@ -56,11 +56,11 @@ unfolding Ordered pendingAfter
 ordered m s begin = begin-by (Ordered m begin) m (λ e. unfold beginAt in refl) (λ e. refl)
 ordered m s (read t i) = read-by (Ordered m (read t i)) m t i (λ e. refl) (λ e. refl)
 ordered m s (write t i v) =
-    write-by (Ordered m (write t i v)) m t i v (λ e. unfold staleAt in refl) (λ e o. unfold rewriteAt in refl) (λ e o. unfold insertWrite in refl) (λ n e. refl)
+    write-by (Ordered m (write t i v)) m t i v (λ e. unfold staleAt in refl) (λ e o. unfold rewriteAt in refl) (λ e o. unfold insertWrite in refl) (λ n k e. refl)
 ordered m s (ask t) = ask-by (Ordered m (ask t)) m t (λ e. unfold readOnlyAt in refl) (λ e n. joined m s t (ask-passed m t e)) (λ e. refl)
 ordered m s (withdraw t) = withdraw-by (Ordered m (withdraw t)) m t (λ e. unfold withdrawAt in refl) (λ e. refl)
 ordered m s report = unfold step reportStep in refl
-ordered m s (send b) = send-by (Ordered m (send b)) m b (λ e. unfold sendNow waiting in refl) (λ e. refl)
+ordered m s (send b) = send-by (Ordered m (send b)) m b (λ e. unfold sendNow waiting in refl) (λ n k e. refl)
 ordered m s (deliver b) = deliver-by (Ordered m (deliver b)) m b (λ e. unfold deliverNow in refl) (λ e. refl)
 ordered m s work = work-by (Ordered m work) m (λ e k. unfold passNext in sym (without-none (waiting (m .txns .queue)))) (λ e k. committed m s _ _) (λ e. refl)
 ordered m s (load l) = load-by (Ordered m (load l)) m l (λ e. refl) (λ e. refl)

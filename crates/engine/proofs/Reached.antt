@@ -1,12 +1,18 @@
--- What holds of every memory that calls and restarts lead to. Assumes nothing.
+-- What holds of every memory that calls and restarts at a replica lead to. Assumes nothing.
 use Prim.Native.Nat.{ℕ, _≤_, _<_}
-use mathlib.Core.Path.{_≡_}
+use mathlib.Core.Path.{_≡_, refl, _∙_, ap}
+use mathlib.Core.Bool.{false}
 use mathlib.Core.List.{List, [], _∷_}
+use native.Mathlib.Omega.{arith}
+use lib.Dec.{eqb}
 use lib.IntN.{ℤ}
 use lib.ListN.{length}
-use Rattle.memory.specs.Memory.{Memory}
+use borrow.Author.Tests.{ne-eqb}
+use Rattle.memory.specs.Memory.{Memory, noNumber, isStation}
 use Rattle.engine.specs.Calls.{Outcome}
 use Rattle.engine.specs.Make.{madeMemory}
+use Rattle.engine.specs.Restart.{blocksIn, restartedMemory}
+use Rattle.engine.specs.Step.{Call, step, after}
 use Rattle.engine.specs.Shape.{Shape}
 use Rattle.engine.specs.Sent.{SentShape}
 use Rattle.engine.specs.History.{AnyCall, anyStep, afterAll}
@@ -15,22 +21,44 @@ use Rattle.engine.proofs.Steps.{restart-by}
 use Rattle.engine.proofs.Passed.{restart-passed}
 use Rattle.engine.proofs.Shapes.{shapes}
 use Rattle.engine.proofs.Sent.{sent-shapes}
+use Rattle.engine.proofs.Reports.{made-own, step-counted, restarted-own}
 
--- its shape, and what is sent
+-- its shape, what is sent, and that it has a number
 pub record Reached (m : Memory) : Type 0 where
   pub over : ℕ
   pub shape : Shape over m
   pub sent : SentShape m
+  pub replica : isStation m ≡ false
+
+-- a number below N, which is at most 6, is one
+pub numbered : (m : Memory) (n own : ℕ) → m .counts .own ≡ own → own < n → n ≤ 6 → isStation m ≡ false
+numbered m n own e o h = ne-eqb (m .counts .own) 255 (λ z. omega arith)
+
+-- calls alone leave the number
+pub own-after : {over : ℕ} (m : Memory) → Shape over m → (cs : List Call) → after m cs .counts .own ≡ m .counts .own
+unfolding after
+own-after m S [] = refl
+own-after m S (c ∷ cs) = own-after (step m c .memory) (shapes .each m S c) cs ∙ step-counted m S c .own
 
 pub made-reached : (n own : ℕ) (values : List ℤ) → 2 ≤ n → n ≤ 6 → own < n → length values ≡ 128 → Reached (madeMemory n own values)
-made-reached n own values l h o v = record { over = 0; shape = shapes .made n own values l h o v; sent = sent-shapes .made n own values }
+made-reached n own values l h o v = record { over = 0; shape = shapes .made n own values l h o v; sent = sent-shapes .made n own values; replica = numbered (madeMemory n own values) n own (made-own n own values) o h }
 
 pub any-reached : (m : Memory) → Reached m → (c : AnyCall) → Reached (anyStep m c .memory)
-any-reached m R (call c) = record { over = R .over; shape = shapes .each m (R .shape) c; sent = sent-shapes .each m (R .shape) (R .sent) c }
+any-reached m R (call c) = record {
+  over = R .over;
+  shape = shapes .each m (R .shape) c;
+  sent = sent-shapes .each m (R .shape) (R .sent) c;
+  replica = ap (λ (k : ℕ). eqb k noNumber) (step-counted m (R .shape) c .own) ∙ R .replica;
+}
 any-reached m R (restart n own values journal block) =
     restart-by (λ (o : Outcome). Reached (o .memory)) m n own values journal block
     (λ e. let p = restart-passed m n own values block e in
-    record { over = _; shape = shapes .restarted n own values (p .least) (p .most) (p .among) (p .long) journal; sent = sent-shapes .restarted n own values journal })
+    record {
+      over = _;
+      shape = shapes .restarted n own values (p .least) (p .most) (p .among) (p .long) journal;
+      sent = sent-shapes .restarted n own values journal;
+      replica = numbered (restartedMemory n own values (blocksIn n journal)) n own (restarted-own n own values (blocksIn n journal)) (p .among) (p .most);
+    })
     (λ z. R)
 
 pub all-reached : (m : Memory) → Reached m → (cs : List AnyCall) → Reached (afterAll m cs)

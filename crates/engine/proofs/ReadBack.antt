@@ -281,5 +281,5 @@ reads-after {over} m S t x v a =
     let p = write-passed m t x e in
     let w = inserted m S (rowNo m t) x v (p .own .row) (p .room o) T in
     (back m _ S T t x v p f w, other m _ S T t x v p f w))
-    (λ k z b. absurd (refused-not _ z b))
+    (λ n k z b. absurd (refused-not n z b))
     a (frames .writes m t x v) (shapes .each m S (write t x v))

@@ -128,7 +128,7 @@ step-counted m s (write t i v) =
     (λ e. stale-counted m (rowNo m t) (bumps m s))
     (λ e o. unfold kept counted rewriteAt in record { numbers = refl; own = refl })
     (λ e o. unfold kept counted insertWrite in record { numbers = refl; own = refl })
-    (λ k e. refused-counted m _ k)
+    (λ n k e. refused-counted m n k)
 step-counted m s (ask t) =
     ask-by (Counted m) m t
     (λ e. read-only-counted m (rowNo m t) (bumps m s))
@@ -142,7 +142,7 @@ step-counted m s report = unfold kept counted step reportStep in record { number
 step-counted m s (send b) =
     send-by (Counted m) m b
     (λ e. unfold kept counted sendNow in record { numbers = refl; own = refl })
-    (λ e. refused-counted m _ (not-nine m (send b) refl))
+    (λ n k e. refused-counted m n k)
 step-counted m s (deliver b) =
     deliver-by (Counted m) m b
     (λ e. unfold kept counted deliverNow in record { numbers = refl; own = refl })
@@ -175,7 +175,7 @@ pub made-kept : (n own : ℕ) (values : List ℤ) → kept (madeMemory n own val
 unfolding madeMemory kept
 made-kept n own values = refl
 
-tally-kept : (own : ℕ) {over : ℕ} (m : Memory) → Shape over m → m .counts .own ≡ own → (cs : List Call) → kept (after m cs) ≡ tally own (kept m) m cs
+pub tally-kept : (own : ℕ) {over : ℕ} (m : Memory) → Shape over m → m .counts .own ≡ own → (cs : List Call) → kept (after m cs) ≡ tally own (kept m) m cs
 unfolding after tally
 tally-kept own m s e [] = refl
 tally-kept own m s e (c ∷ cs) =

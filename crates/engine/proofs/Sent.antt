@@ -69,7 +69,7 @@ sent-each m S Q (write t i v) = sent-write m S Q t i v
 sent-each m S Q (ask t) = sent-ask m S Q t
 sent-each m S Q (withdraw t) = sent-withdraw m S Q t
 sent-each m S Q report = unfold step reportStep in Q
-sent-each m S Q (send b) = send-by (λ (o : Outcome). SentShape (o .memory)) m b (λ e. sent-sent m S Q (send-passed m b e)) (λ e. Q)
+sent-each m S Q (send b) = send-by (λ (o : Outcome). SentShape (o .memory)) m b (λ e. sent-sent m S Q (send-passed m b e)) (λ n k e. Q)
 sent-each m S Q (deliver b) = deliver-by (λ (o : Outcome). SentShape (o .memory)) m b (λ e. sent-delivered m b S Q (deliver-passed m b e)) (λ e. Q)
 sent-each {over} m S Q work =
     work-by (λ (o : Outcome). Shape over (o .memory) → SentShape (o .memory)) m

@@ -88,7 +88,7 @@ module _ {over : ℕ} (m : Memory) (S : Shape over m) (Q : SentShape m) where
       (λ e o T f.
       let a = active t (write-passed m t i e .own) in
       client m _ S T Q (f .kept) (placed m _ _ (f .counts) refl refl refl) r (f .rows) a (set-stage (m .txns .table) r _ a))
-      (λ k e T f. Q) (shapes .each m S (write t i v)) (frames .writes m t i v)
+      (λ n k e T f. Q) (shapes .each m S (write t i v)) (frames .writes m t i v)
 
   pub sent-ask : (t : ℕ) → SentShape (step m (ask t) .memory)
   unfolding readOnlyAt queueAt

@@ -1,13 +1,15 @@
--- A replica just made has the shape. Assumes nothing.
+-- A replica or a station just made has the shape. Assumes nothing.
 use Prim.Native.Nat.{ℕ, _*_, _≤_, _<_}
 use mathlib.Core.Path.{_≡_, refl, ap}
-use mathlib.Core.Bool.{false}
+use mathlib.Core.Bool.{true, false}
 use mathlib.Core.List.{List}
 use native.Mathlib.Omega.{arith}
+use lib.Dec.{eqb}
 use lib.IntN.{ℤ, pos}
 use lib.ListN.{length, getD, replicate, length-replicate, getD-replicate, List·getD-eq-default}
 use borrow.Author.Tests.{eq-eqb}
 use Rattle.memory.specs.declared.Txn.{Txn}
+use Rattle.memory.specs.Memory.{noNumber}
 use Rattle.memory.specs.Rows.{closed, openCount, rowAt}
 use Rattle.memory.specs.Turns.{placeStart}
 use Rattle.engine.specs.Make.{madeMemory}
@@ -20,9 +22,10 @@ use Rattle.engine.proofs.Shaping.{row-of-fits, fits-closed, single-of}
 pub getD-zeros : (n i : ℕ) → _≡_ {A = ℕ} (getD (replicate n 0) i 0) 0
 getD-zeros n i = less-by i n (λ h. getD-replicate {A = ℕ} n i 0 0 h) (λ h. List·getD-eq-default {A = ℕ} (replicate n 0) 0 (rw length-replicate h))
 
-pub shape-made : (n own : ℕ) (values : List ℤ) → 2 ≤ n → n ≤ 6 → own < n → length values ≡ 128 → Shape 0 (madeMemory n own values)
+-- with a number of the group's, or none
+shape-numbered : (n own : ℕ) (values : List ℤ) → 2 ≤ n → n ≤ 6 → (eqb own noNumber ≡ false → own < n) → length values ≡ 128 → Shape 0 (madeMemory n own values)
 unfolding madeMemory openCount waiting
-shape-made n own values least most among long = record {
+shape-numbered n own values least most among long = record {
   lengths = record {
     table = refl;
     queue = refl;
@@ -59,3 +62,9 @@ shape-made n own values least most among long = record {
 
     none : (r : ℕ) → r < 6 → rowAt (replicate 6 closed) r .writes ≡ 0
     none r h = ap (λ (t : Txn). t .writes) (is-closed r h)
+
+pub shape-made : (n own : ℕ) (values : List ℤ) → 2 ≤ n → n ≤ 6 → own < n → length values ≡ 128 → Shape 0 (madeMemory n own values)
+shape-made n own values least most among = shape-numbered n own values least most (λ e. among)
+
+pub shape-station : (n : ℕ) (values : List ℤ) → 2 ≤ n → n ≤ 6 → length values ≡ 128 → Shape 0 (madeMemory n noNumber values)
+shape-station n values least most = shape-numbered n noNumber values least most (λ e. clash {b = true} refl e)

@@ -40,7 +40,7 @@ shape-of-blocks n own values least most among long bs good few =
         places = length-replicate {A = ℕ} (512 * n) 0;
         outbox = length-replicate {A = ℕ} 512 0;
       };
-      ranges = record { least = least; most = most; own = among; slot = few; tickets = h; commits = omega arith; repeats = omega arith; endings = omega arith };
+      ranges = record { least = least; most = most; own = λ e. among; slot = few; tickets = h; commits = omega arith; repeats = omega arith; endings = omega arith };
       rows = λ r u. row-of-fits (restartedMemory n own values bs) r (rw (is-closed r u) (fits-closed _ _ _));
       distinct = λ i j u v d some. absurd (some (ap (λ (t : Txn). t .ticket) (is-closed i u)));
       queue = record {

@@ -41,7 +41,7 @@ shape-each {over} m s (write t i v) =
     (λ e. let p = stale-passed m t i e in shape-stale m s (rowNo m t) (p .row) (p .active) (live m s t p))
     (λ e o. shape-rewritten m (rowNo m t) (ownIndex m (rowNo m t) i) v s)
     (λ e o. shape-insert m t i v s (write-passed m t i e) o)
-    (λ k e. s)
+    (λ n k e. s)
 shape-each {over} m s (ask t) =
     ask-by (Shaped over) m t
     (λ e. let p = ask-passed m t e in shape-read-only m s (rowNo m t) (p .row) (p .active) (live m s t p))
@@ -52,7 +52,7 @@ shape-each {over} m s (withdraw t) =
     (λ e. let p = withdraw-passed m t e in shape-withdrawn m s (rowNo m t) (p .row) (p .active) (live m s t p))
     (λ e. s)
 shape-each {over} m s report = unfold step reportStep in s
-shape-each {over} m s (send b) = send-by (Shaped over) m b (λ e. shape-sent m s) (λ e. s)
+shape-each {over} m s (send b) = send-by (Shaped over) m b (λ e. shape-sent m s) (λ n k e. s)
 shape-each {over} m s (deliver b) = deliver-by (Shaped over) m b (λ e. shape-delivered m b s (deliver-passed m b e)) (λ e. s)
 shape-each {over} m s work =
     work-by (Shaped over) m

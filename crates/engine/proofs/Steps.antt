@@ -1,23 +1,41 @@
 -- To prove P of a call's outcome, prove it of each thing the call may do, with what the tests tell there. Assumes nothing.
 use Prim.Native.Nat.{ℕ}
-use mathlib.Core.Path.{_≡_}
+use mathlib.Core.Path.{_≡_, refl, sym, subst}
 use mathlib.Core.Bool.{true, false}
 use mathlib.Core.List.{List}
+use native.Mathlib.Omega.{arith}
 use lib.Dec.{eqb}
 use lib.IntN.{ℤ}
 use lib.ListN.{length, getD, replicate}
 use borrow.Author.Tests.{eqb-true, eqb-false}
-use Rattle.memory.specs.Memory.{Memory, withClasses}
+use Rattle.memory.specs.Memory.{Memory, isStation, withClasses}
 use Rattle.memory.specs.Rows.{writeCount}
 use Rattle.engine.specs.Calls.{Outcome, outcome}
 use Rattle.engine.specs.Calls.Answer.{refused, got, loaded, restarted}
 use Rattle.engine.specs.Classes.{loadRefusal, loadStep}
-use Rattle.engine.specs.Client.{freeNo, rowNo, rowIn, ownIndex, isOwn, beginRefusal, beginAt, beginRow, readRefusal, valueFor, readRow, writeRefusal, rewriteAt, insertWrite, staleAt, writeRow, askRefusal, readOnlyAt, queueAt, askRow, withdrawRefusal, withdrawAt, withdrawRow}
+use Rattle.engine.specs.Client.{freeNo, rowNo, rowIn, ownIndex, isOwn, beginRefusal, beginAt, beginRow, readRefusal, valueFor, readRow, writeRefusal, rewriteAt, insertWrite, staleAt, writeRow, writeStep, askRefusal, readOnlyAt, queueAt, askRow, withdrawRefusal, withdrawAt, withdrawRow}
 use Rattle.engine.specs.Moves.{sendRefusal, sendNow, sendStep, deliverRefusal, deliverNow, deliverStep, blockAtTurn, writesetAt, workRefusal, passNext, commitWriteset, workStep}
 use Rattle.engine.specs.Restart.{blocksIn, lastOwn, restartedMemory, restartRefusal, restartStep}
 use Rattle.engine.specs.Step.{step}
 use Rattle.engine.specs.Step.Call.{begin, read, write, ask, withdraw, send, deliver, work, load}
-use Rattle.engine.proofs.Tests.{cond-by, unless-by}
+use Rattle.engine.proofs.Tests.{cond-by, bool-by, not-first, unless-by}
+
+-- document 02's Req 05: at a station a write and a send are refused by 25, before any other reason, and change nothing; at a replica they are its steps
+pub writes-refused : (m : Memory) → isStation m ≡ true → (t i : ℕ) (v : ℤ) → step m (write t i v) ≡ outcome (refused 25) m
+unfolding step
+writes-refused m h t i v = rw h refl
+
+pub sends-refused : (m : Memory) → isStation m ≡ true → (b : List ℕ) → step m (send b) ≡ outcome (refused 25) m
+unfolding step
+sends-refused m h b = rw h refl
+
+pub writes-so : (m : Memory) → isStation m ≡ false → (t i : ℕ) (v : ℤ) → step m (write t i v) ≡ writeStep m t i v
+unfolding step
+writes-so m h t i v = rw h refl
+
+pub sends-so : (m : Memory) → isStation m ≡ false → (b : List ℕ) → step m (send b) ≡ sendStep m b
+unfolding step
+sends-so m h b = rw h refl
 
 module _ (P : Outcome → Type 0) (m : Memory) where
   -- refused, with the memory as it was
@@ -32,16 +50,32 @@ module _ (P : Outcome → Type 0) (m : Memory) where
   unfolding step readRow
   read-by t i f r = unless-by P _ m f r
 
-  pub write-by : (t i : ℕ) (v : ℤ)
+  -- at a replica
+  pub write-step-by : (t i : ℕ) (v : ℤ)
       → (writeRefusal m (rowNo m t) i ≡ 9 → P (staleAt m (rowNo m t)))
       → (writeRefusal m (rowNo m t) i ≡ 0 → isOwn m (rowNo m t) i ≡ true → P (rewriteAt m (rowNo m t) (ownIndex m (rowNo m t) i) v))
       → (writeRefusal m (rowNo m t) i ≡ 0 → isOwn m (rowNo m t) i ≡ false → P (insertWrite m (rowNo m t) (rowIn m (rowNo m t)) i v))
       → ((writeRefusal m (rowNo m t) i ≡ 9 → ⊥) → Refused (writeRefusal m (rowNo m t) i))
-      → P (step m (write t i v))
-  unfolding step writeRow
-  write-by t i v s f g r =
+      → P (writeStep m t i v)
+  unfolding writeRow
+  write-step-by t i v s f g r =
       let n = writeRefusal m (rowNo m t) i in
       cond-by P (eqb n 9) (λ e. s (eqb-true n 9 e)) (λ e. unless-by P n m (λ z. cond-by P (isOwn m (rowNo m t) i) (f z) (g z)) (r (eqb-false n 9 e)))
+
+  -- refused by any number but 0 and 9
+  abbrev pub RefusedBut9 : Type 0
+  RefusedBut9 = (k : ℕ) → (k ≡ 9 → ⊥) → Refused k
+
+  -- the refusals are a write's own, and a station's 25
+  pub write-by : (t i : ℕ) (v : ℤ)
+      → (writeRefusal m (rowNo m t) i ≡ 9 → P (staleAt m (rowNo m t)))
+      → (writeRefusal m (rowNo m t) i ≡ 0 → isOwn m (rowNo m t) i ≡ true → P (rewriteAt m (rowNo m t) (ownIndex m (rowNo m t) i) v))
+      → (writeRefusal m (rowNo m t) i ≡ 0 → isOwn m (rowNo m t) i ≡ false → P (insertWrite m (rowNo m t) (rowIn m (rowNo m t)) i v))
+      → RefusedBut9
+      → P (step m (write t i v))
+  write-by t i v s f g r =
+      bool-by (isStation m) (λ e. subst P (sym (writes-refused m e t i v)) (r 25 (λ z. omega arith) (λ z. omega arith)))
+      (λ e. subst P (sym (writes-so m e t i v)) (write-step-by t i v s f g (r (writeRefusal m (rowNo m t) i))))
 
   pub ask-by : (t : ℕ)
       → (askRefusal m (rowNo m t) ≡ 0 → P (readOnlyAt m (rowNo m t)))
@@ -57,9 +91,11 @@ module _ (P : Outcome → Type 0) (m : Memory) where
   unfolding step withdrawRow
   withdraw-by t f r = unless-by P _ m f r
 
-  pub send-by : (b : List ℕ) → (sendRefusal m b ≡ 0 → P (sendNow m)) → Refused (sendRefusal m b) → P (step m (send b))
-  unfolding step sendStep
-  send-by b f r = unless-by P _ m f r
+  pub send-by : (b : List ℕ) → (sendRefusal m b ≡ 0 → P (sendNow m)) → RefusedBut9 → P (step m (send b))
+  unfolding sendStep sendRefusal
+  send-by b f r =
+      bool-by (isStation m) (λ e. subst P (sym (sends-refused m e b)) (r 25 (λ z. omega arith) (λ z. omega arith)))
+      (λ e. subst P (sym (sends-so m e b)) (unless-by P (sendRefusal m b) m f (r (sendRefusal m b) (not-first 9 _ refl))))
 
   pub deliver-by : (b : List ℕ) → (deliverRefusal m b ≡ 0 → P (deliverNow m b)) → Refused (deliverRefusal m b) → P (step m (deliver b))
   unfolding step deliverStep

@@ -92,7 +92,7 @@ module _ {over : ℕ} (m : Memory) (S : Shape over m) (ticket : ℕ) (some : tic
             let w = there (rowNo m t) _ (p .row) in
             record { had = sym (ap (λ (x : Txn). x .ticket) w); asked = λ h. absurd (h (p .active)); sent = λ h. absurd (omega (arith, p .active)) });
       })
-      (λ k e. nothing)
+      (λ k e d. nothing)
   traced (ask t) = ask-by (λ (o : Outcome). Traced ticket m (o .memory)) m t
       (λ e. record { replicas = refl; own = refl; tickets = omega arith; rows = row-shut (readOnlyAt m (rowNo m t) .memory) (rowNo m t) refl })
       (λ e d. let p = ask-passed m t e in
@@ -123,7 +123,7 @@ module _ {over : ℕ} (m : Memory) (S : Shape over m) (ticket : ℕ) (some : tic
               sent = λ h. rw (w, ne-eqb (rowAt (m .txns .table) r .stage) 1 (λ y. omega arith)) h;
             };
       })
-      (λ e. nothing)
+      (λ k e d. nothing)
   traced (deliver b) = deliver-by (λ (o : Outcome). Traced ticket m (o .memory)) m b
       (λ e. record { replicas = refl; own = refl; tickets = omega arith; rows = λ r h q. came-same m _ r refl }) (λ e. nothing)
   traced work = let f = frames .works m in record {

@@ -9,7 +9,7 @@ use lib.ListN.{getD}
 use borrow.Author.Tests.{eqb-true, eqb-false, not-true}
 use Rattle.block.specs.Answers.{Refusal, refuse, firstOf, recordAt}
 use Rattle.block.proofs.BoolLaws.{both, not-so}
-use Rattle.memory.specs.Memory.{Memory}
+use Rattle.memory.specs.Memory.{Memory, isStation}
 use Rattle.engine.specs.Calls.{numberOf}
 use Rattle.engine.specs.Calls.Answer.{refused}
 use Rattle.engine.specs.Make.{madeMemory}
@@ -17,13 +17,15 @@ use Rattle.engine.specs.Classes.{loadRefusal}
 use Rattle.engine.specs.Client.{rowNo, isOwn, beginRefusal, readRefusal, writeRefusal, askRefusal, withdrawRefusal}
 use Rattle.engine.specs.Moves.{sendRefusal, deliverRefusal, blockAtTurn, isSent, nothingWaits, ownNotSent, workRefusal}
 use Rattle.engine.specs.Restart.{restartRefusal}
-use Rattle.engine.specs.Step.{Call, refusalOf}
+use Rattle.engine.specs.Step.{Call, step, refusalOf, after}
 use Rattle.engine.specs.Step.Call.{begin, read, write, ask, withdraw, report, send, deliver, work, load}
 use Rattle.engine.specs.Shape.{Shape}
 use Rattle.engine.specs.Sent.{SentShape}
 use Rattle.engine.proofs.Tests.{cond-by, same-by, clash, not-first, passes}
-use Rattle.engine.proofs.Refusals.{refusals}
+use Rattle.engine.proofs.Refusals.{at-replica, refusals}
+use Rattle.engine.proofs.Shapes.{shapes}
 use Rattle.engine.proofs.SentWork.{facts, sender-owns, is-outbox}
+use Rattle.engine.proofs.Sent.{sent-shapes}
 use Rattle.engine.specs.History.{AnyCall, anyStep, afterAll}
 use Rattle.engine.specs.History.AnyCall.{call, restart}
 use Rattle.engine.specs.Unmet.{Unmet}
@@ -72,14 +74,20 @@ unmet : {over : ℕ} (m : Memory) → Shape over m → SentShape m → (c : Call
 unfolding refusalOf beginRefusal readRefusal askRefusal withdrawRefusal sendRefusal deliverRefusal loadRefusal
 unmet m S Q begin e = not-first 22 _ refl e
 unmet m S Q (read t i) e = not-first 22 _ refl e
-unmet m S Q (write t i v) e = write-unmet m (rowNo m t) i e
+unmet m S Q (write t i v) e = write-unmet m (rowNo m t) i (at-replica (isStation m) 22 (λ z. omega arith) (writeRefusal m (rowNo m t) i) e .1)
 unmet m S Q (ask t) e = not-first 22 _ refl e
 unmet m S Q (withdraw t) e = not-first 22 _ refl e
 unmet m S Q report e = omega arith
-unmet m S Q (send b) e = not-first 22 _ refl e
+unmet m S Q (send b) e = not-first 22 _ refl (at-replica (isStation m) 22 (λ z. omega arith) (sendRefusal m b) e .1)
 unmet m S Q (deliver b) e = not-first 22 _ refl e
 unmet m S Q work e = work-unmet m S Q e
 unmet m S Q (load l) e = not-first 22 _ refl e
+
+-- calls alone, at a replica or a station
+pub unmet-after : {over : ℕ} (m : Memory) → Shape over m → SentShape m → (cs : List Call) (c : Call) → step (after m cs) c .answer ≡ refused 22 → ⊥
+unfolding after
+unmet-after m S Q [] c e = unmet m S Q c (sym (refusals .number m c) ∙ ap numberOf e)
+unmet-after m S Q (d ∷ cs) c e = unmet-after (step m d .memory) (shapes .each m S d) (sent-shapes .each m S Q d) cs c e
 
 -- ---- a restart, and a list
 

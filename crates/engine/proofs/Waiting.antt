@@ -136,6 +136,6 @@ waiting-bound = record {
   bound = λ n own values l h o v cs ticket q.
       let m = afterAll (madeMemory n own values) cs in
       let R = all-reached (madeMemory n own values) (made-reached n own values l h o v) cs in
-      let s = own-slot (m .counts .replicas) (m .counts .own) (m .turn .slot) (R .shape .ranges .own) in
+      let s = own-slot (m .counts .replicas) (m .counts .own) (m .turn .slot) (R .shape .ranges .own (R .replica)) in
       ends-later m ticket (s .0) (m .turn .slot + m .counts .replicas) (s .2) (ends-by m R ticket q (s .0) (s .1) (s .3));
 }

@@ -5,7 +5,7 @@ use mathlib.Core.List.{List}
 use lib.Dec.{eqb}
 use lib.IntN.{ℤ}
 use Rattle.engine.specs.declared.Report.{Report}
-use Rattle.memory.specs.Memory.{Memory}
+use Rattle.memory.specs.Memory.{Memory, isStation}
 
 -- what a work did: whose writeset it committed (ticket 0 for a *next*), whether the turn moved, the tickets it aborted, rising, and the block to append to
 -- the journal: another's, where the turn leaves its slot; else no byte
@@ -62,3 +62,7 @@ outcome a m = record { answer = a; memory = m }
 -- the refusal n, with the memory as it was, or where n is 0 what the call does
 abbrev pub unless : ℕ → Memory → Outcome → Outcome
 unless n m o = cond (eqb n 0) o (outcome (refused n) m)
+
+-- 25 at a station, whatever else is wrong, with the memory as it was; at a replica what the call does
+abbrev pub unlessStation : Memory → Outcome → Outcome
+unlessStation m o = cond (isStation m) (outcome (refused 25) m) o

@@ -13,7 +13,7 @@ use Rattle.memory.specs.Rows.{closed, openCount, freeRow, rowAt, indexOf, has}
 use Rattle.memory.specs.Turns.{markApplying, advance, placeStart}
 use Rattle.engine.specs.Calls.{numberOf}
 use Rattle.engine.specs.Make.{madeMemory, makeRefusal, makeStep}
-use Rattle.engine.specs.Client.{rowNo, writeRefusal}
+use Rattle.engine.specs.Client.{rowNo}
 use Rattle.engine.specs.Moves.{blockAtTurn, writesetAt}
 use Rattle.engine.specs.Step.{Call, step, refusalOf}
 use Rattle.engine.specs.Step.Call.{begin, read, write, ask, withdraw, report, send, deliver, work, load}
@@ -37,10 +37,10 @@ pub record Refusals : Type 0 where
   pub unchanged : (m : Memory) (c : Call) → (refusalOf m c ≡ 0 → ⊥) → (refusalOf m c ≡ 9 → ⊥) → step m c .memory ≡ m
   -- 9 is a write's, and ends its transaction as aborted and does nothing else
   pub nine : (m : Memory) (c : Call) → refusalOf m c ≡ 9 → isWrite c ≡ true
-  pub stale : (m : Memory) (ticket item : ℕ) (value : ℤ) → writeRefusal m (rowNo m ticket) item ≡ 9
+  pub stale : (m : Memory) (ticket item : ℕ) (value : ℤ) → refusalOf m (write ticket item value) ≡ 9
       → step m (write ticket item value) .memory
       ≡ withTxns m (withAborted (m .counts) (bump (m .counts .aborted))) (withTable (m .txns) (set (m .txns .table) (rowNo m ticket) closed))
-  pub stale-open : (m : Memory) (ticket item : ℕ) (value : ℤ) → length (m .txns .table) ≡ 6 → writeRefusal m (rowNo m ticket) item ≡ 9
+  pub stale-open : (m : Memory) (ticket item : ℕ) (value : ℤ) → length (m .txns .table) ≡ 6 → refusalOf m (write ticket item value) ≡ 9
       → openCount (m .txns .table) ≡ suc (openCount (step m (write ticket item value) .memory .txns .table))
   -- a make's
   pub make-number : (m : Memory) (n own : ℕ) (values : List ℤ) → numberOf (makeStep m n own values .answer) ≡ makeRefusal m n own values

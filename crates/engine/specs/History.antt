@@ -29,7 +29,7 @@ pub record Tally : Type 0 where
 abbrev pub noCalls : Tally
 noCalls = record { turn = 0; commits = 0; tickets = 0; committed = 0; readOnlies = 0; aborted = 0; withdrawn = 0 }
 
--- one more answer, at replica `own`: a begin gives a ticket; an ask of an empty writeset, a withdraw and a write answered 9 each end one transaction;
+-- one more answer, at replica `own`, or at a station, with `noNumber` for it: a begin gives a ticket; an ask of an empty writeset, a withdraw and a write answered 9 each end one transaction;
 -- a work moves the turn, commits a writeset where its ticket is not 0, its own where the replica sent it, and aborts those it names;
 -- `made` and `restarted` answer no `Call`: a history begins anew there (`begun`)
 unfoldable pub counted : ℕ → Tally → Answer → Tally

@@ -1,5 +1,5 @@
 -- The calls at a replica, in the order of reading: what a call answers, a replica just made, the calls that move the turn, classes and their load,
--- the calls of a client, all of them as data, and a restart.
+-- the calls of a client, all of them as data, and a restart. A station, which has no number, is in `Station.antt`; its calls are the same.
 pub mod Calls
 pub mod Make
 pub mod Moves
@@ -16,5 +16,6 @@ pub mod Sent
 pub mod History
 pub mod Unmet
 pub mod Waiting
+pub mod Station
 pub mod Restarts
 pub mod Tickets

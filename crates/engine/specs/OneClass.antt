@@ -7,7 +7,7 @@ use lib.Dec.{eqb}
 use lib.IntN.{ℤ}
 use lib.ListN.{length, replicate}
 use Rattle.block.specs.Answers.{refuse, firstOf}
-use Rattle.memory.specs.Memory.{Memory, writesLent}
+use Rattle.memory.specs.Memory.{Memory, isStation, writesLent}
 use Rattle.engine.specs.Calls.{Outcome}
 use Rattle.engine.specs.Calls.Answer.{loaded}
 use Rattle.engine.specs.Make.{madeMemory}
@@ -58,7 +58,7 @@ noLoads [] = true
 noLoads (c ∷ cs) = not (isLoad c) && noLoads cs
 
 pub record OneClass : Type 0 where
-  pub writes : {over : ℕ} (m : Memory) → Shape over m → Unloaded m → (ticket item : ℕ) (value : ℤ)
+  pub writes : {over : ℕ} (m : Memory) → Shape over m → isStation m ≡ false → Unloaded m → (ticket item : ℕ) (value : ℤ)
       → step m (write ticket item value) ≡ formerWrite m ticket item value
   -- an accepted load alone changes the table
   pub kept : (m : Memory) (c : Call) → (step m c .answer ≡ loaded → ⊥) → step m c .memory .store .classes ≡ m .store .classes

@@ -1,4 +1,4 @@
--- The memory's shape: what holds of every memory that calls lead to from a replica just made, with any bytes and any arguments.
+-- The memory's shape: what holds of every memory that calls lead to from a replica or a station just made, with any bytes and any arguments.
 use Prim.Native.Nat.{ℕ, _+_, _*_, _-_, _≤_, _<_}
 use mathlib.Core.Path.{_≡_}
 use mathlib.Core.Bool.{true, false}
@@ -6,7 +6,7 @@ use mathlib.Core.List.{List, _++_}
 use lib.IntN.{ℤ}
 use lib.ListN.{length, getD, replicate}
 use Rattle.block.specs.Answers.{blockRefusal, headerOf}
-use Rattle.memory.specs.Memory.{Memory, maxTickets, maxSlots}
+use Rattle.memory.specs.Memory.{Memory, maxTickets, maxSlots, isStation}
 use Rattle.memory.specs.Rows.{closed, openCount, rowOf, rowAt, writeCount, itemsOf, has}
 use Rattle.memory.specs.Turns.{isOn, blockIn, isEmpty}
 use Rattle.engine.specs.Make.{madeMemory}
@@ -30,7 +30,8 @@ pub record Lengths (m : Memory) : Type 0 where
 pub record Ranges (over : ℕ) (m : Memory) : Type 0 where
   pub least : 2 ≤ m .counts .replicas
   pub most : m .counts .replicas ≤ 6
-  pub own : m .counts .own < m .counts .replicas
+  -- a replica's number is below N (`Numbered.stays`: a replica is no station); a station has none
+  pub own : isStation m ≡ false → m .counts .own < m .counts .replicas
   pub slot : m .turn .slot ≤ maxSlots
   pub tickets : m .counts .tickets ≤ maxTickets
   pub commits : m .counts .commits ≤ 6 * m .turn .slot + m .counts .done

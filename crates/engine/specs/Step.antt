@@ -1,9 +1,10 @@
--- The calls at a replica that was made, as data, and the step of each.
+-- The calls at a replica or a station that was made, as data, and the step of each.
 use Prim.Native.Nat.{ℕ}
+use mathlib.Core.Bool.{cond}
 use mathlib.Core.List.{List, [], _∷_}
 use lib.IntN.{ℤ}
-use Rattle.memory.specs.Memory.{Memory}
-use Rattle.engine.specs.Calls.{Outcome}
+use Rattle.memory.specs.Memory.{Memory, isStation}
+use Rattle.engine.specs.Calls.{Outcome, unlessStation}
 use Rattle.engine.specs.Classes.{loadRefusal, loadStep}
 use Rattle.engine.specs.Client.{rowNo, freeNo, beginRefusal, beginStep, readRefusal, readStep, writeRefusal, writeStep, askRefusal, askStep, withdrawRefusal, withdrawStep, reportStep}
 use Rattle.engine.specs.Moves.{sendRefusal, sendStep, deliverRefusal, deliverStep, workRefusal, workStep}
@@ -21,14 +22,15 @@ pub data Call : Type 0 where
   work : Call
   load : List ℕ → Call
 
+-- a station neither writes nor sends; every other call is the same there
 unfoldable pub step : Memory → Call → Outcome
 step m begin = beginStep m
 step m (read ticket item) = readStep m ticket item
-step m (write ticket item value) = writeStep m ticket item value
+step m (write ticket item value) = unlessStation m (writeStep m ticket item value)
 step m (ask ticket) = askStep m ticket
 step m (withdraw ticket) = withdrawStep m ticket
 step m report = reportStep m
-step m (send block) = sendStep m block
+step m (send block) = unlessStation m (sendStep m block)
 step m (deliver bytes) = deliverStep m bytes
 step m work = workStep m
 step m (load classes) = loadStep m classes
@@ -37,11 +39,11 @@ step m (load classes) = loadStep m classes
 unfoldable pub refusalOf : Memory → Call → ℕ
 refusalOf m begin = beginRefusal m (freeNo m)
 refusalOf m (read ticket item) = readRefusal m (rowNo m ticket) item
-refusalOf m (write ticket item value) = writeRefusal m (rowNo m ticket) item
+refusalOf m (write ticket item value) = cond (isStation m) 25 (writeRefusal m (rowNo m ticket) item)
 refusalOf m (ask ticket) = askRefusal m (rowNo m ticket)
 refusalOf m (withdraw ticket) = withdrawRefusal m (rowNo m ticket)
 refusalOf m report = 0
-refusalOf m (send block) = sendRefusal m block
+refusalOf m (send block) = cond (isStation m) 25 (sendRefusal m block)
 refusalOf m (deliver bytes) = deliverRefusal m bytes
 refusalOf m work = workRefusal m
 refusalOf m (load classes) = loadRefusal m classes

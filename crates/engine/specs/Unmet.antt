@@ -10,7 +10,7 @@ use Rattle.engine.specs.Make.{madeMemory}
 use Rattle.engine.specs.Moves.{nothingWaits, ownNotSent}
 use Rattle.engine.specs.History.{AnyCall, anyStep, afterAll}
 
--- calls and loads with any arguments, restarts from any journal, accepted or not
+-- at a replica, calls and loads with any arguments, restarts from any journal, accepted or not; a station's are `condition` and `never-22` of `Stations`
 pub record Unmet : Type 0 where
   -- where a block waits at the turn, its writeset to commit next is another's or has its ticket open as sent
   pub condition : (n own : ℕ) (values : List ℤ) → 2 ≤ n → n ≤ 6 → own < n → length values ≡ 128 → (cs : List AnyCall)

@@ -1,5 +1,5 @@
 -- How long a change may wait, document 02's Req 06: "If a nonempty ask is accepted at turn t, the transaction has ended when that replica's turn is above t + N." Of one replica, after any
--- calls with any bytes, restarts from any journal among them before and after; no premise.
+-- calls with any bytes, restarts from any journal among them before and after; no premise. At a station no ask is queued (`Stations.asks`).
 use Prim.Native.Nat.{ℕ, _+_, _≤_, _<_}
 use mathlib.Core.Path.{_≡_}
 use mathlib.Core.Bool.{Bool, true, false, not, _&&_}
@@ -39,20 +39,20 @@ openAfter ticket m (c ∷ cs) = not (endsAll m c) && openAfter ticket (anyStep m
 
 -- what was asked under the ticket, on the memory m, has ended wherever the turn is above slot s
 abbrev pub EndsBy : Memory → ℕ → ℕ → Type 0
-EndsBy m ticket s = let k = step m (ask ticket) .memory in (cs : List AnyCall) → s < afterAll k cs .turn .slot → openAfter ticket k cs ≡ false
+EndsBy m ticket s = let asked = step m (ask ticket) .memory in (cs : List AnyCall) → s < afterAll asked cs .turn .slot → openAfter ticket asked cs ≡ false
 
 pub record Waiting : Type 0 where
-  -- every own slot after the turn of the ask is such a slot, the next one too
+  -- it has ended by every own slot after the ask's turn, the next one too
   pub slot : (n own : ℕ) (values : List ℤ) → 2 ≤ n → n ≤ 6 → own < n → length values ≡ 128 → (cs : List AnyCall) (ticket : ℕ)
       → let m = afterAll (madeMemory n own values) cs in step m (ask ticket) .answer ≡ queued
       → (s : ℕ) → m .turn .slot < s → ownerOf (m .counts .replicas) s ≡ m .counts .own → EndsBy m ticket s
-  -- and so is t + N
+  -- and by t + N
   pub bound : (n own : ℕ) (values : List ℤ) → 2 ≤ n → n ≤ 6 → own < n → length values ≡ 128 → (cs : List AnyCall) (ticket : ℕ)
       → let m = afterAll (madeMemory n own values) cs in step m (ask ticket) .answer ≡ queued → EndsBy m ticket (m .turn .slot + m .counts .replicas)
 
--- what "ended" is worth
+-- what it means to have ended
 pub record Ended : Type 0 where
-  -- a call under a ticket that no row has is answered 3
+  -- a withdraw under a ticket that no row has is answered 3
   pub answer : (m : Memory) (ticket : ℕ) → isOpenAs ticket m ≡ false → step m (withdraw ticket) .answer ≡ refused 3
   -- nobody is open after an accepted restart
   pub restarted : (m : Memory) (c : AnyCall) → endsAll m c ≡ true → openCount (anyStep m c .memory .txns .table) ≡ 0

@@ -1,4 +1,4 @@
--- What the wrong replicas of documents 01 and 02 get wrong, but for restarts and invented counts, as what lists of calls answer at a replica just made. Few lists, each for several of them: every edit computes them anew.
+-- What the wrong replicas of documents 01 and 02 get wrong, but for restarts and invented counts, as what lists of calls answer at a replica or a station just made. Few lists, each for several of them: every edit computes them anew.
 -- Document 01's marked cases stand in `engine_runs`.
 use Prim.Native.Nat.{ℕ}
 use mathlib.Core.Path.{_≡_}
@@ -12,6 +12,7 @@ use Rattle.memory.specs.Memory.{Memory}
 use Rattle.engine.specs.Calls.{Answer, numberOf}
 use Rattle.engine.specs.Calls.Answer.{refused, began, got, wrote, queued, sent, kept, worked}
 use Rattle.engine.specs.Make.{madeMemory}
+use Rattle.engine.specs.Station.{stationMemory, stationStep}
 use Rattle.engine.specs.Step.{Call, step}
 use Rattle.engine.specs.Step.Call.{begin, read, write, ask, send, deliver, work, load}
 
@@ -114,3 +115,6 @@ pub record RightAnswers : Type 0 where
       ∷ work ∷ write 1 8 (pos 1) ∷ write 2 40 (pos 2) ∷ write 1 6 (pos 1)
       ∷ work ∷ write 2 40 (pos 2) ∷ load threeClasses ∷ load (replicate 128 9) ∷ load [] ∷ [])))
       ≡ 0 ∷ 0 ∷ 7 ∷ 7 ∷ 23 ∷ 0 ∷ 0 ∷ 7 ∷ 9 ∷ 0 ∷ 0 ∷ 0 ∷ 2 ∷ 1 ∷ []
+  -- document 02's Req 05: a station is made in a group of 2 to 6; a write of no item and a send lent no bytes give 25, and it takes replica 0's block
+  pub station : map (λ (n : ℕ). numberOf (stationStep (fresh 6 0) n zeros .answer)) (1 ∷ 6 ∷ 7 ∷ []) ≡ 2 ∷ 0 ∷ 2 ∷ []
+  pub station-calls : numbers (stationMemory 2 zeros) (write 1 128 (pos 1) ∷ send [] ∷ deliver (nextBlock 2 0 0) ∷ work ∷ []) ≡ 25 ∷ 25 ∷ 0 ∷ 0 ∷ []

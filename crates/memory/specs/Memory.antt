@@ -42,6 +42,16 @@ maxTickets = 100_000_000
 abbrev pub maxSlots : ℕ
 maxSlots = 100_000_000
 
+-- stands in place of an own number where there is none, at document 02's *station*; no replica has it
+abbrev pub noNumber : ℕ
+noNumber = 255
+
+abbrev pub numberless : Counts → Bool
+numberless c = eqb (c .own) noNumber
+
+abbrev pub isStation : Memory → Bool
+isStation m = numberless (m .counts)
+
 -- one more; at its type's limit, where no list of calls leads, a count stays
 unfoldable pub bump : ℕ → ℕ
 bump n = min (n + 1) 4_294_967_295

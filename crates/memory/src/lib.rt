@@ -21,7 +21,10 @@ pub struct Turn {
     pub applying: u8,
 }
 
-// Numbers of a replica: the group's size and its own number, the commit count, the writesets done of the block at the turn,
+// In place of an own number where there is none, at a station. No replica has it: own numbers are below the group's size, and that is 6 at most.
+pub const NO_NUMBER: u8 = 255;
+
+// Numbers of a replica: the group's size and its own number (NO_NUMBER at a station), the commit count, the writesets done of the block at the turn,
 // the tickets given, and how its own transactions ended.
 #[repr(C)]
 pub struct Counts {

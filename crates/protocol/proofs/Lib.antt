@@ -15,4 +15,5 @@ pub mod Keep
 pub mod ClaimLaws
 pub mod Agreement
 pub mod Refinement
+pub mod Stations
 pub mod BlockLaws

@@ -7,6 +7,7 @@ use mathlib.Core.Logic.{_⊎_, inl, inr}
 use borrow.Author.Tests.{eq-eqb, ne-eqb}
 use lib.Dec.{eqb}
 use lib.ListN.{length}
+use Rattle.memory.specs.Memory.{numberless}
 use Rattle.memory.specs.declared.Counts.{Counts}
 use Rattle.replay_parse.specs.declared.Call.{Call}
 use Rattle.replay_journal.specs.declared.Change.{Change}
@@ -15,32 +16,59 @@ use Rattle.replay_journal.specs.Journals.{Journal, changed, journalOf, hasPart,
 use Rattle.replay_calls.specs.declared.Played.{Played}
 use Rattle.replay_calls.specs.declared.Replica.{Replica}
 use Rattle.replay_calls.specs.Effects.{memoryOf, sizeLent, Effect, played, Plays}
-use Rattle.replay.specs.Places.{isThere, isAnswered, asMade, PlaysAt}
+use Rattle.replay.specs.Places.{isReplica, isThere, isAnswered, asMade, PlaysAt}
 
 -- ---- whether there is an answer
 
-module _ (c : Call) (replicas : ℕ) where
-  pub there-made : (c .letter ≡ 77) ⊎ (c .letter ≡ 89) → true ≡ isThere c replicas
-  there-made (inl e) = rw e
-  there-made (inr e) = rw e
+pub replica-not : (counts : Counts) → numberless counts ≡ true → false ≡ isReplica counts
+replica-not counts e = rw e
 
-  pub there-other : ((c .letter ≡ 77) ⊎ (c .letter ≡ 89) → ⊥) → not (eqb replicas 0) ≡ isThere c replicas
-  there-other h = rw (ne-eqb (c .letter) 77 (λ e. h (inl e)), ne-eqb (c .letter) 89 (λ e. h (inr e)))
+pub replica-made : (counts : Counts) → numberless counts ≡ false → not (eqb (counts .replicas) 0) ≡ isReplica counts
+replica-made counts e = rw e
+
+module _ (c : Call) (counts : Counts) where
+  -- A, M, Y; and J, P, Z
+  abbrev Makes : Type 0
+  Makes = (c .letter ≡ 65) ⊎ ((c .letter ≡ 77) ⊎ (c .letter ≡ 89))
+
+  abbrev Replicas : Type 0
+  Replicas = (c .letter ≡ 74) ⊎ ((c .letter ≡ 80) ⊎ (c .letter ≡ 90))
+
+  pub there-made : Makes → true ≡ isThere c counts
+  there-made (inl e) = rw e
+  there-made (inr (inl e)) = rw e
+  there-made (inr (inr e)) = rw e
+
+  pub there-replica : Replicas → isReplica counts ≡ isThere c counts
+  there-replica (inl e) = rw e
+  there-replica (inr (inl e)) = rw e
+  there-replica (inr (inr e)) = rw e
+
+  pub there-other : (Makes → ⊥) → (Replicas → ⊥) → not (eqb (counts .replicas) 0) ≡ isThere c counts
+  there-other h k =
+      rw (
+        ne-eqb (c .letter) 65 (λ e. h (inl e)),
+        ne-eqb (c .letter) 77 (λ e. h (inr (inl e))),
+        ne-eqb (c .letter) 89 (λ e. h (inr (inr e))),
+        ne-eqb (c .letter) 74 (λ e. k (inl e)),
+        ne-eqb (c .letter) 80 (λ e. k (inr (inl e))),
+        ne-eqb (c .letter) 90 (λ e. k (inr (inr e))),
+      )
 
   module _ (j : Journal) {known : Bool} where
-    pub answer-unknown : known ≡ false → false ≡ isAnswered known c replicas j
+    pub answer-unknown : known ≡ false → false ≡ isAnswered known c counts j
     unfolding isAnswered
     answer-unknown k = rw k
 
-    pub answer-none : known ≡ true → c .letter ≡ 0 → false ≡ isAnswered known c replicas j
+    pub answer-none : known ≡ true → c .letter ≡ 0 → false ≡ isAnswered known c counts j
     unfolding isAnswered
     answer-none k z = rw (k, z)
 
-    pub answer-missing : known ≡ true → (c .letter ≡ 0 → ⊥) → isThere c replicas ≡ false → false ≡ isAnswered known c replicas j
+    pub answer-missing : known ≡ true → (c .letter ≡ 0 → ⊥) → isThere c counts ≡ false → false ≡ isAnswered known c counts j
     unfolding isAnswered
     answer-missing k z t = rw (k, ne-eqb (c .letter) 0 z, t)
 
-    pub answer-part : known ≡ true → (c .letter ≡ 0 → ⊥) → isThere c replicas ≡ true → hasPart c j ≡ isAnswered known c replicas j
+    pub answer-part : known ≡ true → (c .letter ≡ 0 → ⊥) → isThere c counts ≡ true → hasPart c j ≡ isAnswered known c counts j
     unfolding isAnswered
     answer-part k z t = rw (k, ne-eqb (c .letter) 0 z, t)
 

@@ -1,25 +1,34 @@
--- What a call at a place does: at the replica there, and with the journal that is kept of it.
+-- What a call at a place does: at the replica or the station there, and with the journal that is kept of it.
 use Prim.Native.Nat.{ℕ}
 use mathlib.Core.Path.{_≡_}
 use mathlib.Core.Bool.{Bool, false, true, cond, not, _&&_, _||_}
 use mathlib.Core.List.{List}
 use lib.Dec.{eqb}
 use lib.ListN.{length}
+use Rattle.memory.specs.Memory.{numberless}
 use Rattle.memory.specs.declared.Counts.{Counts}
 use Rattle.replay_parse.specs.declared.Call.{Call}
 use Rattle.replay_journal.specs.declared.Held.{Held}
 use Rattle.replay_journal.specs.Journals.{Journal, changed, journalOf, hasPart, bytesGiven}
 use Rattle.replay.specs.declared.Placed.{Placed}
 use Rattle.replay_calls.specs.declared.Replica.{Replica}
-use Rattle.replay_calls.specs.Effects.{memoryOf, sizeLent, Effect, played, Plays}
+use Rattle.replay_calls.specs.Effects.{memoryOf, isMake, sizeLent, Effect, played, Plays}
 
--- M and Y make the replica; any other call needs one that was made
-abbrev pub isThere : Call → ℕ → Bool
-isThere c replicas = cond (eqb (c .letter) 77 || eqb (c .letter) 89) true (not (eqb replicas 0))
+-- a replica was made, and not a station
+abbrev pub isReplica : Counts → Bool
+isReplica counts = not (numberless counts) && not (eqb (counts .replicas) 0)
 
--- whether the line is answered: the bytes that it names are known, it is a call, its replica is there, and the journal has the part that it names
-unfoldable pub isAnswered : Bool → Call → ℕ → Journal → Bool
-isAnswered known c replicas j = known && (not (eqb (c .letter) 0) && (isThere c replicas && hasPart c j))
+-- J, P and Z are calls at a replica alone: a station has no journal, and no classes
+abbrev pub isReplicas : ℕ → Bool
+isReplicas letter = eqb letter 74 || (eqb letter 80 || eqb letter 90)
+
+-- A, M and Y make what is there; any other call needs what was made
+abbrev pub isThere : Call → Counts → Bool
+isThere c counts = cond (isMake c) true (cond (isReplicas (c .letter)) (isReplica counts) (not (eqb (counts .replicas) 0)))
+
+-- whether the line is answered: the bytes that it names are known, it is a call, what it is for is there, and the journal has the part that it names
+unfoldable pub isAnswered : Bool → Call → Counts → Journal → Bool
+isAnswered known c counts j = known && (not (eqb (c .letter) 0) && (isThere c counts && hasPart c j))
 
 -- Z is a Y with the N and the own number that the replica has
 unfoldable pub asMade : Call → Counts → Call
@@ -34,7 +43,7 @@ sizeAt c replica = sizeLent (asMade c (replica .counts)) (replica .counts)
 abbrev pub effectAt : Call → List ℕ → List ℕ → Journal → Replica → Effect
 effectAt c named lent j replica = played (asMade c (replica .counts)) (bytesGiven c named j) lent (memoryOf (sizeAt c replica) replica)
 
--- that effect, and with the block that is left the journal by its rule; `room` is what the page has room for
+-- that effect, and with the block that is left the journal by its rule; `room` is what the page has room for. At a station the rule is the same, and no call asks for what is kept
 pub record PlaysAt (c : Call) (named lent : List ℕ) (room : ℕ) (j : Journal) (replica : Replica) (p : Placed) (page block : List ℕ) : Type 0 where
   pub plays : Plays (sizeAt c replica) replica (p .played) block (effectAt c named lent j replica)
   pub journal : journalOf (p .held) page ≡ changed room (bytesGiven c named j) block (effectAt c named lent j replica .change) j

@@ -1,4 +1,4 @@
-// Plays a list of calls at up to six replicas, one call to a line, and prints each answer.
+// Plays a list of calls at eight places for replicas and stations, one call to a line, and prints each answer.
 ghost use Prim.Native.Nat.{_≤_, _<_};
 ghost use mathlib.Core.Path.{_≡_};
 ghost use lib.ListN.{length, take};
@@ -16,7 +16,7 @@ mod input;
 mod output;
 mod places;
 
-// A replica, and how much of its page is its journal.
+// A replica or a station, and how much of its page is its journal. A station has none: what its works leave there is never shown.
 pub struct Place {
     pub replica: Replica,
     pub held: Held,
@@ -28,7 +28,7 @@ pub struct Placed {
     pub held: Held,
 }
 
-// The place of a replica, a call, and the first `count` bytes for it; not `known` where the line names no replica, or no bytes.
+// The place of a call, the call, and the first `count` bytes for it; not `known` where the line names no place, or no bytes.
 struct Request {
     place: usize,
     known: bool,
@@ -62,7 +62,7 @@ struct Replied {
     output: Output,
 }
 
-// A place where no replica was made.
+// A place where nothing was made.
 fn nowhere() -> Place {
     Place {
         replica: nobody(),
@@ -70,30 +70,30 @@ fn nowhere() -> Place {
     }
 }
 
-// One of the six: any for what names none.
-fn at_most_five(k: usize) -> usize
-    ensures { λ r. ⌜ r < 6 ⌝ }
+// One of the eight: any for what names none.
+fn at_most_seven(k: usize) -> usize
+    ensures { λ r. ⌜ r < 8 ⌝ }
 {
-    if k < 6 { k } else { 5 }
+    if k < 8 { k } else { 7 }
 }
 
-// Whether the line names a replica, and bytes.
+// Whether the line names a place, and bytes.
 fn is_known(place: usize, known: bool) -> bool {
-    if place < 6 { known } else { false }
+    if place < 8 { known } else { false }
 }
 
 // What the line asks. `kept` are the blocks sent last.
 fn request_of(line: &[u8], sent: u64, kept: &[u8]) -> Request
     requires { ⌜ length (now kept) ≡ 32768 ⌝ }
-    ensures { λ r. ⌜ (r .place < 6) × (r .count ≤ 2100) ⌝ }
+    ensures { λ r. ⌜ (r .place < 8) × (r .count ≤ 2100) ⌝ }
 {
-    let place = replay_parse::replica_named(line);
+    let place = replay_parse::place_named(line);
     let call = replay_parse::call_of(line);
     let from = replay_delivery::start_of(call.first as u64);
     let delivery = replay_delivery::delivered(call, line, sent, &kept[from..from + 512]);
     let bytes = delivery.bytes;
     Request {
-        place: at_most_five(place),
+        place: at_most_seven(place),
         known: is_known(place, delivery.known),
         call: call,
         count: delivery.count,
@@ -104,7 +104,7 @@ fn request_of(line: &[u8], sent: u64, kept: &[u8]) -> Request
 // What the next line of the input asks.
 fn next_request(source: Source, sent: u64, buffer: &mut [u8], kept: &[u8]) -> Asked
     requires { ⌜ (source .end ≤ length (now buffer)) × (length (now kept) ≡ 32768) ⌝ }
-    ensures { λ r. ⌜ (r .source .end ≤ length (now (buffer .exit))) × (r .request .place < 6) × (r .request .count ≤ 2100) ⌝ }
+    ensures { λ r. ⌜ (r .source .end ≤ length (now (buffer .exit))) × (r .request .place < 8) × (r .request .count ≤ 2100) ⌝ }
 {
     // One byte more than the longest call has, `Y k `, three numbers and 2,100 bytes: a longer line is no call.
     let mut line = [0u8; 4239];
@@ -239,8 +239,8 @@ fn reply(
     kept: &mut [u8],
     out: &mut [u8],
 ) -> Replied
-    requires { ⌜ (request .place < 6) × (request .count ≤ 2100) × (output .held ≤ 65536)
-        × (length (now pages) ≡ 393216) × (length (now kept) ≡ 32768) × (length (now out) ≡ 65536) ⌝ }
+    requires { ⌜ (request .place < 8) × (request .count ≤ 2100) × (output .held ≤ 65536)
+        × (length (now pages) ≡ 524288) × (length (now kept) ≡ 32768) × (length (now out) ≡ 65536) ⌝ }
     ensures { λ r. ⌜ r .output .held ≤ 65536 ⌝ }
 {
     let page = 65536 * request.place;
@@ -263,9 +263,9 @@ fn reply(
 
 // Every line of the input, in its order.
 fn main() {
-    let mut places = [nowhere(); 6];
+    let mut places = [nowhere(); 8];
     // Of each journal 128 blocks are kept.
-    let mut pages = [0u8; 393216];
+    let mut pages = [0u8; 524288];
     let mut kept = [0u8; 32768];
     let mut buffer = io::large_buffer();
     let mut out = io::large_buffer();

@@ -1,32 +1,43 @@
-// A call at a place: at the replica there, with the journal that is kept of it.
+// A call at a place: at the replica or the station there, with the journal that is kept of it.
 ghost use Prim.Native.Nat.{_≤_};
 ghost use mathlib.Core.Path.{_≡_};
 ghost use lib.ListN.{length};
 ghost use Rattle.replay_journal.specs.Journals.{journalOf};
-ghost use Rattle.replay.specs.Places.{isThere, isAnswered, asMade, PlaysAt};
+ghost use Rattle.replay.specs.Places.{isReplica, isThere, isAnswered, asMade, PlaysAt};
 use super::Place;
 use super::Placed;
 use memory::Counts;
+use replay_calls::is_station;
 use replay_calls::play;
 use replay_journal::give;
 use replay_journal::has_part;
 use replay_journal::keep;
 use replay_parse::Call;
 
-// Whether the call's replica is there, or made by the call.
-fn is_there(call: Call, replicas: u8) -> bool
-    ensures { λ r. ⌜ r ≡ isThere call replicas ⌝ }
+fn is_replica(counts: Counts) -> bool
+    ensures { λ r. ⌜ r ≡ isReplica counts ⌝ }
+{
+    if is_station(counts) {
+        return false;
+    }
+    counts.replicas != 0
+}
+
+// Whether the place has what the call is for: a replica, or also a station. The call may be one that makes it.
+fn is_there(call: Call, counts: Counts) -> bool
+    ensures { λ r. ⌜ r ≡ isThere call counts ⌝ }
 {
     let letter = call.letter;
     match letter {
-        b'M' | b'Y' => true,
-        _ => replicas != 0,
+        b'A' | b'M' | b'Y' => true,
+        b'J' | b'P' | b'Z' => is_replica(counts),
+        _ => counts.replicas != 0,
     }
 }
 
 // Whether there is an answer to the call. `known` where the bytes that its line names are.
 pub fn is_answered(known: bool, call: Call, place: Place, page: &[u8]) -> bool
-    ensures { λ r. ⌜ r ≡ isAnswered known call (place .replica .counts .replicas) (journalOf (place .held) (now (page .entry))) ⌝ }
+    ensures { λ r. ⌜ r ≡ isAnswered known call (place .replica .counts) (journalOf (place .held) (now (page .entry))) ⌝ }
 {
     if !known {
         return false;
@@ -36,7 +47,7 @@ pub fn is_answered(known: bool, call: Call, place: Place, page: &[u8]) -> bool
     }
     let replica = place.replica;
     let counts = replica.counts;
-    if !is_there(call, counts.replicas) {
+    if !is_there(call, counts) {
         return false;
     }
     let held = place.held;

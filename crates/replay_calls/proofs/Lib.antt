@@ -3,3 +3,4 @@ pub mod EffectLaws
 pub mod EndLaws
 pub mod MoveLaws
 pub mod RunLaws
+pub mod StationLaws

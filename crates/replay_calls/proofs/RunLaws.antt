@@ -6,12 +6,13 @@ use mathlib.Core.Logic.{_⊎_, inl, inr}
 use borrow.Author.Tests.{ne-eqb}
 use lib.ListN.{replicate}
 use Rattle.memory.specs.Memory.{Memory}
-use Rattle.engine.specs.Calls.{Outcome}
+use Rattle.engine.specs.Calls.{Outcome, unlessStation}
 use Rattle.engine.specs.Make.{makeStep}
 use Rattle.engine.specs.Classes.{loadStep}
 use Rattle.engine.specs.Client.{beginStep, readStep, writeStep, askStep, withdrawStep, reportStep}
 use Rattle.engine.specs.Moves.{sendStep, deliverStep, workStep}
 use Rattle.engine.specs.Restart.{restartStep}
+use Rattle.engine.specs.Station.{stationStep}
 use Rattle.call_reply.specs.Called.{withBlock}
 use Rattle.replay_parse.specs.declared.Call.{Call}
 use Rattle.replay_calls.specs.declared.Played.{Played}
@@ -53,7 +54,7 @@ module _ (c : Call) (replica : Replica) (p : Played) (bytes lent : List ℕ) whe
   unfolding played
   run-report e h = rw e (h (placesSize (replica .counts .replicas)) lent)
 
-  pub run-send : (left : List ℕ) → c .letter ≡ 83 → ((size : ℕ) → Plays size replica p left (effect lent (sendStep (memoryOf size replica) lent))) → Runs left
+  pub run-send : (left : List ℕ) → c .letter ≡ 83 → ((size : ℕ) → Plays size replica p left (effect lent (unlessStation (memoryOf size replica) (sendStep (memoryOf size replica) lent)))) → Runs left
   unfolding played
   run-send left e h = rw e (h (placesSize (replica .counts .replicas)))
 
@@ -62,7 +63,7 @@ module _ (c : Call) (replica : Replica) (p : Played) (bytes lent : List ℕ) whe
   AtPlaces step =
       (block : List ℕ) → Plays (placesSize (replica .counts .replicas)) replica p block (effect block (step (memoryOf (placesSize (replica .counts .replicas)) replica)))
 
-  pub run-write : c .letter ≡ 87 → AtPlaces (λ (m : Memory). writeStep m (c .first) (c .second) (c .value)) → Runs lent
+  pub run-write : c .letter ≡ 87 → AtPlaces (λ (m : Memory). unlessStation m (writeStep m (c .first) (c .second) (c .value))) → Runs lent
   unfolding played
   run-write e h = rw e (h lent)
 
@@ -93,14 +94,20 @@ module _ (c : Call) (replica : Replica) (p : Played) (bytes lent : List ℕ) whe
   unfolding played
   run-show left e h = rw e (h (placesSize (replica .counts .replicas)))
 
+  pub run-station : c .letter ≡ 65
+      → ((block : List ℕ) → Plays (placesSize (c .first)) replica p block (effect block (stationStep (memoryOf (placesSize (c .first)) replica) (c .first) (replicate 128 (c .value)))))
+      → Runs lent
+  unfolding played
+  run-station e h = rw e (h lent)
+
   -- any other letter
   pub run-look : (c .letter ≡ 77 → ⊥) → (c .letter ≡ 66 → ⊥) → (c .letter ≡ 82 → ⊥) → (c .letter ≡ 87 → ⊥) → (c .letter ≡ 67 → ⊥) → (c .letter ≡ 88 → ⊥)
       → (c .letter ≡ 81 → ⊥) → (c .letter ≡ 83 → ⊥) → ((c .letter ≡ 68) ⊎ ((c .letter ≡ 70) ⊎ (c .letter ≡ 72)) → ⊥) → (c .letter ≡ 75 → ⊥)
-      → (c .letter ≡ 89 → ⊥) → (c .letter ≡ 80 → ⊥) → (c .letter ≡ 74 → ⊥)
+      → (c .letter ≡ 89 → ⊥) → (c .letter ≡ 80 → ⊥) → (c .letter ≡ 74 → ⊥) → (c .letter ≡ 65 → ⊥)
       → ((size : ℕ) (block : List ℕ) → Plays size replica p block (look block (memoryOf size replica)))
       → Runs lent
   unfolding played
-  run-look a b d e f g i j k l n q o h =
+  run-look a b d e f g i j k l n q o s h =
       rw (
         ne-eqb (c .letter) 77 a,
         ne-eqb (c .letter) 89 n,
@@ -117,5 +124,6 @@ module _ (c : Call) (replica : Replica) (p : Played) (bytes lent : List ℕ) whe
         ne-eqb (c .letter) 75 l,
         ne-eqb (c .letter) 80 q,
         ne-eqb (c .letter) 74 o,
+        ne-eqb (c .letter) 65 s,
       )
       (h (placesSize (replica .counts .replicas)) lent)

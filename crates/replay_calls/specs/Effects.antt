@@ -1,7 +1,7 @@
--- What a call at a replica gives and leaves.
+-- What a call at a replica or a station gives and leaves.
 use Prim.Native.Nat.{ℕ, _*_, _≤_, min}
 use mathlib.Core.Path.{_≡_}
-use mathlib.Core.Bool.{cond, _||_}
+use mathlib.Core.Bool.{Bool, cond, _||_}
 use mathlib.Core.List.{List, [], _∷_}
 use lib.Dec.{eqb}
 use lib.IntN.{ℤ, pos}
@@ -9,16 +9,17 @@ use lib.ListN.{length, take, drop, set, replicate}
 use lib.Seq.{paste}
 use Rattle.memory.specs.declared.Counts.{Counts}
 use Rattle.memory.specs.declared.Txn.{Txn}
-use Rattle.memory.specs.Memory.{Memory}
+use Rattle.memory.specs.Memory.{Memory, noNumber}
 use Rattle.memory.specs.Rows.{closed}
 use Rattle.engine.specs.declared.Report.{Report}
-use Rattle.engine.specs.Calls.{Step, Answer, numberOf, Outcome}
+use Rattle.engine.specs.Calls.{Step, Answer, numberOf, Outcome, unlessStation}
 use Rattle.engine.specs.Calls.Answer.{refused, made, began, got, wrote, queued, readOnly, withdrew, reported, sent, kept, worked, loaded, restarted}
 use Rattle.engine.specs.Make.{countsFor, makeStep}
 use Rattle.engine.specs.Classes.{loadStep}
 use Rattle.engine.specs.Client.{beginStep, readStep, writeStep, askStep, withdrawStep, reportStep}
 use Rattle.engine.specs.Moves.{sendStep, deliverStep, workStep}
 use Rattle.engine.specs.Restart.{restartStep}
+use Rattle.engine.specs.Station.{stationStep}
 use Rattle.call_reply.specs.Parts.{allParts}
 use Rattle.call_reply.specs.Replies.{blockLeft}
 use Rattle.call_reply.specs.Called.{withBlock}
@@ -58,9 +59,42 @@ abbrev pub memoryOf : ℕ → Replica → Memory
 memoryOf size r =
     allParts (r .turn) (r .counts) (r .rows) (r .queue) (r .items) (r .writes) (r .snapshots) (r .values) (r .stamps) (r .classes) (take size (r .places)) (r .outbox)
 
--- a make and a restart are lent the places of the group that they name, any other call those of the replica's own
+-- A, M and Y make what the place has
+abbrev pub isMake : Call → Bool
+isMake c = eqb (c .letter) 77 || (eqb (c .letter) 89 || eqb (c .letter) 65)
+
+-- they are lent the places of the group that they name, any other call those of the replica's own
 abbrev pub sizeLent : Call → Counts → ℕ
-sizeLent c counts = placesSize (cond (eqb (c .letter) 77 || eqb (c .letter) 89) (c .first) (counts .replicas))
+sizeLent c counts = placesSize (cond (isMake c) (c .first) (counts .replicas))
+
+abbrev pub withoutNumber : Counts → Counts
+withoutNumber c = record {
+  replicas = c .replicas;
+  own = noNumber;
+  commits = c .commits;
+  done = c .done;
+  tickets = c .tickets;
+  committed = c .committed;
+  «read_only» = c .«read_only»;
+  aborted = c .aborted;
+  withdrawn = c .withdrawn;
+}
+
+abbrev pub withCounts : Replica → Counts → Replica
+withCounts replica counts = record {
+  turn = replica .turn;
+  counts = counts;
+  rows = replica .rows;
+  queue = replica .queue;
+  items = replica .items;
+  writes = replica .writes;
+  snapshots = replica .snapshots;
+  values = replica .values;
+  stamps = replica .stamps;
+  classes = replica .classes;
+  places = replica .places;
+  outbox = replica .outbox;
+}
 
 -- with other numbers, and another record at row r
 abbrev pub withRow : Replica → Counts → ℕ → Txn → Replica
@@ -197,17 +231,18 @@ played c bytes lent m =
     cond (eqb (c .letter) 77) {- M -} (effect lent (makeStep m (c .first) (c .second) (replicate 128 (c .value))))
     (cond (eqb (c .letter) 66) {- B -} (effect lent (beginStep m))
     (cond (eqb (c .letter) 82) {- R -} (effect lent (readStep m (c .first) (c .second)))
-    (cond (eqb (c .letter) 87) {- W -} (effect lent (writeStep m (c .first) (c .second) (c .value)))
+    (cond (eqb (c .letter) 87) {- W -} (effect lent (unlessStation m (writeStep m (c .first) (c .second) (c .value))))
     (cond (eqb (c .letter) 67) {- C -} (effect lent (askStep m (c .first)))
     (cond (eqb (c .letter) 88) {- X -} (effect lent (withdrawStep m (c .first)))
     (cond (eqb (c .letter) 81) {- Q -} (effect lent (reportStep m))
-    (cond (eqb (c .letter) 83) {- S -} (effect lent (sendStep m lent))
+    (cond (eqb (c .letter) 83) {- S -} (effect lent (unlessStation m (sendStep m lent)))
     (cond (eqb (c .letter) 68 || (eqb (c .letter) 70 || eqb (c .letter) 72)) {- D, F, H -} (effect lent (deliverStep m bytes))
     (cond (eqb (c .letter) 75) {- K -} (effect lent (withBlock lent workStep m))
     (cond (eqb (c .letter) 89) {- Y -} (effect lent (restartStep m (c .first) (c .second) (replicate 128 (c .value)) bytes lent))
     (cond (eqb (c .letter) 80) {- P -} (effect lent (loadStep m bytes))
     (cond (eqb (c .letter) 74) {- J -} (show bytes lent m)
-    (look lent m)))))))))))))
+    (cond (eqb (c .letter) 65) {- A -} (effect lent (stationStep m (c .first) (replicate 128 (c .value))))
+    (look lent m))))))))))))))
 
 -- ---- what the program has of it
 

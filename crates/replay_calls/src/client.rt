@@ -1,4 +1,5 @@
-// The calls of a client at a replica, which goes in and out by value: its small parts as they are, its large ones lent from copies.
+// The calls of a client at a replica, which goes in and out by value: its small parts as they are, its large ones lent from copies. At a station they are the same,
+// but for a write.
 ghost use Prim.Native.Nat.{ℕ};
 ghost use mathlib.Core.Path.{_≡_};
 ghost use mathlib.Core.List.{List};

@@ -1,7 +1,9 @@
-// A call at a replica, by its letter. The replica goes in and out by value.
+// A call at a replica or a station, by its letter. Both have one kind of memory, which goes in and out by value.
 ghost use mathlib.Core.Path.{_≡_};
+ghost use Rattle.memory.specs.Memory.{numberless};
 ghost use Rattle.replay_calls.specs.Effects.{noReplica};
 use memory::Counts;
+use memory::NO_NUMBER;
 use memory::Turn;
 use memory::Txn;
 use replay_journal::Change;
@@ -10,8 +12,9 @@ mod client;
 mod moves;
 pub mod play;
 mod results;
+mod stations;
 
-// A replica's memory. Of the bytes for places a group of n uses the first 512·n. The group of one that was not made has no replicas.
+// A replica's memory, or a station's. Of the bytes for places a group of n uses the first 512·n. The group of one that was not made has no replicas.
 pub struct Replica {
     pub turn: Turn,
     pub counts: Counts,
@@ -37,6 +40,13 @@ pub struct Played {
     pub shown: usize,
     pub values: [i32; 128],
     pub change: Change,
+}
+
+// Whether the numbers are a station's.
+pub fn is_station(counts: Counts) -> bool
+    ensures { λ r. ⌜ r ≡ numberless counts ⌝ }
+{
+    counts.own == NO_NUMBER
 }
 
 // No replica.

@@ -1,4 +1,4 @@
-// The calls that make a replica, restart it and move its turn. It goes in and out by value, as for a client's calls.
+// The calls that make a replica, restart it and move its turn. It goes in and out by value, as for a client's calls. At a station a deliver and a work are the same.
 ghost use Prim.Native.Nat.{ℕ, _+_, _≤_};
 ghost use mathlib.Core.Path.{_≡_};
 ghost use mathlib.Core.Bool.{cond};

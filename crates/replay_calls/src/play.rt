@@ -1,4 +1,4 @@
-// A call at a replica, by its letter.
+// A call at a replica or a station, by its letter.
 ghost use Prim.Native.Nat.{ℕ};
 ghost use mathlib.Core.List.{List};
 ghost use Rattle.replay_calls.specs.Effects.{memoryOf, sizeLent, look, show, played, Plays};
@@ -8,6 +8,7 @@ use super::client;
 use super::moves;
 use super::results::bare;
 use super::results::with_values;
+use super::stations;
 use call_reply::blocks::copy_bytes;
 use replay_journal::Change;
 use replay_parse::Call;
@@ -38,11 +39,11 @@ pub fn run(call: Call, replica: Replica, bytes: &[u8], block: &mut [u8]) -> Play
         b'M' => moves::make(replica, call.first, call.second, call.value),
         b'B' => client::begin(replica),
         b'R' => client::read(replica, call.first, call.second),
-        b'W' => client::write(replica, call.first, call.second, call.value),
+        b'W' => stations::write(replica, call.first, call.second, call.value),
         b'C' => client::ask(replica, call.first),
         b'X' => client::withdraw(replica, call.first),
         b'Q' => client::report(replica),
-        b'S' => moves::send(replica, &mut *block),
+        b'S' => stations::send(replica, &mut *block),
         b'D' | b'F' | b'H' => moves::deliver(replica, bytes),
         b'K' => moves::work(replica, &mut *block),
         b'Y' => moves::restart(
@@ -55,6 +56,7 @@ pub fn run(call: Call, replica: Replica, bytes: &[u8], block: &mut [u8]) -> Play
         ),
         b'P' => client::load(replica, bytes),
         b'J' => show(replica, bytes, &mut *block),
+        b'A' => stations::make(replica, call.first, call.value),
         _ => shown(replica),
     }
 }

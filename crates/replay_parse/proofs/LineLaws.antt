@@ -16,7 +16,7 @@ use mir.Syntax.{w32}
 use mir.Val.{toZ}
 use Rattle.block.specs.Message.{within}
 use Rattle.replay_parse.specs.declared.Call.{Call}
-use Rattle.replay_parse.specs.Lines.{Field, digitNumber, upTo, digitsFrom, readDigits, readNumber, positive, negative, readSigned, readValue, callWith, noCall, withDigits, bytesBehind, nothingBehind, atEnd, oneNumber, twoNumbers, numberAndValue, numbersAndValue, callBehind, callOf, replicaNamed}
+use Rattle.replay_parse.specs.Lines.{Field, digitNumber, upTo, digitsFrom, readDigits, readNumber, positive, negative, readSigned, readValue, callWith, noCall, withDigits, bytesBehind, nothingBehind, atEnd, oneNumber, twoNumbers, numberAndValue, numbersAndValue, callBehind, callOf, placeNamed}
 use Rattle.replay_parse.specs.Lines.Field.{none, found}
 
 -- ---- digits
@@ -158,28 +158,28 @@ module _ (line : List ℕ) (end : ℕ) (c : Call) where
     unfolding atEnd
     end-is h = rw (ne-eqb (c .letter) 72 (λ e. other (inl e)), ne-eqb (c .letter) 80 (λ e. other (inr (inl e))), ne-eqb (c .letter) 89 (λ e. other (inr (inr e))), text-past line end h)
 
--- ---- the replica's place
+-- ---- the place
 
 module _ (line : List ℕ) where
-  pub named-short : length line < 3 → 6 ≡ replicaNamed line
-  unfolding replicaNamed
+  pub named-short : length line < 3 → 8 ≡ placeNamed line
+  unfolding placeNamed
   named-short h = rw (lt-ltb (length line) 3 h)
 
-  pub named-other : 3 ≤ length line → (getD line 1 0 ≡ 32 → ⊥) → 6 ≡ replicaNamed line
-  unfolding replicaNamed
+  pub named-other : 3 ≤ length line → (getD line 1 0 ≡ 32 → ⊥) → 8 ≡ placeNamed line
+  unfolding placeNamed
   named-other h e = rw (le-ltb (length line) 3 h, ne-eqb (getD line 1 0) 32 e)
 
-  pub named-below : 3 ≤ length line → getD line 1 0 ≡ 32 → getD line 2 0 < 48 → 6 ≡ replicaNamed line
-  unfolding replicaNamed within
+  pub named-below : 3 ≤ length line → getD line 1 0 ≡ 32 → getD line 2 0 < 48 → 8 ≡ placeNamed line
+  unfolding placeNamed within
   named-below h e k = rw (le-ltb (length line) 3 h, eq-eqb (getD line 1 0) 32 e, lt-leb 48 (getD line 2 0) k)
 
-  pub named-above : 3 ≤ length line → getD line 1 0 ≡ 32 → 48 ≤ getD line 2 0 → 53 < getD line 2 0 → 6 ≡ replicaNamed line
-  unfolding replicaNamed within
-  named-above h e k l = rw (le-ltb (length line) 3 h, eq-eqb (getD line 1 0) 32 e, le-leb 48 (getD line 2 0) k, lt-leb (getD line 2 0) 53 l)
+  pub named-above : 3 ≤ length line → getD line 1 0 ≡ 32 → 48 ≤ getD line 2 0 → 55 < getD line 2 0 → 8 ≡ placeNamed line
+  unfolding placeNamed within
+  named-above h e k l = rw (le-ltb (length line) 3 h, eq-eqb (getD line 1 0) 32 e, le-leb 48 (getD line 2 0) k, lt-leb (getD line 2 0) 55 l)
 
-  pub named-is : 3 ≤ length line → getD line 1 0 ≡ 32 → 48 ≤ getD line 2 0 → getD line 2 0 ≤ 53 → getD line 2 0 - 48 ≡ replicaNamed line
-  unfolding replicaNamed within
-  named-is h e k l = rw (le-ltb (length line) 3 h, eq-eqb (getD line 1 0) 32 e, le-leb 48 (getD line 2 0) k, le-leb (getD line 2 0) 53 l)
+  pub named-is : 3 ≤ length line → getD line 1 0 ≡ 32 → 48 ≤ getD line 2 0 → getD line 2 0 ≤ 55 → getD line 2 0 - 48 ≡ placeNamed line
+  unfolding placeNamed within
+  named-is h e k l = rw (le-ltb (length line) 3 h, eq-eqb (getD line 1 0) 32 e, le-leb 48 (getD line 2 0) k, le-leb (getD line 2 0) 55 l)
 
 -- ---- numbers within their bound
 
@@ -320,9 +320,10 @@ module _ (letter : ℕ) (text : List ℕ) where
   behind-one (inr (inr (inl e))) = rw e
   behind-one (inr (inr (inr e))) = rw e
 
-  pub behind-value : letter ≡ 90 → numberAndValue letter text ≡ callBehind letter text
+  pub behind-value : (letter ≡ 65) ⊎ (letter ≡ 90) → numberAndValue letter text ≡ callBehind letter text
   unfolding callBehind
-  behind-value e = rw e
+  behind-value (inl e) = rw e
+  behind-value (inr e) = rw e
 
   -- B, H, K, Q, S, V
   abbrev Bare : Type 0
@@ -342,7 +343,7 @@ module _ (letter : ℕ) (text : List ℕ) where
   behind-load e = rw e
 
   pub behind-none : ((letter ≡ 77) ⊎ ((letter ≡ 87) ⊎ (letter ≡ 89)) → ⊥) → ((letter ≡ 70) ⊎ (letter ≡ 82) → ⊥)
-      → ((letter ≡ 67) ⊎ ((letter ≡ 74) ⊎ (letter ≡ 88)) → ⊥) → (letter ≡ 68 → ⊥) → (letter ≡ 90 → ⊥) → (Bare → ⊥) → (letter ≡ 80 → ⊥)
+      → ((letter ≡ 67) ⊎ ((letter ≡ 74) ⊎ (letter ≡ 88)) → ⊥) → (letter ≡ 68 → ⊥) → ((letter ≡ 65) ⊎ (letter ≡ 90) → ⊥) → (Bare → ⊥) → (letter ≡ 80 → ⊥)
       → noCall ≡ callBehind letter text
   unfolding callBehind
   behind-none a b d g e f p =
@@ -356,7 +357,8 @@ module _ (letter : ℕ) (text : List ℕ) where
         ne-eqb letter 68 g,
         ne-eqb letter 74 (λ x. d (inr (inl x))),
         ne-eqb letter 88 (λ x. d (inr (inr x))),
-        ne-eqb letter 90 e,
+        ne-eqb letter 65 (λ x. e (inl x)),
+        ne-eqb letter 90 (λ x. e (inr x)),
         ne-eqb letter 66 (λ x. f (inl x)),
         ne-eqb letter 72 (λ x. f (inr (inl x))),
         ne-eqb letter 75 (λ x. f (inr (inr (inl x)))),

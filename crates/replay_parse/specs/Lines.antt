@@ -1,4 +1,4 @@
--- A line as a call: its letter, a space, the place of its replica, and then fields, each behind one space. A number is written as it would be printed.
+-- A line as a call: its letter, a space, the digit of its place, and then fields, each behind one space. A number is written as it would be printed.
 use Prim.Native.Nat.{ℕ, zero, suc, _+_, _*_, _-_}
 use mathlib.Core.Bool.{Bool, cond, _||_}
 use mathlib.Core.List.{List, [], _∷_}
@@ -121,21 +121,21 @@ numbersAndValue letter text =
 abbrev pub isBare : ℕ → Bool
 isBare letter = eqb letter 66 || (eqb letter 72 || (eqb letter 75 || (eqb letter 80 || (eqb letter 81 || (eqb letter 83 || eqb letter 86)))))
 
--- the call by its letter, with the text behind its replica
+-- the call by its letter, with the text behind its place
 unfoldable pub callBehind : ℕ → List ℕ → Call
 callBehind letter text =
     cond (eqb letter 77 || (eqb letter 87 || eqb letter 89)) {- M, W, Y -} (numbersAndValue letter text)
     (cond (eqb letter 82 || eqb letter 70) {- R, F -} (twoNumbers letter text)
     (cond (eqb letter 67 || (eqb letter 68 || (eqb letter 74 || eqb letter 88))) {- C, D, J, X -} (oneNumber letter text)
-    (cond (eqb letter 90) {- Z -} (numberAndValue letter text)
+    (cond (eqb letter 65 || eqb letter 90) {- A, Z -} (numberAndValue letter text)
     (cond (isBare letter) (atEnd (callWith letter 0 0 (pos 0)) text)
     noCall))))
 
 unfoldable pub callOf : List ℕ → Call
 callOf line = cond (ltb (length line) 3) noCall (callBehind (getD line 0 0) (drop 3 line))
 
--- the place of the replica that the line names, 6 where it names none
-unfoldable pub replicaNamed : List ℕ → ℕ
-replicaNamed line =
-    cond (ltb (length line) 3) 6
-    (cond (eqb (getD line 1 0) 32) (cond (within 48 53 (getD line 2 0)) (getD line 2 0 - 48) 6) 6)
+-- the place that the line names, 0 to 7; 8 where it names none
+unfoldable pub placeNamed : List ℕ → ℕ
+placeNamed line =
+    cond (ltb (length line) 3) 8
+    (cond (eqb (getD line 1 0) 32) (cond (within 48 55 (getD line 2 0)) (getD line 2 0 - 48) 8) 8)

@@ -3,7 +3,7 @@ ghost use Prim.Native.Nat.{ℕ, _≤_};
 ghost use mathlib.Core.Path.{_≡_};
 ghost use mathlib.Core.List.{List};
 ghost use lib.ListN.{drop};
-ghost use Rattle.replay_parse.specs.Lines.{digitNumber, upTo, readDigits, readNumber, negative, readSigned, readValue, callWith, noCall, withDigits, bytesBehind, atEnd, oneNumber, twoNumbers, numberAndValue, numbersAndValue, callOf, replicaNamed};
+ghost use Rattle.replay_parse.specs.Lines.{digitNumber, upTo, readDigits, readNumber, negative, readSigned, readValue, callWith, noCall, withDigits, bytesBehind, atEnd, oneNumber, twoNumbers, numberAndValue, numbersAndValue, callOf, placeNamed};
 ghost use Rattle.replay_parse.specs.Lines.{numberField, valueField};
 
 // A call: its letter and its numbers, 0 where it has none, and how many digits of bytes end its line. Letter 0 is no call.
@@ -232,27 +232,27 @@ fn with_two_value(line: &[u8], letter: u8) -> Call
     at_end(line, end, made(letter, first, second, v))
 }
 
-// The place of the replica that the line names, 6 where it names none.
-pub fn replica_named(line: &[u8]) -> usize
-    ensures { λ r. ⌜ r ≡ replicaNamed (now (line .entry)) ⌝ }
+// The place that the line names, 8 where it names none.
+pub fn place_named(line: &[u8]) -> usize
+    ensures { λ r. ⌜ r ≡ placeNamed (now (line .entry)) ⌝ }
 {
     if line.len() < 3 {
-        return 6;
+        return 8;
     }
     if line[1] != b' ' {
-        return 6;
+        return 8;
     }
     let byte = line[2];
     if byte < 48 {
-        return 6;
+        return 8;
     }
-    if 53 < byte {
-        return 6;
+    if 55 < byte {
+        return 8;
     }
     (byte - 48) as usize
 }
 
-// The call that the line makes, behind its replica.
+// The call that the line makes, behind its place.
 pub fn call_of(line: &[u8]) -> Call
     ensures { λ r. ⌜ r ≡ callOf (now (line .entry)) ⌝ }
 {
@@ -265,7 +265,7 @@ pub fn call_of(line: &[u8]) -> Call
         b'R' | b'F' => with_two(line, letter),
         b'C' | b'J' | b'X' => with_one(line, letter),
         b'D' => with_one(line, letter),
-        b'Z' => with_one_value(line, letter),
+        b'A' | b'Z' => with_one_value(line, letter),
         b'B' | b'H' | b'K' | b'Q' | b'S' | b'V' => at_end(line, 3, made(letter, 0, 0, 0)),
         b'P' => at_end(line, 3, made(letter, 0, 0, 0)),
         _ => no_call(),

@@ -2,10 +2,9 @@
 --     …-kept     refused: what is held stays
 --     …-did      accepted: what was written to table, turn and counts where they lie is what the step says
 use Prim.Native.Nat.{ℕ}
-use mathlib.Core.Path.{_≡_, refl, sym, _∙_}
+use mathlib.Core.Path.{_≡_, refl}
 use mathlib.Core.Bool.{true}
-use mathlib.Core.List.{List, [], _∷_}
-use native.Mathlib.Omega.{arith}
+use mathlib.Core.List.{List}
 use borrow.Author.Tests.{eq-eqb, ne-eqb}
 use lib.IntN.{ℤ}
 use lib.ListN.{length, replicate}
@@ -13,46 +12,33 @@ use Rattle.memory.specs.declared.Counts.{Counts}
 use Rattle.memory.specs.declared.Turn.{Turn}
 use Rattle.memory.specs.declared.Txn.{Txn}
 use Rattle.memory.specs.Memory.{Memory}
-use Rattle.memory.specs.Rows.{closed, endRows}
+use Rattle.memory.specs.Rows.{endRows}
 use Rattle.engine.specs.Make.{makeStep}
 use Rattle.engine.specs.Restart.{restartStep}
 use Rattle.call_reply.specs.declared.Made.{Made}
 use Rattle.call_reply.specs.declared.Restarted.{Restarted}
 use Rattle.call_reply.specs.Parts.{allParts}
-use Rattle.call_reply.specs.Replies.{number}
 use Rattle.call_reply.proofs.CalledLaws.{called-six}
+use Rattle.call_make.proofs.HostLaws.{all-free, kept, did}
 use Rattle.replica_make.proofs.Facts.{MakeOn, MakeDid, RestartOn, RestartDid}
 
 -- ---- make
--- six rows ended are six free rows
-all-free : (table : List Txn) → length table ≡ 6 → endRows (replicate 6 true) table ≡ replicate 6 closed
-unfolding endRows
-all-free [] e = absurd (omega (arith, e))
-all-free (a ∷ []) e = absurd (omega (arith, e))
-all-free (a ∷ b ∷ []) e = absurd (omega (arith, e))
-all-free (a ∷ b ∷ c ∷ []) e = absurd (omega (arith, e))
-all-free (a ∷ b ∷ c ∷ d ∷ []) e = absurd (omega (arith, e))
-all-free (a ∷ b ∷ c ∷ d ∷ f ∷ []) e = absurd (omega (arith, e))
-all-free (a ∷ b ∷ c ∷ d ∷ f ∷ g ∷ []) e = refl
-all-free (a ∷ b ∷ c ∷ d ∷ f ∷ g ∷ h ∷ table) e = absurd (omega (arith, e))
-
 module _ (table : List Txn) (turn : Turn) (counts : Counts) (size me : ℕ) (start : List ℤ) (queue items : List ℕ) (writes snapshots values : List ℤ) (stamps classes places outbox : List ℕ) (r : Made)
     (queue′ items′ : List ℕ) (writes′ snapshots′ values′ : List ℤ) (stamps′ classes′ places′ outbox′ : List ℕ) (six : length table ≡ 6)
     (said : MakeOn size me start queue items writes snapshots values stamps classes places outbox r queue′ items′ writes′ snapshots′ values′ stamps′ classes′ places′ outbox′) where
-  abbrev make-before : Memory
-  make-before = allParts turn counts table queue items writes snapshots values stamps classes places outbox
+  abbrev make-parts : Turn → Counts → List Txn → Memory
+  make-parts h c t = allParts h c t queue items writes snapshots values stamps classes places outbox
+
+  abbrev make-left : Turn → Counts → List Txn → Memory
+  make-left h c t = allParts h c t queue′ items′ writes′ snapshots′ values′ stamps′ classes′ places′ outbox′
 
   pub make-kept : (r .number ≡ 0 → ⊥)
       → MakeDid table turn counts size me start queue items writes snapshots values stamps classes places outbox (r .number) table turn counts queue′ items′ writes′ snapshots′ values′ stamps′ classes′ places′ outbox′
-  make-kept z =
-      let q = rw (ne-eqb (r .number) 0 z) at said .0 turn counts table in
-      rw (called-six (λ (x : Memory). makeStep x size me start) make-before six) q
+  make-kept = kept (λ (x : Memory). makeStep x size me start) make-parts make-left r turn counts table refl six (said .0 turn counts table)
 
   pub make-did : r .number ≡ 0
       → MakeDid table turn counts size me start queue items writes snapshots values stamps classes places outbox 0 (endRows (replicate 6 true) table) (r .turn) (r .counts) queue′ items′ writes′ snapshots′ values′ stamps′ classes′ places′ outbox′
-  make-did z =
-      let q = rw (eq-eqb (r .number) 0 z) at said .0 turn counts table in
-      rw (called-six (λ (x : Memory). makeStep x size me start) make-before six, all-free table six) (sym z ∙ q .0, q .1)
+  make-did = did (λ (x : Memory). makeStep x size me start) make-parts make-left r turn counts table refl six (said .0 turn counts table)
 
 -- ---- restart
 module _ (table : List Txn) (turn : Turn) (counts : Counts) (size me : ℕ) (start : List ℤ) (queue items : List ℕ) (writes snapshots values : List ℤ) (stamps classes places outbox journal block : List ℕ) (r : Restarted)

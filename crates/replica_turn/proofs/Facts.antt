@@ -3,6 +3,7 @@ use Prim.Native.Nat.{ℕ}
 use mathlib.Core.Path.{_≡_, refl}
 use mathlib.Core.Bool.{false}
 use mathlib.Core.List.{List}
+use borrow.Author.Tests.{eq-eqb, ne-eqb}
 use lib.IntN.{ℤ}
 use lib.ListN.{length, replicate}
 use Rattle.memory.specs.declared.Counts.{Counts}
@@ -10,6 +11,7 @@ use Rattle.memory.specs.declared.Turn.{Turn}
 use Rattle.memory.specs.declared.Txn.{Txn}
 use Rattle.memory.specs.Memory.{Memory}
 use Rattle.memory.specs.Rows.{endRows}
+use Rattle.engine.specs.Calls.{unlessStation}
 use Rattle.engine.specs.Moves.{sendStep, deliverStep, workStep}
 use Rattle.call_reply.specs.Parts.{sendParts, deliverParts, workParts}
 use Rattle.call_reply.specs.Replies.{number, workReply, Gives, GivesWith}
@@ -24,10 +26,13 @@ abbrev pub SendOn : List Txn → Turn → Counts → List ℕ → List ℕ → L
 SendOn rows turn counts queue items writes outbox block r queue′ outbox′ block′ = (m : Memory) → GivesWith number (sendStep (sendParts m turn counts rows queue items writes outbox) block) block (r .number) (sendParts m (r .turn) counts (r .rows) queue′ items writes outbox′) block′
 
 abbrev pub SendDid : List Txn → Turn → Counts → List ℕ → List ℕ → List ℤ → List ℕ → List ℕ → ℕ → List Txn → Turn → List ℕ → List ℕ → List ℕ → Type 0
-SendDid table turn counts queue items writes outbox block r table′ turn′ queue′ outbox′ block′ = (m : Memory) → GivesWith number (called (λ (x : Memory). sendStep x block) (sendParts m turn counts table queue items writes outbox)) block (r) (sendParts m turn′ counts table′ queue′ items writes outbox′) block′
+SendDid table turn counts queue items writes outbox block r table′ turn′ queue′ outbox′ block′ = (m : Memory) → GivesWith number (unlessStation (sendParts m turn counts table queue items writes outbox) (called (λ (x : Memory). sendStep x block) (sendParts m turn counts table queue items writes outbox))) block (r) (sendParts m turn′ counts table′ queue′ items writes outbox′) block′
 
-pub send-not : (table : List Txn) (turn : Turn) (counts : Counts) (queue : List ℕ) (items : List ℕ) (writes : List ℤ) (outbox : List ℕ) (block : List ℕ) → (length table ≡ 6 → ⊥) → SendDid table turn counts queue items writes outbox block (1) table turn queue outbox block
-send-not table turn counts queue items writes outbox block other = λ m. rw (called-other (λ (x : Memory). sendStep x block) (sendParts m turn counts table queue items writes outbox) other) ((refl, refl), refl)
+pub send-not : (table : List Txn) (turn : Turn) (counts : Counts) (queue : List ℕ) (items : List ℕ) (writes : List ℤ) (outbox : List ℕ) (block : List ℕ) → (counts .own ≡ 255 → ⊥) → (length table ≡ 6 → ⊥) → SendDid table turn counts queue items writes outbox block (1) table turn queue outbox block
+send-not table turn counts queue items writes outbox block ours other = λ m. rw (ne-eqb (counts .own) 255 ours, called-other (λ (x : Memory). sendStep x block) (sendParts m turn counts table queue items writes outbox) other) ((refl, refl), refl)
+
+pub send-station : (table : List Txn) (turn : Turn) (counts : Counts) (queue : List ℕ) (items : List ℕ) (writes : List ℤ) (outbox : List ℕ) (block : List ℕ) → counts .own ≡ 255 → SendDid table turn counts queue items writes outbox block 25 table turn queue outbox block
+send-station table turn counts queue items writes outbox block none = λ m. rw (eq-eqb (counts .own) 255 none) ((refl, refl), refl)
 
 abbrev pub DeliverOn : Turn → Counts → List ℕ → List ℕ → List ℕ → ℕ → List ℕ → Type 0
 DeliverOn turn counts places outbox bytes r places′ = (m : Memory) → Gives number (deliverStep (deliverParts m turn counts places outbox) bytes) r (deliverParts m turn counts places′ outbox)

@@ -5,6 +5,7 @@ use Prim.Native.Nat.{ℕ}
 use mathlib.Core.Path.{_≡_, refl, sym, ap, _∙_}
 use mathlib.Core.List.{List, map}
 use lib.Dec.{eqb}
+use borrow.Author.Tests.{ne-eqb}
 use lib.IntN.{ℤ}
 use lib.ListN.{length, getD}
 use Rattle.memory.specs.declared.Counts.{Counts}
@@ -12,7 +13,7 @@ use Rattle.memory.specs.declared.Turn.{Turn}
 use Rattle.memory.specs.declared.Txn.{Txn}
 use Rattle.memory.specs.Memory.{Memory}
 use Rattle.memory.specs.Rows.{endRows}
-use Rattle.engine.specs.Calls.{Outcome, outcome}
+use Rattle.engine.specs.Calls.{Outcome, outcome, unlessStation}
 use Rattle.engine.specs.Calls.Answer.{refused}
 use Rattle.engine.specs.Moves.{sendRow, sendRefusal, sendNow, sendStep, blockAtTurn, workRefusal, passNext, commitWriteset, workStep}
 use Rattle.engine.proofs.Tests.{cond-by, unless-by}
@@ -28,7 +29,7 @@ use Rattle.host_table.proofs.TableLaws.{loaded-six}
 use Rattle.replica_turn.proofs.Facts.{SendOn, SendDid, WorkOn, WorkDid}
 
 -- ---- send
-module _ (table : List Txn) (turn : Turn) (counts : Counts) (queue items : List ℕ) (writes : List ℤ) (outbox block : List ℕ) (r : Sent) (queue′ outbox′ block′ : List ℕ) (six : length table ≡ 6)
+module _ (table : List Txn) (turn : Turn) (counts : Counts) (queue items : List ℕ) (writes : List ℤ) (outbox block : List ℕ) (r : Sent) (queue′ outbox′ block′ : List ℕ) (ours : counts .own ≡ 255 → ⊥) (six : length table ≡ 6)
     (said : SendOn (loaded table) turn counts queue items writes outbox block r queue′ outbox′ block′) where
   module _ (m : Memory) where
     abbrev send-before : Memory
@@ -37,8 +38,8 @@ module _ (table : List Txn) (turn : Turn) (counts : Counts) (queue items : List 
     abbrev SendWay : ℕ → List Txn → Turn → Outcome → Type 0
     SendWay n t h o = GivesBlock o block (r .number) (sendParts m (r .turn) counts (r .rows) queue′ items writes outbox′) block′ → GivesBlock o block n (sendParts m h counts t queue′ items writes outbox′) block′
 
-    send-way : (n : ℕ) (t : List Txn) (h : Turn) → SendWay n t h (sendStep send-before block) → GivesBlock (called (λ (x : Memory). sendStep x block) send-before) block n (sendParts m h counts t queue′ items writes outbox′) block′
-    send-way n t h way = rw (called-six (λ (x : Memory). sendStep x block) send-before six) (way ((rw (loaded-six table six) at said) m))
+    send-way : (n : ℕ) (t : List Txn) (h : Turn) → SendWay n t h (sendStep send-before block) → GivesBlock (unlessStation send-before (called (λ (x : Memory). sendStep x block) send-before)) block n (sendParts m h counts t queue′ items writes outbox′) block′
+    send-way n t h way = rw (ne-eqb (counts .own) 255 ours, called-six (λ (x : Memory). sendStep x block) send-before six) (way ((rw (loaded-six table six) at said) m))
 
   pub send-kept : (r .number ≡ 0 → ⊥) → SendDid table turn counts queue items writes outbox block (r .number) table turn queue′ outbox′ block′
   unfolding sendStep sendNow

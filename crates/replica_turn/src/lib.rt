@@ -2,6 +2,7 @@
 // The table is lent as a slice of records, turn and counts behind references. Each call copies what it needs of the lent parts, makes the call by value, and writes what changed where it
 // lies. Its contract: what the call gives is what the engine's step gives, on every memory with the lent parts.
 ghost use Rattle.memory.specs.Memory.{Memory};
+ghost use Rattle.engine.specs.Calls.{unlessStation};
 ghost use Rattle.engine.specs.Moves.{sendStep, deliverStep, workStep};
 ghost use Rattle.call_reply.specs.Parts.{sendParts, deliverParts, workParts};
 ghost use Rattle.call_reply.specs.Replies.{number, workReply, Gives, GivesWith, GivesBlock};
@@ -19,6 +20,7 @@ use host_table::mark_rows;
 use host_table::set_counts;
 use host_table::set_turn;
 use memory::Counts;
+use memory::NO_NUMBER;
 use memory::Turn;
 use memory::Txn;
 
@@ -34,19 +36,24 @@ pub extern "C" fn stemline_send(
     block: &mut [u8],
 ) -> u8
     ensures { λ r. ⌜ ((m : Memory) → GivesBlock
+        (unlessStation
+        (sendParts m (now (turn .entry)) (now (counts .entry)) (now (table .entry)) (now (queue .entry)) (now (items .entry)) (now (writes .entry)) (now (outbox .entry)))
         (called (λ x. sendStep x (now (block .entry)))
-        (sendParts m (now (turn .entry)) (now (counts .entry)) (now (table .entry)) (now (queue .entry)) (now (items .entry)) (now (writes .entry)) (now (outbox .entry))))
+        (sendParts m (now (turn .entry)) (now (counts .entry)) (now (table .entry)) (now (queue .entry)) (now (items .entry)) (now (writes .entry)) (now (outbox .entry)))))
         (now (block .entry))
         r
         (sendParts m (now (turn .exit)) (now (counts .entry)) (now (table .exit)) (now (queue .exit)) (now (items .entry)) (now (writes .entry)) (now (outbox .exit)))
         (now (block .exit))) ⌝ }
 {
+    let before = copy_counts(counts);
+    if before.own == NO_NUMBER {
+        return 25;
+    }
     if table.len() != 6 {
         return 1;
     }
     let rows = load(table);
     let cursor = copy_turn(turn);
-    let before = copy_counts(counts);
     let done = send(rows, cursor, before, queue, items, writes, outbox, block);
     if done.number != 0 {
         return done.number;

@@ -14,20 +14,21 @@ use Rattle.memory.specs.declared.Turn.{Turn}
 use Rattle.memory.specs.declared.Txn.{Txn}
 use Rattle.memory.specs.Memory.{Memory, withAborted}
 use Rattle.memory.specs.Rows.{closed, rowOf, rowAt, writeCount}
-use Rattle.engine.specs.Calls.{Outcome, outcome}
+use Rattle.engine.specs.Calls.{Outcome, outcome, unlessStation}
 use Rattle.engine.specs.Calls.Answer.{refused}
 use Rattle.engine.specs.Client.{isOwn, ownIndex, writeRefusal, rewriteAt, insertWrite, staleAt, writeRow, writeStep}
-use borrow.Author.Tests.{eqb-false}
+use borrow.Author.Tests.{eqb-false, ne-eqb}
 use Rattle.engine.proofs.Tests.{cond-by, unless-by}
 use Rattle.call_reply.specs.declared.Changed.{Changed}
 use Rattle.call_reply.specs.Parts.{writeParts}
 use Rattle.call_reply.specs.Replies.{number, Gives}
+use Rattle.call_reply.specs.Called.{called}
 use Rattle.call_reply.proofs.CalledLaws.{called-six}
 use Rattle.host_table.specs.Table.{withWrites, loaded}
 use Rattle.host_table.proofs.TableLaws.{loaded-six, written-same, written-put}
 use Rattle.replica_write.proofs.Facts.{WriteOn, WriteDid}
 
-module _ (table : List Txn) (turn : Turn) (counts : Counts) (ticket : ℕ) (items : List ℕ) (writes : List ℤ) (stamps classes places : List ℕ) (item : ℕ) (value : ℤ) (r : Changed) (items′ : List ℕ) (writes′ : List ℤ) (six : length table ≡ 6)
+module _ (table : List Txn) (turn : Turn) (counts : Counts) (ticket : ℕ) (items : List ℕ) (writes : List ℤ) (stamps classes places : List ℕ) (item : ℕ) (value : ℤ) (r : Changed) (items′ : List ℕ) (writes′ : List ℤ) (ours : counts .own ≡ 255 → ⊥) (six : length table ≡ 6)
     (said : WriteOn (rowOf ticket table) (rowAt table (rowOf ticket table)) (loaded table) turn counts items writes stamps classes places item value r items′ writes′) where
   abbrev at₃ : ℕ
   at₃ = rowOf ticket table
@@ -40,8 +41,8 @@ module _ (table : List Txn) (turn : Turn) (counts : Counts) (ticket : ℕ) (item
     WriteWay n t c o = Gives number o (r .number) (writeParts m turn (r .counts) (set table at₃ (r .row)) items′ writes′ stamps classes places) → Gives number o n (writeParts m turn c t items′ writes′ stamps classes places)
 
     write-way : (n : ℕ) (t : List Txn) (c : Counts) → WriteWay n t c (writeRow before₃ at₃ item value)
-        → Gives number (Rattle.call_reply.specs.Called.called (λ (x : Memory). writeStep x ticket item value) before₃) n (writeParts m turn c t items′ writes′ stamps classes places)
-    write-way n t c way = rw (called-six (λ (x : Memory). writeStep x ticket item value) before₃ six) (way ((rw (loaded-six table six, set-getD table at₃ closed) at said .0) m))
+        → Gives number (unlessStation before₃ (called (λ (x : Memory). writeStep x ticket item value) before₃)) n (writeParts m turn c t items′ writes′ stamps classes places)
+    write-way n t c way = rw (ne-eqb (counts .own) 255 ours, called-six (λ (x : Memory). writeStep x ticket item value) before₃ six) (way ((rw (loaded-six table six, set-getD table at₃ closed) at said .0) m))
 
     -- a memory's parts with this table
     abbrev written : List Txn → Memory → Memory

@@ -1,5 +1,6 @@
 // A write, and the load of document 02's classes, as a host makes them; lent and given as the other calls of a client (`replica_client`) are.
 ghost use Rattle.memory.specs.Memory.{Memory};
+ghost use Rattle.engine.specs.Calls.{unlessStation};
 ghost use Rattle.engine.specs.Client.{writeStep};
 ghost use Rattle.engine.specs.Classes.{loadStep};
 ghost use Rattle.call_reply.specs.Parts.{writeParts, loadParts};
@@ -16,6 +17,7 @@ use host_table::row;
 use host_table::set_aborted;
 use host_table::set_writes;
 use memory::Counts;
+use memory::NO_NUMBER;
 use memory::Turn;
 use memory::Txn;
 
@@ -34,11 +36,17 @@ pub extern "C" fn stemline_write(
     value: i32,
 ) -> u8
     ensures { λ r. ⌜ ((m : Memory) → Gives number
+        (unlessStation
+        (writeParts m (now (turn .entry)) (now (counts .entry)) (now (table .entry)) (now (items .entry)) (now (writes .entry)) (now (stamps .entry)) (now (classes .entry)) (now (places .entry)))
         (called (λ x. writeStep x ticket item value)
-        (writeParts m (now (turn .entry)) (now (counts .entry)) (now (table .entry)) (now (items .entry)) (now (writes .entry)) (now (stamps .entry)) (now (classes .entry)) (now (places .entry))))
+        (writeParts m (now (turn .entry)) (now (counts .entry)) (now (table .entry)) (now (items .entry)) (now (writes .entry)) (now (stamps .entry)) (now (classes .entry)) (now (places .entry)))))
         r
         (writeParts m (now (turn .entry)) (now (counts .exit)) (now (table .exit)) (now (items .exit)) (now (writes .exit)) (now (stamps .entry)) (now (classes .entry)) (now (places .entry)))) ⌝ }
 {
+    let before = copy_counts(counts);
+    if before.own == NO_NUMBER {
+        return 25;
+    }
     if table.len() != 6 {
         return 1;
     }
@@ -46,7 +54,6 @@ pub extern "C" fn stemline_write(
     let t = row(table, at);
     let rows = load(table);
     let cursor = copy_turn(turn);
-    let before = copy_counts(counts);
     let done = write(
         at,
         t,

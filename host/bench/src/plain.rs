@@ -15,8 +15,10 @@ pub use self::restart::Restarted;
 
 /// The most open transactions.
 const OPEN: usize = RECORDS;
+/// In the place of a station's own number.
+const NO_NUMBER: u8 = 255;
 
-/// One replica of a group. Its calls are the model's, and refuse by the same numbers.
+/// One replica of a group, or a station. Its calls are the model's, and refuse by the same numbers.
 #[derive(Clone)]
 pub struct Replica {
     n: u8,
@@ -111,12 +113,21 @@ pub struct Work {
 impl Replica {
     /// Replica `own` of `n`.
     pub fn make(n: u32, own: u32, values: &[i32; ITEMS]) -> Result<Replica, u8> {
-        if !(2..=6).contains(&n) || own >= n {
+        if own >= n {
+            return Err(OUT_OF_RANGE);
+        }
+        let own = own as u8;
+        Replica::station(n, values).map(|made| Replica { own, ..made })
+    }
+
+    /// A station of a group of `n`.
+    pub fn station(n: u32, values: &[i32; ITEMS]) -> Result<Replica, u8> {
+        if !(2..=6).contains(&n) {
             return Err(OUT_OF_RANGE);
         }
         Ok(Replica {
             n: n as u8,
-            own: own as u8,
+            own: NO_NUMBER,
             done: 0,
             sent: false,
             applying: false,
@@ -156,6 +167,11 @@ impl Replica {
             aborted: self.aborted,
             withdrawn: self.withdrawn,
         }
+    }
+
+    /// Whether it has no number.
+    fn is_station(&self) -> bool {
+        self.own == NO_NUMBER
     }
 
     /// For tests, as the model's.

@@ -20,7 +20,22 @@ impl Both {
     fn late(n: u32, own: u32, slots: u32, tickets: u32) -> Both {
         let values = start_values();
         let plain = plain::Replica::make(n, own, &values).unwrap();
-        let model = Replica::make(n, own, &values).unwrap();
+        Both::of(
+            plain,
+            Replica::make(n, own, &values).unwrap(),
+            slots,
+            tickets,
+        )
+    }
+
+    /// The same of a station.
+    fn late_station(n: u32, slots: u32, tickets: u32) -> Both {
+        let values = start_values();
+        let plain = plain::Replica::station(n, &values).unwrap();
+        Both::of(plain, Replica::station(n, &values).unwrap(), slots, tickets)
+    }
+
+    fn of(plain: plain::Replica, model: Replica, slots: u32, tickets: u32) -> Both {
         Both {
             plain: plain.fast_forward(slots, tickets),
             model: model.fast_forward(slots, tickets),
@@ -32,11 +47,20 @@ impl Both {
 
 impl Subject for Both {
     fn call(&mut self, call: &Call) -> Result<Answer, u8> {
+        let waiting = self.model.waiting();
         let (mut appended, mut due) = (Vec::new(), Vec::new());
         let answer = play(&mut self.plain, call, &mut appended);
         let model = self.model.call_journaled(call, &mut due);
         assert_eq!(answer, model, "{call:?}: plain, model");
-        assert!(appended == due, "{call:?}: what is appended");
+        if self.model.is_station() {
+            assert!(due.is_empty(), "{call:?}: a station has no journal");
+            // Whoever sent it, the block whose slot the turn leaves is given for one.
+            let left = matches!(&answer, Ok(Answer::Work(work)) if work.moved);
+            let given = waiting.filter(|_| left).map_or(Vec::new(), Vec::from);
+            assert!(appended == given, "{call:?}: what is given at a station");
+        } else {
+            assert!(appended == due, "{call:?}: what is appended");
+        }
         self.disk.append(&mut due);
         if let Ok(Answer::Block(_)) = answer {
             self.floor = self.disk.len();
@@ -109,25 +133,31 @@ fn play(replica: &mut plain::Replica, call: &Call, journal: &mut Vec<u8>) -> Res
     }
 }
 
-/// A group that only gets blocks of its own, and a single replica that takes forged ones.
+/// A group with a station that only gets blocks of its own, and a single replica and a station that take
+/// forged ones.
 fn run(seed: u64, style: Style, slots: u32, tickets: u32, seen: &mut Seen) {
     let n = 2 + seed as u32 % 5;
     let member = |own| Both::late(n, own, slots, tickets);
     let mut random = Random::new(seed);
+    let station = || Both::late_station(n, slots, tickets);
     let mut group = Group::new((0..n).map(member).collect(), style);
-    let mut single = member(0);
-    let mut peers = Peers::new(n, 0, single.report());
+    group.add_station(station());
+    let mut singles = [member(0), station()];
+    let report = singles[0].report();
+    let mut peers = [Peers::new(n, 0, report), Peers::of_station(n, report)];
     for _ in 0..5_000 {
         match random.below(100) {
             0 if slots == 0 => group.random_cut(&mut random),
             _ => group.random_call(&mut random),
         }
-        let call = peers.random_call(&mut random, style);
-        let answer = single.call(&call);
-        peers.feed(&call, &answer);
+        for (single, peers) in singles.iter_mut().zip(&mut peers) {
+            let call = peers.random_call(&mut random, style);
+            let answer = single.call(&call);
+            peers.feed(&call, &answer);
+        }
     }
     seen.add(&group.seen);
-    seen.add(&peers.seen);
+    peers.iter().for_each(|peers| seen.add(&peers.seen));
 }
 
 #[test]
@@ -139,8 +169,9 @@ fn plain_and_model_give_the_same() {
         let style = Style::new(30, 40, 6);
         run(seed, style, SLOTS - 60, MAX_TICKET - 60, &mut seen);
     }
-    // No list of calls leads to 22.
-    let due: Vec<usize> = (1..24).filter(|&number| number != 22).collect();
+    // No list of calls leads to 22, and there is no 24.
+    let due: Vec<usize> = (1..26).filter(|&n| n != 22 && n != 24).collect();
     assert_eq!(seen.numbers(20), due, "{seen:?}");
     assert!(seen.restarts > 1_000, "{seen:?}");
+    assert!(seen.offered_again > 100, "{seen:?}");
 }

@@ -1,11 +1,13 @@
 //! For tests: replicas that are driven by hand or at random. Here whole groups under an observer; in
-//! `power` their cuts and restarts; in `peers` one replica among forged peers.
+//! `power` their cuts and restarts; in `stations` the stations beside them; in `peers` one replica or
+//! station among forged peers.
 
 mod peers;
 mod power;
+mod stations;
 mod tally;
 
-use std::collections::BTreeMap;
+use std::collections::{BTreeMap, BTreeSet};
 
 use crate::block::{self, BLOCK, MAX_TICKET};
 use crate::observer::Observer;
@@ -50,8 +52,12 @@ impl Style {
 
 /// A group, what its calls said, and the blocks that it handed out.
 pub struct Group<S> {
-    /// The replicas, by their number.
+    /// The replicas, by their number, and the stations behind them.
     pub members: Vec<S>,
+    /// The members that are replicas.
+    replicas: usize,
+    /// The stations that get calls.
+    stations: Vec<usize>,
     /// What the answers of each amount to.
     pub tallies: Vec<Tally>,
     /// What the calls and answers of all amount to.
@@ -61,12 +67,14 @@ pub struct Group<S> {
     /// What the run met.
     pub seen: Seen,
     style: Style,
-    /// The member that gets no block for now.
+    /// The member that gets no block for now; most often there is none of this index.
     withheld: usize,
+    /// Station and slot of the blocks handed out that it refused by 18 and has not taken since.
+    refused_far: BTreeSet<(usize, u32)>,
 }
 
 impl<S: Subject> Group<S> {
-    /// A group of which no call is seen yet.
+    /// A group of replicas of which no call is seen yet.
     pub fn new(members: Vec<S>, style: Style) -> Group<S> {
         let tallies = members.iter().enumerate();
         Group {
@@ -76,6 +84,9 @@ impl<S: Subject> Group<S> {
             seen: Seen::default(),
             style,
             withheld: members.len(),
+            replicas: members.len(),
+            stations: Vec::new(),
+            refused_far: BTreeSet::new(),
             members,
         }
     }
@@ -86,6 +97,7 @@ impl<S: Subject> Group<S> {
         self.observer.feed(k, call, &answer);
         self.tallies[k].feed(call, &answer);
         self.seen.feed(call, &answer);
+        self.feed_delivery(k, call, &answer);
         if let Ok(Answer::Block(block)) = &answer {
             let slot = block::header(block).slot;
             self.blocks.entry(slot).or_insert_with(|| block.clone());
@@ -95,11 +107,14 @@ impl<S: Subject> Group<S> {
 
     /// One random call. Blocks arrive late, early, repeated, damaged, or not at all for a while.
     pub fn random_call(&mut self, random: &mut Random) {
-        let n = self.members.len();
+        let n = self.replicas;
         if random.below(200) == 0 {
             self.withheld = random.below(3 * n);
         }
-        let mut k = random.below(n);
+        let mut k = match self.random_station(random) {
+            Some(station) => station,
+            None => random.below(n),
+        };
         let call = match random.below(60) {
             _ if random.below(100) < self.style.local => {
                 local_call(random, &self.tallies[k], self.style)
@@ -121,18 +136,19 @@ impl<S: Subject> Group<S> {
         let _ = self.call(k, &call);
     }
 
-    /// A member that is at a slot of its own.
+    /// A replica that is at a slot of its own.
     pub fn sender(&self) -> Option<usize> {
-        let n = self.members.len();
+        let n = self.replicas;
         (0..n).find(|&k| self.tallies[k].report.turn as usize % n == k)
     }
 
     /// A block that was handed out, or bytes that no replica may take; `None` before any send.
     fn random_bytes(&self, random: &mut Random, k: usize) -> Option<Vec<u8>> {
         let turn = self.tallies[k].report.turn;
-        let n = self.members.len();
+        let n = self.replicas;
         let first = *self.blocks.keys().next()?;
-        let near = self.blocks.range(turn..).count();
+        // Of what a station lacks it is offered some beyond its places too.
+        let near = self.blocks.range(turn..).take(2 * n).count();
         let slot = match random.below(10) {
             1.. if near > 0 => turn + random.below(near) as u32,
             _ => first + random.below(self.blocks.len()) as u32,
@@ -153,11 +169,12 @@ impl<S: Subject> Group<S> {
                     block = block::encode(&message);
                 }
             }
-            // Past the window; and of the member itself, with a record that it never had.
+            // Past the window; and of the replica itself, with a record that it never had. A station
+            // would take that from whatever sender.
             4 | 5 => {
-                let own = (turn..).find(|slot| *slot as usize % n == k)?;
                 let far = turn + (n + random.below(2 * n)) as u32;
-                let slot = random.pick(&[own, far]);
+                let own = (turn..far).find(|slot| *slot as usize % n == k);
+                let slot = random.pick(&[own.unwrap_or(far), far]);
                 block = block_of(n as u32, slot, &[(MAX_TICKET, &[(0, 0)])]);
             }
             _ => {}
@@ -165,12 +182,12 @@ impl<S: Subject> Group<S> {
         Some(block.to_vec())
     }
 
-    /// Lets every member send, gives all blocks to all, and works them off, `rounds` times; then
-    /// once more without sending, so that all end at the same turn.
+    /// Lets every replica send, gives all blocks to all, and works them off, `rounds` times; then
+    /// once more without sending, so that all end at the same turn, the stations too.
     pub fn settle(&mut self, rounds: usize) {
         for round in 0..=rounds {
-            for _ in 0..self.members.len() {
-                for k in 0..self.members.len() {
+            for _ in 0..self.replicas {
+                for k in 0..self.replicas {
                     if round < rounds {
                         let _ = self.call(k, &Call::Send);
                     }
@@ -183,6 +200,7 @@ impl<S: Subject> Group<S> {
                 }
             }
         }
+        self.settle_stations();
     }
 
     /// What the observer objects to.
@@ -196,7 +214,7 @@ impl<S: Subject> Group<S> {
     }
 }
 
-/// A call that is about the replica's own transactions, or loads a table of classes.
+/// A call that is about the transactions of a replica or station, or loads a replica's table of classes.
 pub fn local_call(random: &mut Random, tally: &Tally, style: Style) -> Call {
     let last = tally.report.tickets;
     let ticket = if random.below(20) == 0 || tally.open.is_empty() {
@@ -224,6 +242,7 @@ pub fn local_call(random: &mut Random, tally: &Tally, style: Style) -> Call {
         },
         92..96 => Call::Withdraw { ticket },
         96..98 => Call::Report,
+        _ if tally.is_station() => Call::Report,
         _ => Call::Load {
             classes: samples::classes(random),
         },

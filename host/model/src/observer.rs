@@ -1,12 +1,13 @@
 //! An observer of a whole group: document 01's sheet ("The sheet beside the group"), with the restarts
-//! of document 02, Req 01. The loads of Req 02 change nothing on it.
+//! of document 02, Req 01, and the stations of Req 05. The loads of Req 02 change nothing on it.
 //!
-//! It is fed replica, call and answer of each call and nothing else, and says which sentences of
-//! document 01's demand 3 the group breaks. For tests: its memory and the time of a check grow with
-//! the list of calls.
+//! It is fed member, call and answer of each call and nothing else, a member being a replica or a
+//! station, and says which sentences of document 01's demand 3 the group breaks, and which answers a
+//! station may not give. For tests: its memory and the time of a check grow with the list of calls.
 
 mod check;
 mod restart;
+mod stations;
 
 use std::collections::{BTreeMap, HashSet};
 
@@ -20,11 +21,11 @@ use crate::trace::{Answer, Call};
 pub struct Observer {
     /// The values that every replica started with.
     values: [i32; ITEMS],
-    /// By replica and ticket (document 01's notes). An ended transaction stays.
+    /// By member and ticket (document 01's notes). An ended transaction stays.
     transactions: BTreeMap<(usize, u32), Transaction>,
     /// Per replica the tickets asked since its last send (document 01's line).
     queues: Vec<Vec<u32>>,
-    /// Per replica the sender and ticket of each writeset that it committed.
+    /// Per member the sender and ticket of each writeset that it committed.
     commits: Vec<Vec<(usize, u32)>>,
     /// By slot what was sent for it (document 01's put down). In this order it is the sequence.
     sent: BTreeMap<u32, Vec<Writeset>>,
@@ -58,7 +59,7 @@ struct Writeset {
 
 /// An accepted read of an item that the transaction had not written.
 struct Read {
-    replica: usize,
+    member: usize,
     ticket: u32,
     item: u32,
     snapshot: usize,
@@ -83,30 +84,36 @@ impl Observer {
         }
     }
 
-    /// Takes in one call at a replica and its answer.
+    /// Takes in one call at a member, a replica by its number, and its answer.
     ///
     /// # Panics
     ///
     /// If the answer is of another kind than the call's.
-    pub fn feed(&mut self, replica: usize, call: &Call, answer: &Result<Answer, u8>) {
-        self.journals[replica].feed(call, answer);
+    pub fn feed(&mut self, member: usize, call: &Call, answer: &Result<Answer, u8>) {
+        if self.is_station(member) {
+            if !self.feed_station(member, call, answer) {
+                return;
+            }
+        } else {
+            self.journals[member].feed(call, answer);
+        }
         let answer = match answer {
             Ok(answer) => answer,
             Err(number) => {
-                self.feed_refused(replica, call, *number);
+                self.feed_refused(member, call, *number);
                 return;
             }
         };
         match (call, answer) {
             (Call::Begin, &Answer::Ticket(ticket)) => {
                 let transaction = Transaction {
-                    snapshot: self.commits[replica].len(),
+                    snapshot: self.commits[member].len(),
                     writes: BTreeMap::new(),
                 };
-                self.transactions.insert((replica, ticket), transaction);
+                self.transactions.insert((member, ticket), transaction);
             }
             (&Call::Read { ticket, item }, &Answer::Value(value)) => {
-                self.feed_read(replica, ticket, item, value);
+                self.feed_read(member, ticket, item, value);
             }
             (
                 &Call::Write {
@@ -115,21 +122,21 @@ impl Observer {
                     value,
                 },
                 Answer::Done,
-            ) => match self.transactions.get_mut(&(replica, ticket)) {
+            ) => match self.transactions.get_mut(&(member, ticket)) {
                 Some(transaction) => {
                     transaction.writes.insert(item, value);
                 }
-                None => self.unknown(replica, ticket, "was written"),
+                None => self.unknown(member, ticket, "was written"),
             },
             (&Call::Ask { ticket }, Answer::ReadOnly(_)) => {
-                match self.transactions.get(&(replica, ticket)) {
+                match self.transactions.get(&(member, ticket)) {
                     Some(transaction) if transaction.writes.is_empty() => {}
-                    Some(_) => self.queues[replica].push(ticket),
-                    None => self.unknown(replica, ticket, "was asked"),
+                    Some(_) => self.queues[member].push(ticket),
+                    None => self.unknown(member, ticket, "was asked"),
                 }
             }
-            (Call::Send, Answer::Block(block)) => self.feed_block(replica, block),
-            (Call::Work, Answer::Work(work)) => self.feed_work(replica, work),
+            (Call::Send, Answer::Block(block)) => self.feed_block(member, block),
+            (Call::Work, Answer::Work(work)) => self.feed_work(member, work),
             (Call::Deliver { bytes }, Answer::Done) => {
                 self.premise &= self.blocks.contains(bytes.as_slice());
             }
@@ -156,22 +163,22 @@ impl Observer {
         }
     }
 
-    fn feed_read(&mut self, replica: usize, ticket: u32, item: u32, value: i32) {
-        let Some(transaction) = self.transactions.get(&(replica, ticket)) else {
-            self.unknown(replica, ticket, "was read");
+    fn feed_read(&mut self, member: usize, ticket: u32, item: u32, value: i32) {
+        let Some(transaction) = self.transactions.get(&(member, ticket)) else {
+            self.unknown(member, ticket, "was read");
             return;
         };
         match transaction.writes.get(&item) {
             None => self.reads.push(Read {
-                replica,
+                member,
                 ticket,
                 item,
                 snapshot: transaction.snapshot,
                 value,
             }),
             Some(&written) if written != value => self.broken.push(format!(
-                "replica {replica}: ticket {ticket} read {value} from item {item}, to which it \
-                 wrote {written}"
+                "{}: ticket {ticket} read {value} from item {item}, to which it wrote {written}",
+                self.name(member)
             )),
             Some(_) => {}
         }
@@ -203,25 +210,30 @@ impl Observer {
         self.blocks.insert(Box::from(block.as_slice()));
     }
 
-    fn feed_work(&mut self, replica: usize, work: &Work) {
+    fn feed_work(&mut self, member: usize, work: &Work) {
         let committed = (usize::from(work.sender), work.ticket);
         for &ticket in &work.aborted {
-            self.queues[replica].retain(|&queued| queued != ticket);
-            if self.slots.contains_key(&(replica, ticket)) {
+            if let Some(queue) = self.queues.get_mut(member) {
+                queue.retain(|&queued| queued != ticket);
+            }
+            if self.slots.contains_key(&(member, ticket)) {
                 self.broken.push(format!(
-                    "replica {replica}: a work aborted ticket {ticket}, which was sent"
+                    "{}: a work aborted ticket {ticket}, which was sent",
+                    self.name(member)
                 ));
             }
-            if !self.share_an_item((replica, ticket), committed) {
+            if !self.share_an_item((member, ticket), committed) {
                 self.broken.push(format!(
-                    "replica {replica}: a work aborted ticket {ticket}, which shares no item with \
-                     ticket {} of replica {}",
-                    work.ticket, work.sender
+                    "{}: a work aborted ticket {ticket}, which shares no item with ticket {} of \
+                     replica {}",
+                    self.name(member),
+                    work.ticket,
+                    work.sender
                 ));
             }
         }
         if work.ticket != 0 {
-            self.commits[replica].push(committed);
+            self.commits[member].push(committed);
         }
     }
 
@@ -239,9 +251,12 @@ impl Observer {
         })
     }
 
-    /// A replica accepted a ticket that it never gave: there is nothing to check the call against.
-    fn unknown(&mut self, replica: usize, ticket: u32, what: &str) {
-        let text = format!("replica {replica}: ticket {ticket} {what} and never given");
+    /// A member accepted a ticket that it never gave: there is nothing to check the call against.
+    fn unknown(&mut self, member: usize, ticket: u32, what: &str) {
+        let text = format!(
+            "{}: ticket {ticket} {what} and never given",
+            self.name(member)
+        );
         self.broken.push(text);
     }
 }

@@ -1,5 +1,5 @@
 //! The numbers that refuse a call: document 01's table ("Answers when a call is turned away"), and 23
-//! of document 02.
+//! and 25 of document 02.
 
 pub use crate::block::{WRONG_CHECK, WRONG_FORM, WRONG_LENGTH};
 
@@ -44,3 +44,5 @@ pub const NOTHING_WAITS: u8 = 21;
 pub const NOT_OPEN_AS_SENT: u8 = 22;
 /// A load of classes while a block of another replica is committed in part.
 pub const LOAD_WHILE_APPLYING: u8 = 23;
+/// A station only reads: it does not write or send.
+pub const STATION_ONLY_READS: u8 = 25;

@@ -1,10 +1,11 @@
 //! The program `replay` by the model: a list of calls as text, and the text that it prints.
 //!
-//! One call to a line, and one line printed for each; k is the place of a replica, 0 to 5.
+//! One call to a line, and one line printed for each; k is the place of a replica or station, 0 to 7.
 //!
 //! | Line | Call | Prints |
 //! |---|---|---|
 //! | `M k n own v` | make, all 128 values v | `0` |
+//! | `A k n v` | make a station, all 128 values v | `0` |
 //! | `B k` | begin | `0 ticket` |
 //! | `R k ticket item` | read | `0 value` |
 //! | `W k ticket item v` | write | `0` |
@@ -27,6 +28,9 @@
 //! blocks. It has room for 128 blocks. One more is not kept, and the journal is *outgrown* then until
 //! the next accepted `M` or `Y`.
 //!
+//! A station (document 02, Req 05) has no number of its own, and no journal: `W` and `S` are refused
+//! there by 25, whatever their numbers are.
+//!
 //! A refused call prints its number instead. These print `?` and change nothing:
 //!
 //! - A line that is none of the above, be it empty or of any length. Letters are capital. Fields are
@@ -34,17 +38,18 @@
 //!   line ends at a line feed and nowhere else, so a tab or a carriage return is part of a field.
 //!   A last line without line feed counts; an empty rest behind the last line feed does not.
 //! - A number that is not written as it would be printed: with a plus sign, a zero in front, `-0`,
-//!   or out of range. k is 0 to 5, b of `F` 0 to 4095; n, own, tickets, items, b of `Z` and i are any
+//!   or out of range. k is 0 to 7, b of `F` 0 to 4095; n, own, tickets, items, b of `Z` and i are any
 //!   32-bit unsigned numbers, v any 32-bit signed one.
 //! - Bytes that are not lowercase, not whole, or more than 520, in `Y` more than 2,100, in `P` more than
 //!   130. None are written as an empty field: the line ends in the space.
-//! - A call other than `M` and `Y` at a place where no replica is made. A refused one of these makes
-//!   none, and leaves one that is there as it is; an accepted one puts a new one in its place.
+//! - A call other than `M`, `A` and `Y` at a place where nothing is made. A refused one of these makes
+//!   nothing, and leaves what is there as it is; an accepted one puts a new one in its place.
 //! - `D` and `F` of a block that is not kept. Accepted sends count from 0 over the whole run, at
 //!   whatever place, and the blocks of the last 64 are kept, also when their replica is made anew.
 //!   Blocks that a restart gives back are not counted.
 //! - `Z` of more bytes than the journal has, `J` of a block that it has not, and both where it is
 //!   outgrown.
+//! - `Z`, `J` and `P` at a station.
 
 mod parse;
 mod place;
@@ -60,8 +65,8 @@ use crate::trace::{Answer, Call};
 
 pub use self::place::JOURNAL;
 
-/// The places for replicas.
-pub const PLACES: usize = 6;
+/// The places for replicas and stations.
+pub const PLACES: usize = 8;
 /// The blocks that are kept.
 pub const KEPT: usize = 64;
 /// The most bytes in a line that delivers them.
@@ -83,7 +88,7 @@ pub fn run(mut input: impl BufRead, mut output: impl Write) -> io::Result<()> {
     output.flush()
 }
 
-/// A run: the replicas and the blocks sent.
+/// A run: the replicas, the stations and the blocks sent.
 #[derive(Clone, Debug, Default, PartialEq, Eq)]
 pub struct Replay {
     places: [Option<Place>; PLACES],
@@ -102,7 +107,7 @@ impl Replay {
         }
     }
 
-    /// The replica at a place.
+    /// The replica or station at a place.
     pub fn replica(&self, place: usize) -> Option<&Replica> {
         Some(&self.places[place].as_ref()?.replica)
     }
@@ -128,15 +133,15 @@ impl Replay {
         let (place, line) = parse::line(line)?;
         let call = match line {
             Line::Make { n, own, value } => {
-                return Some(Place::make(n, own, value).map(|made| {
-                    self.places[place] = Some(made);
-                    accepted::<u32>(&[])
-                }));
+                return Some(self.put(place, Place::make(n, own, value)));
+            }
+            Line::Station { n, value } => {
+                return Some(self.put(place, Place::station(n, value)));
             }
             Line::Cut { bytes, value } => {
                 let made = self.places[place].as_ref()?;
                 let journal = made.journal()?.get(..bytes as usize)?.to_vec();
-                let (n, own) = (made.replica.inbox.len() as u32, made.replica.own.into());
+                let (n, own) = (made.replica.inbox.len() as u32, made.replica.own?.into());
                 return Some(self.restart(place, n, own, value, journal));
             }
             Line::Restart {
@@ -159,7 +164,11 @@ impl Replay {
                 Call::Deliver { bytes }
             }
         };
-        let answer = self.places[place].as_mut()?.call(&call);
+        let made = self.places[place].as_mut()?;
+        if made.replica.is_station() && matches!(call, Call::Load { .. }) {
+            return None;
+        }
+        let answer = made.call(&call);
         if let Ok(Answer::Block(block)) = &answer {
             self.kept.push_back(**block);
             if self.kept.len() > KEPT {
@@ -168,6 +177,12 @@ impl Replay {
             self.sent += 1;
         }
         Some(answer.map(|answer| show(&answer)))
+    }
+
+    /// Puts what is just made at a place, and gives what that prints.
+    fn put(&mut self, place: usize, made: Result<Place, u8>) -> Result<String, u8> {
+        self.places[place] = Some(made?);
+        Ok(accepted::<u32>(&[]))
     }
 
     /// Puts a restarted replica at a place, and gives what that prints.

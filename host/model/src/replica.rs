@@ -2,6 +2,10 @@
 //! a made replica takes, the client's in `client`, those that move the turn in `turn`, and the load of
 //! conflict classes in `classes`.
 //!
+//! A [`Replica::station`] (document 02, Req 05) takes the same calls without a number of its own, so
+//! that every sender is another to it: write and send are refused there before all else, and it is
+//! neither restarted nor loaded with classes.
+//!
 //! A refused call gives the number of [`crate::refusal`] whose condition is the first to hold, in
 //! the order that the call's comment names, and changes nothing. Only a write refused by 9 changes
 //! something: its transaction ends as aborted.
@@ -27,11 +31,11 @@ pub const CLASSES: u8 = 8;
 /// The turn once every slot is processed.
 pub const SLOTS: u32 = MAX_SLOT + 1;
 
-/// One replica of a group. Its fields are public for the tests that compare them or set them.
+/// One replica of a group, or a station beside it. Its fields are public for the tests that compare them or set them.
 #[derive(Clone, Debug, PartialEq, Eq)]
 pub struct Replica {
-    /// Its number in the group.
-    pub own: u8,
+    /// Its number in the group; `None` at a station.
+    pub own: Option<u8>,
     /// The values committed so far.
     pub values: [i32; ITEMS],
     /// Per item the commit count just after its last write (document 01's stamps).
@@ -129,12 +133,22 @@ pub struct Work {
 impl Replica {
     /// A replica of `n`, 2 to 6, with its own number below `n`. Refused by 1, 2.
     pub fn make(n: u32, own: u32, values: &[i32]) -> Result<Replica, u8> {
+        let mut replica = Replica::station(n, values)?;
+        if own >= n {
+            return Err(OUT_OF_RANGE);
+        }
+        replica.own = Some(own as u8);
+        Ok(replica)
+    }
+
+    /// A station beside a group of `n`, 2 to 6. Refused by 1, 2.
+    pub fn station(n: u32, values: &[i32]) -> Result<Replica, u8> {
         let values: [i32; ITEMS] = values.try_into().map_err(|_| WRONG_LENGTH)?;
-        if !(2..=6).contains(&n) || own >= n {
+        if !(2..=6).contains(&n) {
             return Err(OUT_OF_RANGE);
         }
         Ok(Replica {
-            own: own as u8,
+            own: None,
             values,
             stamps: [0; ITEMS],
             classes: [0; ITEMS],
@@ -152,6 +166,11 @@ impl Replica {
             aborted: 0,
             withdrawn: 0,
         })
+    }
+
+    /// Whether it only reads, without a turn of its own.
+    pub fn is_station(&self) -> bool {
+        self.own.is_none()
     }
 
     /// The values committed so far.

@@ -2,7 +2,7 @@
 //!
 //! # Here
 //!
-//! [`files`] reads the folder, [`play`] plays one file at replicas of any kind and gives its text anew, and
+//! [`files`] reads the folder, [`play`] plays one file at members of any kind and gives its text anew, and
 //! [`difference`] names the first line that is not as it was. The words of a refusal come from whoever
 //! plays: those of the Rust crate for hosts.
 
@@ -19,7 +19,7 @@ use crate::replica::{Replica, ITEMS};
 /// What refuses a call, in words, by its number.
 pub type Words = fn(u8) -> &'static str;
 
-/// A replica with its disk that scenes are played at.
+/// A replica with its disk, or a station, that scenes are played at.
 pub trait Player: Powered {
     /// Of one just made: as it is after so many slots without records, and so many transactions
     /// withdrawn.
@@ -29,9 +29,13 @@ pub trait Player: Powered {
 }
 
 impl Machine {
-    /// A machine of a replica just made.
-    pub fn make(n: u32, own: u32, values: &[i32; ITEMS]) -> Result<Machine, u8> {
-        Replica::make(n, own, values).map(Machine::new)
+    /// A machine of a replica just made, or of a station, which has no number.
+    pub fn make(n: u32, own: Option<u32>, values: &[i32; ITEMS]) -> Result<Machine, u8> {
+        let made = match own {
+            Some(own) => Replica::make(n, own, values),
+            None => Replica::station(n, values),
+        };
+        made.map(Machine::new)
     }
 }
 
@@ -85,10 +89,11 @@ pub fn folder(folder: &Path) -> Result<Vec<Scene>, String> {
     Ok(scenes)
 }
 
-/// Plays a scene, and gives its text with what the replicas answer. An error names file and line.
+/// Plays a scene, and gives its text with what its members answer. `make` makes a replica by its number,
+/// and without one a station. An error names file and line.
 pub fn play<P: Player>(
     scene: &Scene,
-    make: impl Fn(u32, u32, &[i32; ITEMS]) -> Result<P, u8>,
+    make: impl Fn(u32, Option<u32>, &[i32; ITEMS]) -> Result<P, u8>,
     words: Words,
 ) -> Result<String, String> {
     let named = |(line, error): (usize, String)| format!("{}, line {line}: {error}", scene.name);

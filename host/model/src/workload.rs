@@ -7,6 +7,7 @@ mod malformed;
 mod random;
 mod refusals;
 mod restarts;
+mod stations;
 mod story;
 mod worked;
 
@@ -21,6 +22,8 @@ pub fn calls() -> Vec<u8> {
     random::with_cuts(&mut list);
     classes::all(&mut list);
     random::with_tables(&mut list);
+    stations::all(&mut list);
+    random::with_stations(&mut list);
     list.lines()
 }
 
@@ -112,7 +115,7 @@ impl List {
         while self.call(&format!("K {place}")).starts_with("0 ") {}
     }
 
-    /// The replica at a place where one is made.
+    /// The replica or station at a place where one is made.
     fn replica(&self, place: usize) -> &Replica {
         let replica = self.replay.replica(place);
         replica.unwrap_or_else(|| panic!("no replica is made at place {place}"))

@@ -95,11 +95,13 @@ struct Totals {
     cuts: usize,
     restarts: usize,
     given_back: usize,
+    /// Stations made.
+    stations: usize,
 }
 
 fn totals(input: &[u8], output: &[u8]) -> Totals {
     let mut totals = Totals::default();
-    // The own number of the replica at each place.
+    // The own number of the replica at each place; a station has none.
     let mut own = [None; PLACES];
     let answers = std::str::from_utf8(output).unwrap().lines();
     for (line, answer) in input.split(|&byte| byte == b'\n').zip(answers) {
@@ -119,6 +121,10 @@ fn totals(input: &[u8], output: &[u8]) -> Totals {
         let place: usize = line[1].parse().unwrap();
         match line[0] {
             "M" => own[place] = Some(line[3]),
+            "A" => {
+                own[place] = None;
+                totals.stations += 1;
+            }
             "Z" | "Y" => {
                 if line[0] == "Y" {
                     own[place] = Some(line[3]);
@@ -158,11 +164,13 @@ fn totals_of_the_list() {
     println!("{totals:?}");
     assert!(totals.calls >= 20_000, "{totals:?}");
     assert!(totals.rejected > 300, "{totals:?}");
-    // Slots are not spent in a list of this length, and no list leads to 22.
-    let due: Vec<u32> = (1..24).filter(|n| ![13, 22].contains(n)).collect();
+    // Slots are not spent in a list of this length, no list leads to 22, and there is no 24.
+    let due: Vec<u32> = (1..26).filter(|n| ![13, 22, 24].contains(n)).collect();
     assert!(totals.refused.keys().eq(&due), "{totals:?}");
     assert!(totals.cuts > 200 && totals.restarts > 80, "{totals:?}");
     assert!(totals.given_back > 150, "{totals:?}");
+    assert!(totals.stations > 20, "{totals:?}");
+    assert!(totals.refused[&25] > 50, "{totals:?}");
     assert!(totals.own > 1_000, "{totals:?}");
     assert!(
         totals.sent >= totals.own && totals.committed > 3_000,

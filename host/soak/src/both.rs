@@ -1,19 +1,25 @@
-//! A replica of the library and one of the model that get the same calls. After each call the
+//! A replica or station of the library and one of the model that get the same calls. After each call the
 //! answers are compared, what is appended to the journal, and all memory that the interface shows.
+
+mod station;
 
 use model::block::{self, BLOCK};
 use model::drive::{Powered, Subject};
 use model::replica::{self as second, Restarted, Stage, ITEMS};
 use model::trace::{Answer, Call, Restart};
-use stemline::{Asked, Memory, Refusal, Replica, Report, Work};
+use stemline::{Asked, Memory, Refusal, Replica, Report, Station, Work, NO_NUMBER};
 
+pub use self::station::stepped;
 use crate::lines::Named;
 
 /// The pair.
 #[derive(Clone)]
 pub struct Both {
-    /// The library's replica.
+    /// The library's replica. Where the pair is a station, a replica over its memory, which has also the
+    /// calls that a station has not.
     pub library: Replica,
+    /// The library's station, where the pair is one. It holds what `library` does.
+    pub station: Option<Station>,
     /// The model's.
     pub model: second::Replica,
     /// The library's memory before the call.
@@ -31,10 +37,18 @@ impl Both {
         Both::of(library, model)
     }
 
+    /// A station of a group of `n` with these values to start with, made twice.
+    pub fn station(n: u32, values: &[i32; ITEMS]) -> Both {
+        let library = Station::new(n, values).unwrap();
+        let model = second::Replica::station(n, values).unwrap();
+        Both::of(Replica::from_memory(library.memory().clone()), model)
+    }
+
     /// Of two replicas that are the same.
     pub fn of(library: Replica, model: second::Replica) -> Both {
         let both = Both {
             before: library.memory().clone(),
+            station: Station::from_memory(library.memory().clone()),
             library,
             model,
             disk: Vec::new(),
@@ -42,6 +56,12 @@ impl Both {
         };
         same(&both.model, both.library.memory());
         both
+    }
+
+    /// Puts another memory in the place of the library's.
+    pub fn put(&mut self, memory: Memory) {
+        self.station = Station::from_memory(memory.clone());
+        self.library = Replica::from_memory(memory);
     }
 
     /// Both after so many slots without records and so many transactions withdrawn.
@@ -58,12 +78,21 @@ impl Both {
 impl Subject for Both {
     fn call(&mut self, call: &Call) -> Result<Answer, u8> {
         self.before.clone_from(self.library.memory());
-        let _named = Named::new(self.model.own.into(), call);
+        let _named = Named::of(&self.model, call);
         let is_turn = self.library.is_turn();
+        let waiting = self.model.waiting();
         let (mut appended, mut due_appended) = (Vec::new(), Vec::new());
         let answer = play(&mut self.library, call, &mut appended);
         let due = self.model.call_journaled(call, &mut due_appended);
         assert_eq!(answer, due, "{call:?}: the library's answer, the model's");
+        if self.station.is_some() {
+            self.same_station(call, &answer);
+            // Whoever sent it, the block whose slot the turn leaves is given; there is no journal for it.
+            let left = matches!(&answer, Ok(Answer::Work(work)) if work.moved);
+            let given = waiting.filter(|_| left).map_or(Vec::new(), Vec::from);
+            assert!(appended == given, "{call:?}: what is given at a station");
+            appended.clear();
+        }
         assert!(appended == due_appended, "{call:?}: what is appended");
         self.disk.append(&mut appended);
         if let Ok(Answer::Block(_)) = answer {
@@ -199,7 +228,11 @@ pub fn same(model: &second::Replica, memory: &Memory) {
             usize::from(counts.own),
             usize::from(counts.done)
         ],
-        [model.inbox.len(), usize::from(model.own), model.done]
+        [
+            model.inbox.len(),
+            usize::from(model.own.unwrap_or(NO_NUMBER)),
+            model.done
+        ]
     );
     assert_eq!(
         [

@@ -6,6 +6,9 @@
 //! program. So a kill can take the line of one call at most, of the one that it ended, and that one is no
 //! call of the list. The power stays on; so that blocks are lost that were not durable, the journals are
 //! cut between the runs, at any byte that a cut can leave.
+//!
+//! A station that nobody kills is fed between the runs from what of a journal is durable, and is where the
+//! group is at the end.
 
 mod log;
 pub mod program;
@@ -20,7 +23,7 @@ use model::block::{self, BLOCK};
 use model::drive::start_values;
 use model::samples::Random;
 use model::trace::{Answer, Call};
-use stemline::Durable;
+use stemline::{Durable, Station};
 
 pub use self::log::{Log, Met};
 use crate::both::report;
@@ -38,6 +41,7 @@ pub fn journal(room: &Path, k: usize) -> PathBuf {
 pub struct Crash {
     room: PathBuf,
     random: Random,
+    station: Station,
     /// What the killed program did.
     pub log: Log,
 }
@@ -50,6 +54,7 @@ impl Crash {
         Crash {
             room: room.to_path_buf(),
             random: Random::new(seed),
+            station: Station::new(N as u32, &start_values()).unwrap(),
             log: Log::new(room, start_values()),
         }
     }
@@ -64,6 +69,10 @@ impl Crash {
                 self.cut(k);
             }
         }
+        let k = self.random.below(N);
+        let bytes = fs::read(journal(&self.room, k)).unwrap_or_default();
+        let durable = self.log.observer.journal(k).floor();
+        feed(&mut self.station, &bytes[..durable]);
     }
 
     /// Lets the program run for a while, often a short one, and kills it.
@@ -107,6 +116,8 @@ impl Crash {
             self.log.restarted(k, None, restarted);
         }
         settle(&mut self.log, &mut group, &mut last);
+        let bytes = fs::read(journal(&self.room, 0)).unwrap();
+        feed(&mut self.station, &bytes);
         self.check(&group);
         fs::remove_dir_all(&self.room).unwrap();
         Met {
@@ -122,6 +133,8 @@ impl Crash {
         let ends: Vec<_> = group.iter().map(end).collect();
         assert_eq!(log.observer.violations(&ends), [""; 0]);
         assert!(log.observer.premise());
+        let station = (self.station.report().turn, self.station.values());
+        assert_eq!(station, (ends[0].0.turn, &ends[0].1), "the station");
         for (k, (report, values)) in ends.iter().enumerate() {
             assert_eq!((report.turn, values), (ends[0].0.turn, &ends[0].1));
             let bytes = fs::read(journal(&self.room, k)).unwrap();
@@ -132,6 +145,14 @@ impl Crash {
                 assert!(bytes[BLOCK * slot..][..BLOCK] == **block, "slot {slot}");
             }
         }
+    }
+}
+
+/// Gives a station the blocks of a journal from its turn on.
+fn feed(station: &mut Station, journal: &[u8]) {
+    let (blocks, _) = journal.as_chunks::<BLOCK>();
+    while let Some(block) = blocks.get(station.report().turn as usize) {
+        station.take(block).expect("a block of its turn");
     }
 }
 

@@ -2,8 +2,11 @@
 
 use model::block::BLOCK;
 use model::replay::{hex, show};
-use model::replica::{Report, Work};
+use model::replica::{Replica, Report, Work};
 use model::trace::{Answer, Call};
+
+/// The place of a station.
+const STATION: usize = 7;
 
 /// Names the call of a comparison that fails.
 pub struct Named<'a> {
@@ -12,8 +15,9 @@ pub struct Named<'a> {
 }
 
 impl Named<'_> {
-    /// Of a call at replica `k`.
-    pub fn new(k: usize, call: &Call) -> Named<'_> {
+    /// Of a call at a replica, which stands at the place of its number, or at a station.
+    pub fn of<'a>(model: &Replica, call: &'a Call) -> Named<'a> {
+        let k = model.own.map_or(STATION, usize::from);
         Named { k, call }
     }
 }

@@ -14,9 +14,9 @@ use soak::runs;
 const HELP: &str = "\
 usage: scripts/soak [--calls N] [--kills N] [--minutes M] [--seed S]
 
-Compares the library with the second model call by call, in random runs by seed, and kills a program over
-journals at random moments, after which nothing that it handed out may be lost. Every ten seconds it prints
-how much was done.
+Compares the library with the second model call by call, in random runs by seed, of replicas and stations,
+and kills a program over journals at random moments, after which nothing that it handed out may be lost.
+Every ten seconds it prints how much was done.
 
   --calls N    the calls to compare, at least
   --kills N    the kills

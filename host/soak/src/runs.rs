@@ -1,5 +1,6 @@
-//! Random lists of calls by seed, at whole groups and at single replicas among forged peers: library and
-//! model give the same answers and hold the same memory after every call.
+//! Random lists of calls by seed, at whole groups with stations beside them, and at single replicas and
+//! stations among forged peers: library and model give the same answers and hold the same memory after
+//! every call.
 
 use model::block::MAX_TICKET;
 use model::drive::{start_values, Group, Peers, Powered, Seen, Style, Subject, STYLES};
@@ -13,33 +14,72 @@ use crate::lines::grouped;
 const CALLS: usize = 5_000;
 const CALLS_WITH_CUTS: usize = 2_000;
 
-/// A group of `n`, as it is after so many slots and tickets.
-fn group(seed: u64, n: u32, style: Style, slots: u32, tickets: u32) -> Seen {
-    let member = |own| Both::new(n, own, &start_values()).late(slots, tickets);
-    let mut group = Group::new((0..n).map(member).collect(), style);
-    let mut random = Random::new(seed);
-    for _ in 0..CALLS {
-        group.random_call(&mut random);
-    }
-    at_rest(&mut group);
-    group.seen
+/// Where members begin: after so many slots and tickets.
+type Late = (u32, u32);
+
+fn replica(n: u32, own: u32, (slots, tickets): Late) -> Both {
+    Both::new(n, own, &start_values()).late(slots, tickets)
 }
 
-/// Lets a group come to rest: demand 3 holds of the library's own answers.
-fn at_rest(group: &mut Group<Both>) {
+fn station(n: u32, (slots, tickets): Late) -> Both {
+    Both::station(n, &start_values()).late(slots, tickets)
+}
+
+/// A group of `n` with none to two stations, by seed.
+fn group(seed: u64, n: u32, style: Style, late: Late) -> Group<Both> {
+    let members = (0..n).map(|own| replica(n, own, late));
+    let mut group = Group::new(members.collect(), style);
+    for _ in 0..seed % 3 {
+        group.add_station(station(n, late));
+    }
+    group
+}
+
+/// A random call; now and then a station loses its memory and is made anew.
+fn random_call(group: &mut Group<Both>, n: u32, late: Late, random: &mut Random) {
+    if !group.stations().is_empty() && random.below(2_000) == 0 {
+        let lost = random.pick(group.stations());
+        group.renew_station(lost, station(n, late));
+    }
+    group.random_call(random);
+}
+
+/// The run of a group that keeps its power.
+fn with_power(seed: u64, n: u32, style: Style, late: Late) -> Seen {
+    let mut group = group(seed, n, style, late);
+    let mut random = Random::new(seed);
+    for _ in 0..CALLS {
+        random_call(&mut group, n, late, &mut random);
+    }
+    at_rest(&mut group, n)
+}
+
+/// Lets a group come to rest: demand 3 holds of the library's own answers, and no replica has refused a block
+/// of the group by 18.
+fn at_rest(group: &mut Group<Both>, n: u32) -> Seen {
     group.settle(2);
     assert_eq!(group.violations(), [""; 0]);
     assert!(group.observer.premise());
-    for member in &group.members {
-        assert_eq!(member.values(), group.members[0].values());
+    for k in (0..n as usize).chain(group.stations().to_vec()) {
+        let [one, first] = [k, 0].map(|k| &group.members[k]);
+        assert_eq!(one.report().turn, first.report().turn, "member {k}");
+        assert_eq!(one.values(), first.values(), "member {k}");
     }
+    assert_eq!(group.seen.far_at_replicas, 0);
+    group.seen.clone()
 }
 
-/// One replica of `n`, as it is after so many slots and tickets, that takes forged blocks.
-fn single(seed: u64, n: u32, style: Style, slots: u32, tickets: u32) -> Seen {
+/// One replica of `n` that takes forged blocks; in every third run a station.
+fn single(seed: u64, n: u32, style: Style, late: Late) -> Seen {
     let own = seed as u32 / 5 % n;
-    let mut both = Both::new(n, own, &start_values()).late(slots, tickets);
-    let mut peers = Peers::new(n, own, both.report());
+    let (mut both, mut peers);
+    if seed.is_multiple_of(3) {
+        both = station(n, late);
+        peers = Peers::of_station(n, both.report());
+    } else {
+        both = replica(n, own, late);
+        peers = Peers::new(n, own, both.report());
+    }
     let mut random = Random::new(seed);
     for _ in 0..CALLS {
         let call = peers.random_call(&mut random, style);
@@ -50,19 +90,20 @@ fn single(seed: u64, n: u32, style: Style, slots: u32, tickets: u32) -> Seen {
     peers.seen
 }
 
-/// What a seed stands for: a group or a single replica; some also near the last ticket and slot,
-/// where numbers 6 and 13 are met.
+/// What a seed stands for: a group or a single replica or station; some also near the last ticket and
+/// slot, where numbers 6 and 13 are met.
 pub fn run(seed: u64) -> Seen {
     let n = 2 + seed as u32 % 5;
     let style = STYLES[seed as usize / 5 % 4];
     let mut seen = match seed.is_multiple_of(2) {
-        true => group(seed, n, style, 0, 0),
-        false => single(seed, n, style, 0, 0),
+        true => with_power(seed, n, style, (0, 0)),
+        false => single(seed, n, style, (0, 0)),
     };
-    if seed.is_multiple_of(21) {
+    // By 20, so that replicas and stations are among them.
+    if seed.is_multiple_of(20) {
         let style = Style::new(30, 40, 6);
-        seen.add(&group(seed, n, style, SLOTS - 60, MAX_TICKET - 80));
-        seen.add(&single(seed, n, style, SLOTS - 60, MAX_TICKET - 60));
+        seen.add(&with_power(seed, n, style, (SLOTS - 60, MAX_TICKET - 80)));
+        seen.add(&single(seed, n, style, (SLOTS - 60, MAX_TICKET - 60)));
     }
     seen
 }
@@ -71,26 +112,39 @@ pub fn run(seed: u64) -> Seen {
 /// can leave.
 pub fn run_with_cuts(seed: u64) -> Seen {
     let n = 2 + seed as u32 % 5;
-    let members = (0..n).map(|own| Both::new(n, own, &start_values()));
-    let mut group = Group::new(members.collect(), STYLES[seed as usize / 5 % 4]);
+    let mut group = group(seed, n, STYLES[seed as usize / 5 % 4], (0, 0));
     let mut random = Random::new(seed);
     for _ in 0..CALLS_WITH_CUTS {
         match random.below(60) {
             0 => group.random_cut(&mut random),
-            _ => group.random_call(&mut random),
+            _ => random_call(&mut group, n, (0, 0), &mut random),
         }
     }
-    at_rest(&mut group);
+    let seen = at_rest(&mut group, n);
     for (k, member) in group.members.iter().enumerate() {
         assert_eq!(member.report(), group.tallies[k].report);
-        assert!(member.disk() == group.observer.journal(k).bytes());
+        let is_replica = k < n as usize;
+        assert!(!is_replica || member.disk() == group.observer.journal(k).bytes());
+        assert!(
+            is_replica || member.disk().is_empty(),
+            "a station's journal"
+        );
     }
-    group.seen
+    seen
 }
 
-/// How often each refusal number came back.
+/// The refusal numbers: there is no 24.
+pub const NUMBERS: [usize; 24] = [
+    1, 2, 3, 4, 5, 6, 7, 8, 9, 10, 11, 12, 13, 14, 15, 16, 17, 18, 19, 20, 21, 22, 23, 25,
+];
+
+/// How often each refusal number came back, and how often stations refused by 18 what was handed out.
 pub fn refused(seen: &Seen) -> String {
     let count = |number: usize| format!("{number}: {}", grouped(seen.refused[number]));
-    let counts = (1..=23).map(count);
-    counts.collect::<Vec<_>>().join("; ")
+    let counts: Vec<String> = NUMBERS.into_iter().map(count).collect();
+    let [far, again] = [seen.far_at_stations, seen.offered_again].map(grouped);
+    format!(
+        "{}; blocks of the group refused by 18 at stations: {far}, of which {again} were taken later",
+        counts.join("; ")
+    )
 }

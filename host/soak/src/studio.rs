@@ -99,7 +99,7 @@ impl Studio {
 
 impl Subject for Studio {
     fn call(&mut self, call: &Call) -> Result<Answer, u8> {
-        let _named = Named::new(self.model.own.into(), call);
+        let _named = Named::of(&self.model, call);
         let answer = play(self.durable.as_mut().expect("it is open"), call);
         let due = self.model.call_journaled(call, &mut self.disk);
         assert_eq!(answer, due, "{call:?}: the library's answer, the model's");

@@ -1,6 +1,7 @@
 //! What the calls of a replica give where they are accepted.
 
-use crate::{Refusal, BLOCK, TABLE};
+use crate::ffi::WorkReply;
+use crate::{accepted, Refusal, BLOCK, TABLE};
 
 /// What became of a transaction that asked for commit.
 #[derive(Clone, Copy, Debug, PartialEq, Eq)]
@@ -26,6 +27,20 @@ pub struct Work {
 }
 
 impl Work {
+    /// Of a reply, and the block that was lent for it.
+    #[inline]
+    pub(crate) fn of(reply: &WorkReply, block: &[u8; BLOCK]) -> Result<Work, Refusal> {
+        let work = Work {
+            sender: reply.sender,
+            ticket: reply.ticket,
+            moved: reply.moved,
+            aborted: reply.aborted,
+            count: reply.count,
+            append: reply.append.then(|| Box::new(*block)),
+        };
+        accepted(reply.number, work)
+    }
+
     /// The own transactions aborted, rising.
     pub fn aborted(&self) -> &[u32] {
         &self.aborted[..TABLE.min(usize::from(self.count))]
@@ -48,11 +63,35 @@ pub struct Restarted {
     pub last: Option<[u8; BLOCK]>,
 }
 
-/// What one [`crate::Replica::take`] did.
+/// What one [`crate::Station::work`] did. It aborts nobody, and has no journal to append to.
+#[derive(Clone, Copy, Debug, PartialEq, Eq)]
+pub struct Step {
+    /// The replica whose block stands at the turn.
+    pub sender: u8,
+    /// The ticket of the writeset committed, 0 for a block without records.
+    pub ticket: u32,
+    /// Whether the turn went up.
+    pub moved: bool,
+}
+
+impl Step {
+    /// Of a reply at a station. The block that was lent for it is no matter there.
+    #[inline]
+    pub(crate) fn of(reply: &WorkReply) -> Result<Step, Refusal> {
+        let step = Step {
+            sender: reply.sender,
+            ticket: reply.ticket,
+            moved: reply.moved,
+        };
+        accepted(reply.number, step)
+    }
+}
+
+/// What one [`crate::Replica::take`] did, or one [`crate::Station::take`], by [`Step`]s.
 #[derive(Clone, Debug, PartialEq, Eq)]
-pub struct Taken {
+pub struct Taken<W = Work> {
     /// The steps, in their order.
-    pub steps: Vec<Work>,
+    pub steps: Vec<W>,
     /// The refusal, other than [`Refusal::NothingWaits`], of a work that ended the steps. Only altered
     /// memory leads to one.
     pub refused: Option<Refusal>,

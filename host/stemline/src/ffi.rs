@@ -1,9 +1,11 @@
 //! The static library as Rust sees it: its structs, and its functions as safe ones over slices, parameter
-//! by parameter those of `crates/replica_make`, `replica_client`, `replica_write`, `replica_turn` and `replica_block`: the
-//! twelve calls at a replica, and three that read a block. `host/include/stemline_calls.h` says the same
-//! in C; tests compare the layouts, and the parameters of all three.
+//! by parameter those of `crates/replica_make`, `replica_station`, `replica_client`, `replica_write`,
+//! `replica_turn` and `replica_block`: the calls at a replica, and three that read a block.
+//! `host/include/stemline_calls.h` says the same in C; tests compare the layouts, and the parameters of all
+//! three.
 //!
-//! Most hosts want [`crate::Replica`], which owns what the calls are lent, and [`crate::Block`].
+//! Most hosts want [`crate::Replica`] and [`crate::Station`], which own what the calls are lent, and
+//! [`crate::Block`].
 
 use std::fmt;
 
@@ -43,7 +45,7 @@ pub struct Turn {
 pub struct Counts {
     /// The replicas of the group, n.
     pub replicas: u8,
-    /// The replica's own number, below n.
+    /// The replica's own number, below n; [`crate::NO_NUMBER`] for a station.
     pub own: u8,
     /// The writesets committed, own and others'.
     pub commits: u32,
@@ -276,6 +278,13 @@ calls! {
         values: mut [i32], stamps: mut [u32], classes: mut [u8], places: mut [u8], outbox: mut [u8]
     ) -> u8;
 
+    /// As a make, of a station in a group of `n`, which has no number. Refused by 1, 2.
+    fn make_station = stemline_make_station(
+        table: mut [Txn], turn: &mut Turn, counts: &mut Counts, n: u32, start: ref [i32],
+        queue: mut [u32], items: mut [u8], writes: mut [i32], snapshots: mut [i32],
+        values: mut [i32], stamps: mut [u32], classes: mut [u8], places: mut [u8], outbox: mut [u8]
+    ) -> u8;
+
     /// As a make; then the blocks of the journal are committed, up to the first that is torn, fails its
     /// check or form, has another `n` or is not the next slot's. Fills the block with the last own one
     /// of them, with zeros if there is none. Refused by 1, 2; a journal may have any length.
@@ -297,7 +306,7 @@ calls! {
         item: u32
     ) -> ReadReply;
 
-    /// Puts an item and its value into a writeset. Refused by 1, 2, 3, 4, 7, 8, 9, 10.
+    /// Puts an item and its value into a writeset. Refused by 25, 1, 2, 3, 4, 7, 8, 9, 10.
     fn write = stemline_write(
         table: mut [Txn], turn: &Turn, counts: &mut Counts, ticket: u32, items: mut [u8],
         writes: mut [i32], stamps: ref [u32], classes: ref [u8], places: ref [u8], item: u32,
@@ -315,7 +324,7 @@ calls! {
     /// The replica's report. Refused by 1.
     fn report = stemline_report(table: ref [Txn], turn: &Turn, counts: &Counts) -> ReportReply;
 
-    /// Writes the block for the own slot. Refused by 1, 13, 11, 12.
+    /// Writes the block for the own slot. Refused by 25, 1, 13, 11, 12.
     fn send = stemline_send(
         table: mut [Txn], turn: &mut Turn, counts: &Counts, queue: mut [u32], items: ref [u8],
         writes: ref [i32], outbox: mut [u8], block: mut [u8]

@@ -1,7 +1,7 @@
 //! The parts of a replica's memory in one value that owns them.
 
 use crate::ffi::{Counts, Turn, Txn};
-use crate::{BLOCK, ITEMS, QUEUE, SNAPSHOTS, TABLE, WRITTEN};
+use crate::{BLOCK, ITEMS, QUEUE, REPLICAS, SNAPSHOTS, TABLE, WRITTEN};
 
 /// A replica's memory. Each call is defined on any content, so the fields are open to a host that
 /// stores and restores them; what the calls promise holds of a memory that only calls have changed.
@@ -35,8 +35,9 @@ pub struct Memory {
 }
 
 impl Memory {
-    /// All zero, with places for `n` replicas: what a make fills.
-    pub(crate) fn zero(n: usize) -> Memory {
+    /// All zero, with places for `n` replicas: what a make fills. An `n` out of range is refused whatever
+    /// the places are.
+    pub(crate) fn zero(n: u32) -> Memory {
         Memory {
             table: [Txn::default(); TABLE],
             turn: Turn::default(),
@@ -48,7 +49,7 @@ impl Memory {
             values: [0; ITEMS],
             stamps: [0; ITEMS],
             classes: [0; ITEMS],
-            places: vec![0; BLOCK * n].into_boxed_slice(),
+            places: vec![0; BLOCK * REPLICAS.min(n as usize)].into_boxed_slice(),
             outbox: [0; BLOCK],
         }
     }

@@ -2,11 +2,15 @@
 
 mod list;
 mod rewrite;
+mod station;
 
 use std::io::Write;
 
 use self::list::{answered, hex, List};
-use crate::{works, Asked, Refusal, Replica, Report, Restarted, Taken, Work, BLOCK, ITEMS};
+pub use self::station::StationRecorder;
+use crate::ffi::WorkReply;
+use crate::replica::works;
+use crate::{Asked, Refusal, Replica, Report, Restarted, Taken, Work, BLOCK, ITEMS};
 
 /// The most bytes that a line of the list delivers, restarts from, and loads.
 const DELIVERED: usize = 520;
@@ -254,9 +258,16 @@ impl<C: Write, A: Write> Recorder<C, A> {
 
     /// As [`Replica::work`].
     pub fn work(&mut self) -> Result<Work, Refusal> {
-        let answer = self.replica.work();
-        self.list.record('K', "", &answered(&answer, list::work));
-        answer
+        let mut block = [0; BLOCK];
+        let reply = self.step(&mut block);
+        Work::of(&reply, &block)
+    }
+
+    /// A work with the block that it is lent.
+    fn step(&mut self, block: &mut [u8; BLOCK]) -> WorkReply {
+        let reply = self.replica.step(block);
+        self.list.record('K', "", &list::work(&reply));
+        reply
     }
 
     /// As [`Replica::load`].

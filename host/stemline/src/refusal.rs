@@ -46,7 +46,8 @@ pub enum Refusal {
     WrongGroup,
     /// 17: the block's slot is processed already.
     PastSlot,
-    /// 18: the block's slot is n or more ahead of the turn.
+    /// 18: the block's slot is n or more ahead of the turn. A station is to be offered the block again: see
+    /// [`crate::Station::take`]. At a replica no block that its group handed out is refused so.
     FarSlot,
     /// 19: the block names this replica as its sender, and is not the one that it sent.
     NotSent,
@@ -58,13 +59,18 @@ pub enum Refusal {
     NotOpenAsSent,
     /// 23: a block of another replica is half applied.
     LoadWhileApplying,
+    /// 25: a write or a send on the memory of a station. A [`crate::Station`] has neither call.
+    StationOnlyReads,
     /// A number that the table does not have: the library is newer than this crate.
     Unknown(u8),
 }
 
+/// What an unknown number says.
+const UNKNOWN: &str = "refused by an unknown number";
+
 /// The cases in the order of their numbers, from 1 on, and what each says; `stemline_words` of the C
-/// header says the same.
-const TABLE: [(Refusal, &str); 23] = [
+/// header says the same. The documents have no 24.
+const TABLE: [(Refusal, &str); 25] = [
     (
         Refusal::WrongLength,
         "a lent slice has not its exact length",
@@ -124,6 +130,8 @@ const TABLE: [(Refusal, &str); 23] = [
         Refusal::LoadWhileApplying,
         "classes are loaded while a block of another replica is being applied",
     ),
+    (Refusal::Unknown(24), UNKNOWN),
+    (Refusal::StationOnlyReads, "a station neither writes nor sends"),
 ];
 
 impl Refusal {
@@ -152,7 +160,7 @@ impl Refusal {
     /// What the number stands for.
     pub fn words(self) -> &'static str {
         let known = TABLE.get(self.entry());
-        known.map_or("refused by an unknown number", |&(_, words)| words)
+        known.map_or(UNKNOWN, |&(_, words)| words)
     }
 
     /// Where the table has it; behind its end for an unknown number.
@@ -186,7 +194,8 @@ mod tests {
         for number in 1..=u8::MAX {
             let refusal = Refusal::from_number(number).unwrap();
             assert_eq!(refusal.number(), number);
-            assert_eq!(matches!(refusal, Refusal::Unknown(_)), number > 23);
+            let known = matches!(number, 1..=23 | 25);
+            assert_eq!(matches!(refusal, Refusal::Unknown(_)), !known);
         }
     }
 
@@ -195,8 +204,13 @@ mod tests {
         let words = |number| Refusal::from_number(number).unwrap().to_string();
         assert_eq!(words(14), "the block's check does not match (14)");
         assert_eq!(words(24), "refused by an unknown number (24)");
-        let said: Vec<String> = (1..=24).map(words).collect();
-        assert!((1..24).all(|at| !said[..at].contains(&said[at])));
+        assert_eq!(words(26), "refused by an unknown number (26)");
+        let said: Vec<&str> = (1..=26)
+            .map(|number| Refusal::from_number(number).unwrap().words())
+            .collect();
+        let (last, known) = said.split_last().unwrap();
+        assert!((1..known.len()).all(|at| !known[..at].contains(&known[at])));
+        assert_eq!((*last, known[23]), (UNKNOWN, UNKNOWN));
         let boxed: Box<dyn error::Error> = Box::new(Refusal::Stale);
         assert!(boxed.to_string().ends_with("(9)"));
         // What std prints of a main that ends in an error.
@@ -213,5 +227,6 @@ mod tests {
         assert_eq!(Refusal::from_number(21), Some(Refusal::NothingWaits));
         assert_eq!(Refusal::from_number(22), Some(Refusal::NotOpenAsSent));
         assert_eq!(Refusal::from_number(23), Some(Refusal::LoadWhileApplying));
+        assert_eq!(Refusal::from_number(25), Some(Refusal::StationOnlyReads));
     }
 }

@@ -9,7 +9,7 @@ use Rattle.replay.proofs.main.Tie as tie
 
 abbrev Inv-loop : tie.InvT-loop
 Inv-loop places₀ pages₀ kept₀ buffer₀ out₀ source₀ output₀ turns₀ places pages kept buffer out source output turns =
-    (length pages ≡ 393216) × (length kept ≡ 32768) × (length buffer ≡ 65536) × (length out ≡ 65536) × (source .end ≤ 65536) × (output .held ≤ 65536)
+    (length pages ≡ 524288) × (length kept ≡ 32768) × (length buffer ≡ 65536) × (length out ≡ 65536) × (source .end ≤ 65536) × (output .held ≤ 65536)
 
 abbrev μ-loop : tie.MeasureT-loop
 μ-loop places₀ pages₀ kept₀ buffer₀ out₀ source₀ output₀ turns₀ places pages kept buffer out source output turns = turns
@@ -24,7 +24,7 @@ large-buffer-requires-2 : tie.Need-large-buffer-requires-2 Inv-loop μ-loop
 large-buffer-requires-2 c κs = search needs
 
 loop-holds : tie.Need-loop-holds Inv-loop μ-loop
-loop-holds c = (length-replicate {A = ℕ} 393216 0, length-replicate {A = ℕ} 32768 0, search needs, search needs, search needs, search needs)
+loop-holds c = (length-replicate {A = ℕ} 524288 0, length-replicate {A = ℕ} 32768 0, search needs, search needs, search needs, search needs)
 
 slice-aggregate-with-room : tie.Need-slice-aggregate-with-room Inv-loop μ-loop
 slice-aggregate-with-room c = sym (c .before .before .loop .inv .3)

@@ -1,4 +1,4 @@
--- `request_of` meets its contract: the place is one of six, and the bytes are not too many.
+-- `request_of` meets its contract: the place is one of eight, and the bytes are not too many.
 use Prim.Native.Nat.{_+_, _≤_}
 use mathlib.Core.Path.{_≡_}
 use native.Mathlib.Omega.{arith}
@@ -19,8 +19,8 @@ few c =
     let l : length (c .delivered .result .bytes) ≡ 2100 = search needs in
     omega (arith, there, l)
 
-replica-named-requires : tie.Need-replica-named-requires
-replica-named-requires c κs = search needs
+place-named-requires : tie.Need-place-named-requires
+place-named-requires c κs = search needs
 
 call-of-requires : tie.Need-call-of-requires
 call-of-requires c κs = search needs
@@ -46,20 +46,20 @@ part-delivered-end c = search needs
 delivered-requires : tie.Need-delivered-requires
 delivered-requires c κs = search needs
 
-at-most-five-requires : tie.Need-at-most-five-requires
-at-most-five-requires c κs = search needs
+at-most-seven-requires : tie.Need-at-most-seven-requires
+at-most-seven-requires c κs = search needs
 
 is-known-requires : tie.Need-is-known-requires
 is-known-requires c κs = search needs
 
 returns : tie.Need-returns
-returns c = (c .before .at-most-five .ensures, few (c .before .before .before))
+returns c = (c .before .at-most-seven .ensures, few (c .before .before .before))
 
 pub request-of-spec : {M : Type 1} → statement M
 request-of-spec =
     tie.close
     (tie.spec
-    replica-named-requires
+    place-named-requires
     call-of-requires
     cast-start-of
     start-of-requires
@@ -68,6 +68,6 @@ request-of-spec =
     part-delivered-start
     part-delivered-end
     delivered-requires
-    at-most-five-requires
+    at-most-seven-requires
     is-known-requires
     returns)

@@ -157,10 +157,10 @@ module _ {M : Type 1} (𝓤 : URA M) (H : Heap 𝓤) (A : Atoms 𝓤) (W : Given
       qed W (‵ (MutAt R b₀ o₀ κ₀ γ₀ (length ys) ys′) ∷ ‵ (flft κ₀ q₀) ∷ ‵ (MutOf N.R b₁ o₁ κ₁ γ₁ c′) ∷ ‵ (flft κ₁ q₁) ∷ ‵ (fsep ftrue (fsep (left (MutSlice (named 0) κ₃ u32 .exit yes) (record { ptr = (b₃, o₃); name = γ₃; now = queue }) queue′) ftrue)) ∷ Toks ∷ []) ∵ suffices ! _ (ends-at 𝓤 H A own.ended stayed (own.clauses 𝓤 H A mem run) W bound v r (ys′, (c′, (tt, (queue′, tt)))) (long, (tt, (tt, (tt, tt))))) $ says ! did $
       move ! (3 ∷ 5 ∷ []) $ join ! $ move ! (2 ∷ 0 ∷ []) $ join ! $ frame ! $ move ! (1 ∷ 2 ∷ []) $ fjoin ! $ move ! (1 ∷ 0 ∷ []) $ fjoin ! $ frame ! $ owned ! Y.the-row (Is Y.the-row) (LL.makes Y.the-type Y′.the-plain 𝓤 H A) r (v ∷ []) is $ done !
 
-  ends-not : (v : Val) → Is Y.the-row (record { number = 1; «read_only» = false }) (v ∷ []) → (length ys ≡ 6 → ⊥) → ent 𝓤 (⋆ 𝓤 H A (‵ (MutAt R b₀ o₀ κ₀ γ₀ (length ys) ys) ∷ ‵ (flft κ₀ q₀) ∷ ‵ (MutOf N.R b₁ o₁ κ₁ γ₁ c) ∷ ‵ (flft κ₁ q₁) ∷ ‵ Rest ∷ Toks ∷ [])) (Post v)
-  ends-not v is other =
+  ends-not : (v : Val) (r : AskReply) → Is Y.the-row r (v ∷ []) → AskDid ys c ticket queue r ys c queue → ent 𝓤 (⋆ 𝓤 H A (‵ (MutAt R b₀ o₀ κ₀ γ₀ (length ys) ys) ∷ ‵ (flft κ₀ q₀) ∷ ‵ (MutOf N.R b₁ o₁ κ₁ γ₁ c) ∷ ‵ (flft κ₁ q₁) ∷ ‵ Rest ∷ Toks ∷ [])) (Post v)
+  ends-not v r is did =
       qed W (‵ (MutAt R b₀ o₀ κ₀ γ₀ (length ys) ys) ∷ ‵ (flft κ₀ q₀) ∷ ‵ (MutOf N.R b₁ o₁ κ₁ γ₁ c) ∷ ‵ (flft κ₁ q₁) ∷ ‵ Rest ∷ Toks ∷ []) ∵ updating ! $ move ! (4 ∷ []) $ use1 W (later (‵ (fsep ftrue (fsep (left (MutSlice (named 0) κ₃ u32 .exit yes) (record { ptr = (b₃, o₃); name = γ₃; now = queue }) queue) ftrue)))) (go-all 𝓤 H A W 3 ((plain (λ _. u32)) ∷ (mutSliceOf (2 ∷ []) tt (plain (λ _. u32))) ∷ []) (yes, (yes, tt)) (stay-none (λ _. u32) yes, (stay-slice (2 ∷ []) tt (plain (λ _. u32)), tt)) (goes-none 𝓤 H A W 3 (λ _. u32) yes (λ κs x f. refl), (goes-slice 𝓤 H A W 3 2 tt (plain (λ _. u32)), tt)) (κ₀, (κ₁, (κ₃, tt))) rest (tt, (queue, tt)) rest-at (tt, (refl, tt))) $ await ! tt $ move ! (1 ∷ 2 ∷ 3 ∷ 4 ∷ 0 ∷ []) $
-      by ! (ends v (record { number = 1; «read_only» = false }) ys c queue is refl (ask-not ys c ticket queue other))
+      by ! (ends v r ys c queue is refl did)
 
   module _ (C : Calls 𝓤 H) (Λ : Loops 𝓤 H) (fm : FmC 𝓤 H (W .laws) C) (known-refuse : Triple 𝓤 (C #refuse) (Refuse 𝓤 H A mem run)) (known-find : Triple 𝓤 (C #find) (Find 𝓤 H A mem run)) (known-row : Triple 𝓤 (C #row) (Row 𝓤 H A mem run)) (known-end : Triple 𝓤 (C #end) (End 𝓤 H A mem run)) (known-stage : Triple 𝓤 (C #stage) (SetStage 𝓤 H A mem run)) (known-copied : Triple 𝓤 (C #copied) (CopyOut 𝓤 H A mem run N.counts)) (known-read-only : Triple 𝓤 (C #read-only) (StoreOne 𝓤 H A mem run N.counts N.read-only)) (known-call : Triple 𝓤 (C #call) (ByValue 𝓤 H A mem run)) where
     walk : ent 𝓤 (onEntry 𝓤 H A own.signature (κ₀, (κ₁, (κ₃, tt))) (q₀, (q₁, (q₃, tt))) a at) (WpFn 𝓤 H C Λ code.function (sliceVal (b₀, o₀) (length ys) ∷ vptr b₁ o₁ ∷ vint w32 ticket ∷ sliceVal (b₃, o₃) (length queue) ∷ []) Post)
@@ -185,7 +185,7 @@ module _ {M : Type 1} (𝓤 : URA M) (H : Heap 𝓤) (A : Atoms 𝓤) (W : Given
         land ! (from ! (stop !)) (init ! 56 refl (LL.lawful Y.the-type Y′.the-laws 𝓤 H A W .typed (record { number = 1; «read_only» = false }) _ is .0)) $
         returns-within ! Post refl (look ! 56 refl) $
         frees-all ! (_ ∷ _ ∷ _ ∷ _ ∷ _ ∷ _ ∷ []) (room _ _ ∷ room _ _ ∷ room _ _ ∷ room _ _ ∷ room _ _ ∷ room _ _ ∷ room _ _ ∷ room _ _ ∷ room _ _ ∷ room _ _ ∷ room _ _ ∷ room _ _ ∷ room _ _ ∷ room _ _ ∷ cell _ _ _ ∷ cell _ _ _ ∷ room _ _ ∷ room _ _ ∷ room _ _ ∷ room _ _ ∷ room _ _ ∷ cell _ _ _ ∷ cell _ _ _ ∷ cell _ _ _ ∷ cell _ _ _ ∷ cell _ _ _ ∷ []) $ free0 ! $
-        by ! (ends-not _ is (unequal (length ys) 6 other)))))
+        by ! (ends-not _ (record { number = 1; «read_only» = false }) is (ask-not ys c ticket queue (unequal (length ys) 6 other))))))
         (λ six₀. let six = equal (length ys) 6 six₀ in
         assigns ! (addr ! (from ! (fld ! refl (hop ! (look-in ! 54 (sub ! 0 refl (whole !))) (stop !))))) (from ! (stop !)) (init ! 32 refl (tt, tt)) $
         assigns ! (agg ! (and-then ! (load ! (from ! (stop !)) (look ! 32 refl)) (and-then ! (load ! (from ! (fld ! refl (stop !))) (look-in ! 54 (sub ! 1 refl (whole !)))) (no-more !)))) (from ! (stop !)) (init ! 30 refl (tt, (tt, (record { fits = room₀ .0 }, tt)))) $

@@ -1,6 +1,6 @@
 -- `stemline_read` meets its contract: a walk of its code, written by `scripts/walks`. The lent parts are taken apart, the call by value is made with what is left of
 -- them, and what changed is put back. Assumes nothing.
-use mathlib.Core.Path.{_≡_, refl, ap}
+use mathlib.Core.Path.{refl, ap}
 use Prim.Native.Nat.{ℕ, _<_, _^_}
 use native.Mathlib.Omega.{arith}
 use mathlib.Core.List.{List, [], _∷_}
@@ -133,10 +133,10 @@ module _ {M : Type 1} (𝓤 : URA M) (H : Heap 𝓤) (A : Atoms 𝓤) (W : Given
       qed W (‵ (ShrAt R b₀ o₀ κ₀ γ₀ ys) ∷ ‵ (flft κ₀ q₀) ∷ ‵ (fsep ftrue (fsep ftrue (fsep ftrue (fsep ftrue (fsep ftrue ftrue))))) ∷ Toks ∷ []) ∵ suffices ! _ (ends-at 𝓤 H A own.ended stayed (own.clauses 𝓤 H A mem run) W bound v r (tt, (tt, (tt, (tt, (tt, (tt, tt)))))) (tt, (tt, (tt, (tt, (tt, (tt, tt))))))) $ says ! did $
       move ! (1 ∷ 3 ∷ []) $ join ! $ frame ! $ drop ! $ nothing ! $ fjoin ! $ frame ! $ owned ! D.the-row (Is D.the-row) (LL.makes D.the-type D′.the-plain 𝓤 H A) r (v ∷ []) is $ done !
 
-  ends-not : (v : Val) → Is D.the-row (record { number = 1; value = pos 0 }) (v ∷ []) → (length ys ≡ 6 → ⊥) → ent 𝓤 (⋆ 𝓤 H A (‵ (ShrAt R b₀ o₀ κ₀ γ₀ ys) ∷ ‵ (flft κ₀ q₀) ∷ ‵ Rest ∷ Toks ∷ [])) (Post v)
-  ends-not v is other =
+  ends-not : (v : Val) (r : ReadReply) → Is D.the-row r (v ∷ []) → ReadDid ys ticket items writes snapshots item r → ent 𝓤 (⋆ 𝓤 H A (‵ (ShrAt R b₀ o₀ κ₀ γ₀ ys) ∷ ‵ (flft κ₀ q₀) ∷ ‵ Rest ∷ Toks ∷ [])) (Post v)
+  ends-not v r is did =
       qed W (‵ (ShrAt R b₀ o₀ κ₀ γ₀ ys) ∷ ‵ (flft κ₀ q₀) ∷ ‵ Rest ∷ Toks ∷ []) ∵ updating ! $ move ! (2 ∷ []) $ use1 W (later (‵ (fsep ftrue (fsep ftrue (fsep ftrue (fsep ftrue (fsep ftrue ftrue))))))) (go-all 𝓤 H A W 4 ((plain (λ _. u32)) ∷ (shrSliceOf (1 ∷ []) tt (plain (λ _. u8))) ∷ (shrSliceOf (2 ∷ []) tt (plain (λ _. i32))) ∷ (shrSliceOf (3 ∷ []) tt (plain (λ _. i32))) ∷ (plain (λ _. u32)) ∷ []) (yes, (yes, (yes, (yes, (yes, tt))))) (stay-none (λ _. u32) yes, (stay-none-slice (1 ∷ []) tt (plain (λ _. u8)) yes, (stay-none-slice (2 ∷ []) tt (plain (λ _. i32)) yes, (stay-none-slice (3 ∷ []) tt (plain (λ _. i32)) yes, (stay-none (λ _. u32) yes, tt))))) (goes-none 𝓤 H A W 4 (λ _. u32) yes (λ κs x f. refl), (goes-none-slice 𝓤 H A W 4 (1 ∷ []) tt (plain (λ _. u8)) yes, (goes-none-slice 𝓤 H A W 4 (2 ∷ []) tt (plain (λ _. i32)) yes, (goes-none-slice 𝓤 H A W 4 (3 ∷ []) tt (plain (λ _. i32)) yes, (goes-none 𝓤 H A W 4 (λ _. u32) yes (λ κs x f. refl), tt))))) (κ₀, (κ₂, (κ₃, (κ₄, tt)))) rest (tt, (tt, (tt, (tt, (tt, tt))))) rest-at (tt, (tt, (tt, (tt, (tt, tt)))))) $ await ! tt $ move ! (1 ∷ 2 ∷ 0 ∷ []) $
-      by ! (ends v (record { number = 1; value = pos 0 }) is (read-not ys ticket items writes snapshots item other))
+      by ! (ends v r is did)
 
   module _ (C : Calls 𝓤 H) (Λ : Loops 𝓤 H) (fm : FmC 𝓤 H (W .laws) C) (known-refuse : Triple 𝓤 (C #refuse) (Refuse 𝓤 H A mem run)) (known-find : Triple 𝓤 (C #find) (Find 𝓤 H A mem run)) (known-row : Triple 𝓤 (C #row) (Row 𝓤 H A mem run)) (known-call : Triple 𝓤 (C #call) (ByValue 𝓤 H A mem run)) where
     walk : ent 𝓤 (onEntry 𝓤 H A own.signature (κ₀, (κ₂, (κ₃, (κ₄, tt)))) (q₀, (q₂, (q₃, (q₄, tt)))) a at) (WpFn 𝓤 H C Λ code.function (sliceVal (b₀, o₀) (length ys) ∷ vint w32 ticket ∷ sliceVal (b₂, o₂) (length items) ∷ sliceVal (b₃, o₃) (length writes) ∷ sliceVal (b₄, o₄) (length snapshots) ∷ vint w32 item ∷ []) Post)
@@ -157,7 +157,7 @@ module _ {M : Type 1} (𝓤 : URA M) (H : Heap 𝓤) (A : Atoms 𝓤) (W : Given
         land ! (from ! (stop !)) (init ! 24 refl (LL.lawful D.the-type D′.the-laws 𝓤 H A W .typed (record { number = 1; value = pos 0 }) _ is .0)) $
         returns-within ! Post refl (look ! 24 refl) $
         frees-all ! (_ ∷ _ ∷ _ ∷ _ ∷ []) (cell _ _ _ ∷ cell _ _ _ ∷ room _ _ ∷ room _ _ ∷ cell _ _ _ ∷ cell _ _ _ ∷ cell _ _ _ ∷ cell _ _ _ ∷ cell _ _ _ ∷ cell _ _ _ ∷ cell _ _ _ ∷ []) $ free0 ! $
-        by ! (ends-not _ is (unequal (length ys) 6 other)))))
+        by ! (ends-not _ (record { number = 1; value = pos 0 }) is (read-not ys ticket items writes snapshots item (unequal (length ys) 6 other))))))
         (λ six₀. let six = equal (length ys) 6 six₀ in
         calls-lending ! fm (slice-shared R b₀ o₀ κ₀ q₀ γ₀ ys W room₀ vals tells (copies 𝓤 H A W)) (Find 𝓤 H A mem run) known-find (to-find 𝓤 H A W mem run b₀ o₀ ys ticket g₁) (asks-find 𝓤 H A W mem run b₀ o₀ ys ticket g₁) (λ u. Is usize (rowOf ticket ys) (u ∷ [])) (gives-find 𝓤 H A W mem run b₀ o₀ ys ticket g₁)
         (λ ν δ i j. (and-then ! (load ! (from ! (stop !)) (look ! 22 refl)) (and-then ! (load ! (from ! (stop !)) (look ! 20 refl)) (no-more !)))) (λ v₁ is₁. land ! (from ! (stop !)) (init ! 10 refl (uint-lawful 𝓤 H A W w64 .typed (rowOf ticket ys) _ is₁ .0)) $

@@ -1,6 +1,6 @@
 -- `stemline_report` meets its contract: a walk of its code, written by `scripts/walks`. The lent parts are taken apart, the call by value is made with what is left of
 -- them, and what changed is put back. Assumes nothing.
-use mathlib.Core.Path.{_≡_, refl}
+use mathlib.Core.Path.{refl}
 use Prim.Native.Nat.{ℕ}
 use native.Mathlib.Omega.{arith}
 use mathlib.Core.List.{List, [], _∷_}
@@ -140,10 +140,10 @@ module _ {M : Type 1} (𝓤 : URA M) (H : Heap 𝓤) (A : Atoms 𝓤) (W : Given
       qed W (‵ (ShrAt R b₀ o₀ κ₀ γ₀ ys) ∷ ‵ (flft κ₀ q₀) ∷ ‵ (ShrOf U.R b₁ o₁ κ₁ γ₁ h) ∷ ‵ (flft κ₁ q₁) ∷ ‵ (ShrOf N.R b₂ o₂ κ₂ γ₂ c) ∷ ‵ (flft κ₂ q₂) ∷ ‵ ftrue ∷ Toks ∷ []) ∵ suffices ! _ (ends-at 𝓤 H A own.ended stayed (own.clauses 𝓤 H A mem run) W bound v r (tt, (tt, (tt, tt))) (tt, (tt, (tt, tt)))) $ says ! did $
       move ! (5 ∷ 7 ∷ []) $ join ! $ move ! (4 ∷ 0 ∷ []) $ join ! $ move ! (2 ∷ 0 ∷ []) $ join ! $ frame ! $ move ! (2 ∷ []) $ drop ! $ move ! (2 ∷ []) $ nothing ! $ fjoin ! $ move ! (2 ∷ []) $ drop ! $ nothing ! $ fjoin ! $ move ! (1 ∷ []) $ drop ! $ nothing ! $ fjoin ! $ frame ! $ owned ! D.the-row (Is D.the-row) (LL.makes D.the-type D′.the-plain 𝓤 H A) r (v ∷ []) is $ done !
 
-  ends-not : (v : Val) → Is D.the-row (record { number = 1; report = noReport }) (v ∷ []) → (length ys ≡ 6 → ⊥) → ent 𝓤 (⋆ 𝓤 H A (‵ (ShrAt R b₀ o₀ κ₀ γ₀ ys) ∷ ‵ (flft κ₀ q₀) ∷ ‵ (ShrOf U.R b₁ o₁ κ₁ γ₁ h) ∷ ‵ (flft κ₁ q₁) ∷ ‵ (ShrOf N.R b₂ o₂ κ₂ γ₂ c) ∷ ‵ (flft κ₂ q₂) ∷ ‵ Rest ∷ Toks ∷ [])) (Post v)
-  ends-not v is other =
+  ends-not : (v : Val) (r : ReportReply) → Is D.the-row r (v ∷ []) → ReportDid ys h c r → ent 𝓤 (⋆ 𝓤 H A (‵ (ShrAt R b₀ o₀ κ₀ γ₀ ys) ∷ ‵ (flft κ₀ q₀) ∷ ‵ (ShrOf U.R b₁ o₁ κ₁ γ₁ h) ∷ ‵ (flft κ₁ q₁) ∷ ‵ (ShrOf N.R b₂ o₂ κ₂ γ₂ c) ∷ ‵ (flft κ₂ q₂) ∷ ‵ Rest ∷ Toks ∷ [])) (Post v)
+  ends-not v r is did =
       qed W (‵ (ShrAt R b₀ o₀ κ₀ γ₀ ys) ∷ ‵ (flft κ₀ q₀) ∷ ‵ (ShrOf U.R b₁ o₁ κ₁ γ₁ h) ∷ ‵ (flft κ₁ q₁) ∷ ‵ (ShrOf N.R b₂ o₂ κ₂ γ₂ c) ∷ ‵ (flft κ₂ q₂) ∷ ‵ Rest ∷ Toks ∷ []) ∵ updating ! $ move ! (6 ∷ []) $ use1 W (later (‵ ftrue)) (go-all 𝓤 H A W 3 ([]) tt tt tt (κ₀, (κ₁, (κ₂, tt))) rest tt rest-at tt) $ await ! tt $ move ! (1 ∷ 2 ∷ 3 ∷ 4 ∷ 5 ∷ 6 ∷ 0 ∷ []) $
-      by ! (ends v (record { number = 1; report = noReport }) is (report-not ys h c other))
+      by ! (ends v r is did)
 
   module _ (C : Calls 𝓤 H) (Λ : Loops 𝓤 H) (fm : FmC 𝓤 H (W .laws) C) (known-refuse : Triple 𝓤 (C #refuse) (Refuse 𝓤 H A mem run)) (known-load : Triple 𝓤 (C #load) (Load 𝓤 H A mem run)) (known-copy : Triple 𝓤 (C #copy) (CopyOut 𝓤 H A mem run U.turn)) (known-copied : Triple 𝓤 (C #copied) (CopyOut 𝓤 H A mem run N.counts)) (known-call : Triple 𝓤 (C #call) (ByValue 𝓤 H A mem run)) where
     walk : ent 𝓤 (onEntry 𝓤 H A own.signature (κ₀, (κ₁, (κ₂, tt))) (q₀, (q₁, (q₂, tt))) a at) (WpFn 𝓤 H C Λ code.function (sliceVal (b₀, o₀) (length ys) ∷ vptr b₁ o₁ ∷ vptr b₂ o₂ ∷ []) Post)
@@ -172,7 +172,7 @@ module _ {M : Type 1} (𝓤 : URA M) (H : Heap 𝓤) (A : Atoms 𝓤) (W : Given
         land ! (from ! (stop !)) (init ! 24 refl (LL.lawful D.the-type D′.the-laws 𝓤 H A W .typed (record { number = 1; report = noReport }) _ is .0)) $
         returns-within ! Post refl (look ! 24 refl) $
         frees-all ! (_ ∷ _ ∷ _ ∷ _ ∷ _ ∷ _ ∷ _ ∷ _ ∷ []) (cell _ _ _ ∷ cell _ _ _ ∷ room _ _ ∷ room _ _ ∷ room _ _ ∷ cell _ _ _ ∷ cell _ _ _ ∷ cell _ _ _ ∷ cell _ _ _ ∷ []) $ free0 ! $
-        by ! (ends-not _ is (unequal (length ys) 6 other)))))
+        by ! (ends-not _ (record { number = 1; report = noReport }) is (report-not ys h c (unequal (length ys) 6 other))))))
         (λ six₀. let six = equal (length ys) 6 six₀ in
         calls-lending ! fm (slice-shared R b₀ o₀ κ₀ q₀ γ₀ ys W room₀ vals tells (copies 𝓤 H A W)) (Load 𝓤 H A mem run) known-load (to-load 𝓤 H A W mem run b₀ o₀ ys) (asks-load 𝓤 H A W mem run b₀ o₀ ys) (λ u. Is (Array R 6) (loaded ys) (u ∷ [])) (gives-load 𝓤 H A W mem run b₀ o₀ ys)
         (λ ν δ i j. (and-then ! (load ! (from ! (stop !)) (look ! 22 refl)) (no-more !))) (λ v₅ is₅. land ! (from ! (stop !)) (init ! 16 refl (array-lawful 𝓤 H A W R (lawful 𝓤 H A W) 6 .typed (loaded ys) _ is₅ .0)) $

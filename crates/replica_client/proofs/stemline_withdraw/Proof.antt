@@ -133,10 +133,10 @@ module _ {M : Type 1} (𝓤 : URA M) (H : Heap 𝓤) (A : Atoms 𝓤) (W : Given
       qed W (‵ (MutAt R b₀ o₀ κ₀ γ₀ (length ys) ys′) ∷ ‵ (flft κ₀ q₀) ∷ ‵ (MutOf N.R b₁ o₁ κ₁ γ₁ c′) ∷ ‵ (flft κ₁ q₁) ∷ ‵ (fsep ftrue ftrue) ∷ Toks ∷ []) ∵ suffices ! _ (ends-at 𝓤 H A own.ended stayed (own.clauses 𝓤 H A mem run) W bound v r (ys′, (c′, (tt, tt))) (long, (tt, (tt, tt)))) $ says ! did $
       move ! (3 ∷ 5 ∷ []) $ join ! $ move ! (2 ∷ 0 ∷ []) $ join ! $ frame ! $ move ! (1 ∷ 2 ∷ []) $ fjoin ! $ move ! (1 ∷ 0 ∷ []) $ fjoin ! $ frame ! $ owned ! u8 (Is u8) (uint-makes 𝓤 H A W w8) r (v ∷ []) is $ done !
 
-  ends-not : (v : Val) → Is u8 (1) (v ∷ []) → (length ys ≡ 6 → ⊥) → ent 𝓤 (⋆ 𝓤 H A (‵ (MutAt R b₀ o₀ κ₀ γ₀ (length ys) ys) ∷ ‵ (flft κ₀ q₀) ∷ ‵ (MutOf N.R b₁ o₁ κ₁ γ₁ c) ∷ ‵ (flft κ₁ q₁) ∷ ‵ Rest ∷ Toks ∷ [])) (Post v)
-  ends-not v is other =
+  ends-not : (v : Val) (r : ℕ) → Is u8 r (v ∷ []) → WithdrawDid ys c ticket r ys c → ent 𝓤 (⋆ 𝓤 H A (‵ (MutAt R b₀ o₀ κ₀ γ₀ (length ys) ys) ∷ ‵ (flft κ₀ q₀) ∷ ‵ (MutOf N.R b₁ o₁ κ₁ γ₁ c) ∷ ‵ (flft κ₁ q₁) ∷ ‵ Rest ∷ Toks ∷ [])) (Post v)
+  ends-not v r is did =
       qed W (‵ (MutAt R b₀ o₀ κ₀ γ₀ (length ys) ys) ∷ ‵ (flft κ₀ q₀) ∷ ‵ (MutOf N.R b₁ o₁ κ₁ γ₁ c) ∷ ‵ (flft κ₁ q₁) ∷ ‵ Rest ∷ Toks ∷ []) ∵ updating ! $ move ! (4 ∷ []) $ use1 W (later (‵ (fsep ftrue ftrue))) (go-all 𝓤 H A W 2 ((plain (λ _. u32)) ∷ []) (yes, tt) (stay-none (λ _. u32) yes, tt) (goes-none 𝓤 H A W 2 (λ _. u32) yes (λ κs x f. refl), tt) (κ₀, (κ₁, tt)) rest (tt, tt) rest-at (tt, tt)) $ await ! tt $ move ! (1 ∷ 2 ∷ 3 ∷ 4 ∷ 0 ∷ []) $
-      by ! (ends v (1) ys c is refl (withdraw-not ys c ticket other))
+      by ! (ends v r ys c is refl did)
 
   module _ (C : Calls 𝓤 H) (Λ : Loops 𝓤 H) (fm : FmC 𝓤 H (W .laws) C) (known-find : Triple 𝓤 (C #find) (Find 𝓤 H A mem run)) (known-row : Triple 𝓤 (C #row) (Row 𝓤 H A mem run)) (known-end : Triple 𝓤 (C #end) (End 𝓤 H A mem run)) (known-copied : Triple 𝓤 (C #copied) (CopyOut 𝓤 H A mem run N.counts)) (known-withdrawn : Triple 𝓤 (C #withdrawn) (StoreOne 𝓤 H A mem run N.counts N.withdrawn)) (known-call : Triple 𝓤 (C #call) (ByValue 𝓤 H A mem run)) where
     walk : ent 𝓤 (onEntry 𝓤 H A own.signature (κ₀, (κ₁, tt)) (q₀, (q₁, tt)) a at) (WpFn 𝓤 H C Λ code.function (sliceVal (b₀, o₀) (length ys) ∷ vptr b₁ o₁ ∷ vint w32 ticket ∷ []) Post)
@@ -158,7 +158,7 @@ module _ {M : Type 1} (𝓤 : URA M) (H : Heap 𝓤) (A : Atoms 𝓤) (W : Given
         assigns ! (of-opd ! (lit ! tt)) (from ! (stop !)) (init ! 42 refl (tt, record { fits = omega arith })) $
         returns-within ! Post refl (look ! 42 refl) $
         frees-all ! (_ ∷ _ ∷ _ ∷ _ ∷ _ ∷ _ ∷ []) (room _ _ ∷ room _ _ ∷ room _ _ ∷ room _ _ ∷ room _ _ ∷ room _ _ ∷ room _ _ ∷ room _ _ ∷ room _ _ ∷ cell _ _ _ ∷ cell _ _ _ ∷ room _ _ ∷ room _ _ ∷ room _ _ ∷ room _ _ ∷ cell _ _ _ ∷ cell _ _ _ ∷ cell _ _ _ ∷ cell _ _ _ ∷ []) $ free0 ! $
-        by ! (ends-not _ (refl, omega arith) (unequal (length ys) 6 other)))
+        by ! (ends-not _ 1 (refl, omega arith) (withdraw-not ys c ticket (unequal (length ys) 6 other))))
         (λ six₀. let six = equal (length ys) 6 six₀ in
         assigns ! (addr ! (from ! (fld ! refl (hop ! (look-in ! 40 (sub ! 0 refl (whole !))) (stop !))))) (from ! (stop !)) (init ! 22 refl (tt, tt)) $
         assigns ! (agg ! (and-then ! (load ! (from ! (stop !)) (look ! 22 refl)) (and-then ! (load ! (from ! (fld ! refl (stop !))) (look-in ! 40 (sub ! 1 refl (whole !)))) (no-more !)))) (from ! (stop !)) (init ! 20 refl (tt, (tt, (record { fits = room₀ .0 }, tt)))) $

@@ -131,10 +131,10 @@ module _ {M : Type 1} (𝓤 : URA M) (H : Heap 𝓤) (A : Atoms 𝓤) (W : Given
       qed W (‵ (MutAt R b₀ o₀ κ₀ γ₀ (length ys) ys′) ∷ ‵ (flft κ₀ q₀) ∷ ‵ (MutOf U.R b₁ o₁ κ₁ γ₁ h′) ∷ ‵ (flft κ₁ q₁) ∷ ‵ (MutOf N.R b₂ o₂ κ₂ γ₂ c′) ∷ ‵ (flft κ₂ q₂) ∷ ‵ (fsep ftrue (fsep ftrue (fsep ftrue (fsep (left (MutSlice (named 0) κ₆ u32 .exit yes) (record { ptr = (b₆, o₆); name = γ₆; now = queue }) queue′) (fsep (left (MutSlice (named 0) κ₇ u8 .exit yes) (record { ptr = (b₇, o₇); name = γ₇; now = items }) items′) (fsep (left (MutSlice (named 0) κ₈ i32 .exit yes) (record { ptr = (b₈, o₈); name = γ₈; now = writes }) writes′) (fsep (left (MutSlice (named 0) κ₉ i32 .exit yes) (record { ptr = (b₉, o₉); name = γ₉; now = snapshots }) snapshots′) (fsep (left (MutSlice (named 0) κ₁₀ i32 .exit yes) (record { ptr = (b₁₀, o₁₀); name = γ₁₀; now = values }) values′) (fsep (left (MutSlice (named 0) κ₁₁ u32 .exit yes) (record { ptr = (b₁₁, o₁₁); name = γ₁₁; now = stamps }) stamps′) (fsep (left (MutSlice (named 0) κ₁₂ u8 .exit yes) (record { ptr = (b₁₂, o₁₂); name = γ₁₂; now = classes }) classes′) (fsep (left (MutSlice (named 0) κ₁₃ u8 .exit yes) (record { ptr = (b₁₃, o₁₃); name = γ₁₃; now = places }) places′) (fsep (left (MutSlice (named 0) κ₁₄ u8 .exit yes) (record { ptr = (b₁₄, o₁₄); name = γ₁₄; now = outbox }) outbox′) ftrue)))))))))))) ∷ Toks ∷ []) ∵ suffices ! _ (ends-at 𝓤 H A own.ended stayed (own.clauses 𝓤 H A mem run) W bound v r (ys′, (h′, (c′, (tt, (tt, (tt, (queue′, (items′, (writes′, (snapshots′, (values′, (stamps′, (classes′, (places′, (outbox′, tt))))))))))))))) (long, (tt, (tt, (tt, (tt, (tt, (tt, (tt, (tt, (tt, (tt, (tt, (tt, (tt, (tt, tt)))))))))))))))) $ says ! did $
       move ! (5 ∷ 7 ∷ []) $ join ! $ move ! (4 ∷ 0 ∷ []) $ join ! $ move ! (2 ∷ 0 ∷ []) $ join ! $ frame ! $ move ! (2 ∷ 3 ∷ []) $ fjoin ! $ move ! (2 ∷ 0 ∷ []) $ fjoin ! $ move ! (1 ∷ 0 ∷ []) $ fjoin ! $ frame ! $ owned ! u8 (Is u8) (uint-makes 𝓤 H A W w8) r (v ∷ []) is $ done !
 
-  ends-not : (v : Val) → Is u8 (1) (v ∷ []) → (length ys ≡ 6 → ⊥) → ent 𝓤 (⋆ 𝓤 H A (‵ (MutAt R b₀ o₀ κ₀ γ₀ (length ys) ys) ∷ ‵ (flft κ₀ q₀) ∷ ‵ (MutOf U.R b₁ o₁ κ₁ γ₁ h) ∷ ‵ (flft κ₁ q₁) ∷ ‵ (MutOf N.R b₂ o₂ κ₂ γ₂ c) ∷ ‵ (flft κ₂ q₂) ∷ ‵ Rest ∷ Toks ∷ [])) (Post v)
-  ends-not v is other =
+  ends-not : (v : Val) (r : ℕ) → Is u8 r (v ∷ []) → MakeDid ys h c size me start queue items writes snapshots values stamps classes places outbox r ys h c queue items writes snapshots values stamps classes places outbox → ent 𝓤 (⋆ 𝓤 H A (‵ (MutAt R b₀ o₀ κ₀ γ₀ (length ys) ys) ∷ ‵ (flft κ₀ q₀) ∷ ‵ (MutOf U.R b₁ o₁ κ₁ γ₁ h) ∷ ‵ (flft κ₁ q₁) ∷ ‵ (MutOf N.R b₂ o₂ κ₂ γ₂ c) ∷ ‵ (flft κ₂ q₂) ∷ ‵ Rest ∷ Toks ∷ [])) (Post v)
+  ends-not v r is did =
       qed W (‵ (MutAt R b₀ o₀ κ₀ γ₀ (length ys) ys) ∷ ‵ (flft κ₀ q₀) ∷ ‵ (MutOf U.R b₁ o₁ κ₁ γ₁ h) ∷ ‵ (flft κ₁ q₁) ∷ ‵ (MutOf N.R b₂ o₂ κ₂ γ₂ c) ∷ ‵ (flft κ₂ q₂) ∷ ‵ Rest ∷ Toks ∷ []) ∵ updating ! $ move ! (6 ∷ []) $ use1 W (later (‵ (fsep ftrue (fsep ftrue (fsep ftrue (fsep (left (MutSlice (named 0) κ₆ u32 .exit yes) (record { ptr = (b₆, o₆); name = γ₆; now = queue }) queue) (fsep (left (MutSlice (named 0) κ₇ u8 .exit yes) (record { ptr = (b₇, o₇); name = γ₇; now = items }) items) (fsep (left (MutSlice (named 0) κ₈ i32 .exit yes) (record { ptr = (b₈, o₈); name = γ₈; now = writes }) writes) (fsep (left (MutSlice (named 0) κ₉ i32 .exit yes) (record { ptr = (b₉, o₉); name = γ₉; now = snapshots }) snapshots) (fsep (left (MutSlice (named 0) κ₁₀ i32 .exit yes) (record { ptr = (b₁₀, o₁₀); name = γ₁₀; now = values }) values) (fsep (left (MutSlice (named 0) κ₁₁ u32 .exit yes) (record { ptr = (b₁₁, o₁₁); name = γ₁₁; now = stamps }) stamps) (fsep (left (MutSlice (named 0) κ₁₂ u8 .exit yes) (record { ptr = (b₁₂, o₁₂); name = γ₁₂; now = classes }) classes) (fsep (left (MutSlice (named 0) κ₁₃ u8 .exit yes) (record { ptr = (b₁₃, o₁₃); name = γ₁₃; now = places }) places) (fsep (left (MutSlice (named 0) κ₁₄ u8 .exit yes) (record { ptr = (b₁₄, o₁₄); name = γ₁₄; now = outbox }) outbox) ftrue)))))))))))))) (go-all 𝓤 H A W 13 ((plain (λ _. u32)) ∷ (plain (λ _. u32)) ∷ (shrSliceOf (3 ∷ []) tt (plain (λ _. i32))) ∷ (mutSliceOf (4 ∷ []) tt (plain (λ _. u32))) ∷ (mutSliceOf (5 ∷ []) tt (plain (λ _. u8))) ∷ (mutSliceOf (6 ∷ []) tt (plain (λ _. i32))) ∷ (mutSliceOf (7 ∷ []) tt (plain (λ _. i32))) ∷ (mutSliceOf (8 ∷ []) tt (plain (λ _. i32))) ∷ (mutSliceOf (9 ∷ []) tt (plain (λ _. u32))) ∷ (mutSliceOf (10 ∷ []) tt (plain (λ _. u8))) ∷ (mutSliceOf (11 ∷ []) tt (plain (λ _. u8))) ∷ (mutSliceOf (12 ∷ []) tt (plain (λ _. u8))) ∷ []) (yes, (yes, (yes, (yes, (yes, (yes, (yes, (yes, (yes, (yes, (yes, (yes, tt)))))))))))) (stay-none (λ _. u32) yes, (stay-none (λ _. u32) yes, (stay-none-slice (3 ∷ []) tt (plain (λ _. i32)) yes, (stay-slice (4 ∷ []) tt (plain (λ _. u32)), (stay-slice (5 ∷ []) tt (plain (λ _. u8)), (stay-slice (6 ∷ []) tt (plain (λ _. i32)), (stay-slice (7 ∷ []) tt (plain (λ _. i32)), (stay-slice (8 ∷ []) tt (plain (λ _. i32)), (stay-slice (9 ∷ []) tt (plain (λ _. u32)), (stay-slice (10 ∷ []) tt (plain (λ _. u8)), (stay-slice (11 ∷ []) tt (plain (λ _. u8)), (stay-slice (12 ∷ []) tt (plain (λ _. u8)), tt)))))))))))) (goes-none 𝓤 H A W 13 (λ _. u32) yes (λ κs x f. refl), (goes-none 𝓤 H A W 13 (λ _. u32) yes (λ κs x f. refl), (goes-none-slice 𝓤 H A W 13 (3 ∷ []) tt (plain (λ _. i32)) yes, (goes-slice 𝓤 H A W 13 4 tt (plain (λ _. u32)), (goes-slice 𝓤 H A W 13 5 tt (plain (λ _. u8)), (goes-slice 𝓤 H A W 13 6 tt (plain (λ _. i32)), (goes-slice 𝓤 H A W 13 7 tt (plain (λ _. i32)), (goes-slice 𝓤 H A W 13 8 tt (plain (λ _. i32)), (goes-slice 𝓤 H A W 13 9 tt (plain (λ _. u32)), (goes-slice 𝓤 H A W 13 10 tt (plain (λ _. u8)), (goes-slice 𝓤 H A W 13 11 tt (plain (λ _. u8)), (goes-slice 𝓤 H A W 13 12 tt (plain (λ _. u8)), tt)))))))))))) (κ₀, (κ₁, (κ₂, (κ₅, (κ₆, (κ₇, (κ₈, (κ₉, (κ₁₀, (κ₁₁, (κ₁₂, (κ₁₃, (κ₁₄, tt))))))))))))) rest (tt, (tt, (tt, (queue, (items, (writes, (snapshots, (values, (stamps, (classes, (places, (outbox, tt)))))))))))) rest-at (tt, (tt, (tt, (refl, (refl, (refl, (refl, (refl, (refl, (refl, (refl, (refl, tt))))))))))))) $ await ! tt $ move ! (1 ∷ 2 ∷ 3 ∷ 4 ∷ 5 ∷ 6 ∷ 0 ∷ []) $
-      by ! (ends v (1) ys h c queue items writes snapshots values stamps classes places outbox is refl (make-not ys h c size me start queue items writes snapshots values stamps classes places outbox other))
+      by ! (ends v r ys h c queue items writes snapshots values stamps classes places outbox is refl did)
 
   module _ (C : Calls 𝓤 H) (Λ : Loops 𝓤 H) (fm : FmC 𝓤 H (W .laws) C) (known-ended : Triple 𝓤 (C #ended) (EndRows 𝓤 H A mem run)) (known-turn : Triple 𝓤 (C #turn) (StoreAll 𝓤 H A mem run U.turn)) (known-counts : Triple 𝓤 (C #counts) (StoreAll 𝓤 H A mem run N.counts)) (known-call : Triple 𝓤 (C #call) (ByValue 𝓤 H A mem run)) where
     walk : ent 𝓤 (onEntry 𝓤 H A own.signature (κ₀, (κ₁, (κ₂, (κ₅, (κ₆, (κ₇, (κ₈, (κ₉, (κ₁₀, (κ₁₁, (κ₁₂, (κ₁₃, (κ₁₄, tt))))))))))))) (q₀, (q₁, (q₂, (q₅, (q₆, (q₇, (q₈, (q₉, (q₁₀, (q₁₁, (q₁₂, (q₁₃, (q₁₄, tt))))))))))))) a at) (WpFn 𝓤 H C Λ code.function (sliceVal (b₀, o₀) (length ys) ∷ vptr b₁ o₁ ∷ vptr b₂ o₂ ∷ vint w32 size ∷ vint w32 me ∷ sliceVal (b₅, o₅) (length start) ∷ sliceVal (b₆, o₆) (length queue) ∷ sliceVal (b₇, o₇) (length items) ∷ sliceVal (b₈, o₈) (length writes) ∷ sliceVal (b₉, o₉) (length snapshots) ∷ sliceVal (b₁₀, o₁₀) (length values) ∷ sliceVal (b₁₁, o₁₁) (length stamps) ∷ sliceVal (b₁₂, o₁₂) (length classes) ∷ sliceVal (b₁₃, o₁₃) (length places) ∷ sliceVal (b₁₄, o₁₄) (length outbox) ∷ []) Post)
@@ -160,7 +160,7 @@ module _ {M : Type 1} (𝓤 : URA M) (H : Heap 𝓤) (A : Atoms 𝓤) (W : Given
         assigns ! (of-opd ! (lit ! tt)) (from ! (stop !)) (init ! 92 refl (tt, record { fits = omega arith })) $
         returns-within ! Post refl (look ! 92 refl) $
         frees-all ! (_ ∷ _ ∷ _ ∷ _ ∷ _ ∷ _ ∷ _ ∷ _ ∷ []) (room _ _ ∷ room _ _ ∷ room _ _ ∷ room _ _ ∷ room _ _ ∷ room _ _ ∷ room _ _ ∷ room _ _ ∷ room _ _ ∷ room _ _ ∷ room _ _ ∷ room _ _ ∷ room _ _ ∷ room _ _ ∷ room _ _ ∷ room _ _ ∷ room _ _ ∷ room _ _ ∷ room _ _ ∷ room _ _ ∷ room _ _ ∷ room _ _ ∷ room _ _ ∷ room _ _ ∷ cell _ _ _ ∷ cell _ _ _ ∷ room _ _ ∷ cell _ _ _ ∷ cell _ _ _ ∷ cell _ _ _ ∷ cell _ _ _ ∷ cell _ _ _ ∷ cell _ _ _ ∷ cell _ _ _ ∷ cell _ _ _ ∷ cell _ _ _ ∷ cell _ _ _ ∷ cell _ _ _ ∷ cell _ _ _ ∷ cell _ _ _ ∷ cell _ _ _ ∷ cell _ _ _ ∷ cell _ _ _ ∷ []) $ free0 ! $
-        by ! (ends-not _ (refl, omega arith) (unequal (length ys) 6 other)))
+        by ! (ends-not _ 1 (refl, omega arith) (make-not ys h c size me start queue items writes snapshots values stamps classes places outbox (unequal (length ys) 6 other))))
         (λ six₀. let six = equal (length ys) 6 six₀ in
         assigns ! (addr ! (from ! (fld ! refl (hop ! (look-in ! 78 (sub ! 0 refl (whole !))) (stop !))))) (from ! (stop !)) (init ! 54 refl (tt, tt)) $
         assigns ! (agg ! (and-then ! (load ! (from ! (stop !)) (look ! 54 refl)) (and-then ! (load ! (from ! (fld ! refl (stop !))) (look-in ! 78 (sub ! 1 refl (whole !)))) (no-more !)))) (from ! (stop !)) (init ! 52 refl (tt, (tt, (record { fits = room₆ .0 }, tt)))) $

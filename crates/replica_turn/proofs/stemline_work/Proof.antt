@@ -159,10 +159,10 @@ module _ {M : Type 1} (𝓤 : URA M) (H : Heap 𝓤) (A : Atoms 𝓤) (W : Given
       qed W (‵ (MutAt R b₀ o₀ κ₀ γ₀ (length ys) ys′) ∷ ‵ (flft κ₀ q₀) ∷ ‵ (MutOf U.R b₁ o₁ κ₁ γ₁ h′) ∷ ‵ (flft κ₁ q₁) ∷ ‵ (MutOf N.R b₂ o₂ κ₂ γ₂ c′) ∷ ‵ (flft κ₂ q₂) ∷ ‵ (fsep (left (MutSlice (named 0) κ₃ u32 .exit yes) (record { ptr = (b₃, o₃); name = γ₃; now = queue }) queue′) (fsep ftrue (fsep (left (MutSlice (named 0) κ₅ i32 .exit yes) (record { ptr = (b₅, o₅); name = γ₅; now = values }) values′) (fsep (left (MutSlice (named 0) κ₆ u32 .exit yes) (record { ptr = (b₆, o₆); name = γ₆; now = stamps }) stamps′) (fsep (left (MutSlice (named 0) κ₇ u8 .exit yes) (record { ptr = (b₇, o₇); name = γ₇; now = places }) places′) (fsep (left (MutSlice (named 0) κ₈ u8 .exit yes) (record { ptr = (b₈, o₈); name = γ₈; now = block }) block′) ftrue)))))) ∷ Toks ∷ []) ∵ suffices ! _ (ends-at 𝓤 H A own.ended stayed (own.clauses 𝓤 H A mem run) W bound v r (ys′, (h′, (c′, (queue′, (tt, (values′, (stamps′, (places′, (block′, tt))))))))) (long, (tt, (tt, (tt, (tt, (tt, (tt, (tt, (tt, tt)))))))))) $ says ! did $
       move ! (5 ∷ 7 ∷ []) $ join ! $ move ! (4 ∷ 0 ∷ []) $ join ! $ move ! (2 ∷ 0 ∷ []) $ join ! $ frame ! $ move ! (2 ∷ 3 ∷ []) $ fjoin ! $ move ! (2 ∷ 0 ∷ []) $ fjoin ! $ move ! (1 ∷ 0 ∷ []) $ fjoin ! $ frame ! $ owned ! Y.the-row (Is Y.the-row) (LL.makes Y.the-type Y′.the-plain 𝓤 H A) r (v ∷ []) is $ done !
 
-  ends-not : (v : Val) → Is Y.the-row (record { number = 1; sender = 0; moved = false; count = 0; ticket = 0; aborted = replicate 6 0; append = false }) (v ∷ []) → (length ys ≡ 6 → ⊥) → ent 𝓤 (⋆ 𝓤 H A (‵ (MutAt R b₀ o₀ κ₀ γ₀ (length ys) ys) ∷ ‵ (flft κ₀ q₀) ∷ ‵ (MutOf U.R b₁ o₁ κ₁ γ₁ h) ∷ ‵ (flft κ₁ q₁) ∷ ‵ (MutOf N.R b₂ o₂ κ₂ γ₂ c) ∷ ‵ (flft κ₂ q₂) ∷ ‵ Rest ∷ Toks ∷ [])) (Post v)
-  ends-not v is other =
+  ends-not : (v : Val) (r : WorkReply) → Is Y.the-row r (v ∷ []) → WorkDid ys h c queue items values stamps places block r ys h c queue values stamps places block → ent 𝓤 (⋆ 𝓤 H A (‵ (MutAt R b₀ o₀ κ₀ γ₀ (length ys) ys) ∷ ‵ (flft κ₀ q₀) ∷ ‵ (MutOf U.R b₁ o₁ κ₁ γ₁ h) ∷ ‵ (flft κ₁ q₁) ∷ ‵ (MutOf N.R b₂ o₂ κ₂ γ₂ c) ∷ ‵ (flft κ₂ q₂) ∷ ‵ Rest ∷ Toks ∷ [])) (Post v)
+  ends-not v r is did =
       qed W (‵ (MutAt R b₀ o₀ κ₀ γ₀ (length ys) ys) ∷ ‵ (flft κ₀ q₀) ∷ ‵ (MutOf U.R b₁ o₁ κ₁ γ₁ h) ∷ ‵ (flft κ₁ q₁) ∷ ‵ (MutOf N.R b₂ o₂ κ₂ γ₂ c) ∷ ‵ (flft κ₂ q₂) ∷ ‵ Rest ∷ Toks ∷ []) ∵ updating ! $ move ! (6 ∷ []) $ use1 W (later (‵ (fsep (left (MutSlice (named 0) κ₃ u32 .exit yes) (record { ptr = (b₃, o₃); name = γ₃; now = queue }) queue) (fsep ftrue (fsep (left (MutSlice (named 0) κ₅ i32 .exit yes) (record { ptr = (b₅, o₅); name = γ₅; now = values }) values) (fsep (left (MutSlice (named 0) κ₆ u32 .exit yes) (record { ptr = (b₆, o₆); name = γ₆; now = stamps }) stamps) (fsep (left (MutSlice (named 0) κ₇ u8 .exit yes) (record { ptr = (b₇, o₇); name = γ₇; now = places }) places) (fsep (left (MutSlice (named 0) κ₈ u8 .exit yes) (record { ptr = (b₈, o₈); name = γ₈; now = block }) block) ftrue)))))))) (go-all 𝓤 H A W 9 ((mutSliceOf (3 ∷ []) tt (plain (λ _. u32))) ∷ (shrSliceOf (4 ∷ []) tt (plain (λ _. u8))) ∷ (mutSliceOf (5 ∷ []) tt (plain (λ _. i32))) ∷ (mutSliceOf (6 ∷ []) tt (plain (λ _. u32))) ∷ (mutSliceOf (7 ∷ []) tt (plain (λ _. u8))) ∷ (mutSliceOf (8 ∷ []) tt (plain (λ _. u8))) ∷ []) (yes, (yes, (yes, (yes, (yes, (yes, tt)))))) (stay-slice (3 ∷ []) tt (plain (λ _. u32)), (stay-none-slice (4 ∷ []) tt (plain (λ _. u8)) yes, (stay-slice (5 ∷ []) tt (plain (λ _. i32)), (stay-slice (6 ∷ []) tt (plain (λ _. u32)), (stay-slice (7 ∷ []) tt (plain (λ _. u8)), (stay-slice (8 ∷ []) tt (plain (λ _. u8)), tt)))))) (goes-slice 𝓤 H A W 9 3 tt (plain (λ _. u32)), (goes-none-slice 𝓤 H A W 9 (4 ∷ []) tt (plain (λ _. u8)) yes, (goes-slice 𝓤 H A W 9 5 tt (plain (λ _. i32)), (goes-slice 𝓤 H A W 9 6 tt (plain (λ _. u32)), (goes-slice 𝓤 H A W 9 7 tt (plain (λ _. u8)), (goes-slice 𝓤 H A W 9 8 tt (plain (λ _. u8)), tt)))))) (κ₀, (κ₁, (κ₂, (κ₃, (κ₄, (κ₅, (κ₆, (κ₇, (κ₈, tt))))))))) rest (queue, (tt, (values, (stamps, (places, (block, tt)))))) rest-at (refl, (tt, (refl, (refl, (refl, (refl, tt))))))) $ await ! tt $ move ! (1 ∷ 2 ∷ 3 ∷ 4 ∷ 5 ∷ 6 ∷ 0 ∷ []) $
-      by ! (ends v (record { number = 1; sender = 0; moved = false; count = 0; ticket = 0; aborted = replicate 6 0; append = false }) ys h c queue values stamps places block is refl (work-not ys h c queue items values stamps places block other))
+      by ! (ends v r ys h c queue values stamps places block is refl did)
 
   module _ (C : Calls 𝓤 H) (Λ : Loops 𝓤 H) (fm : FmC 𝓤 H (W .laws) C) (known-refuse : Triple 𝓤 (C #refuse) (Refuse 𝓤 H A mem run)) (known-load : Triple 𝓤 (C #load) (Load 𝓤 H A mem run)) (known-ended : Triple 𝓤 (C #ended) (EndRows 𝓤 H A mem run)) (known-copy : Triple 𝓤 (C #copy) (CopyOut 𝓤 H A mem run U.turn)) (known-turn : Triple 𝓤 (C #turn) (StoreAll 𝓤 H A mem run U.turn)) (known-copied : Triple 𝓤 (C #copied) (CopyOut 𝓤 H A mem run N.counts)) (known-counts : Triple 𝓤 (C #counts) (StoreAll 𝓤 H A mem run N.counts)) (known-call : Triple 𝓤 (C #call) (ByValue 𝓤 H A mem run)) where
     walk : ent 𝓤 (onEntry 𝓤 H A own.signature (κ₀, (κ₁, (κ₂, (κ₃, (κ₄, (κ₅, (κ₆, (κ₇, (κ₈, tt))))))))) (q₀, (q₁, (q₂, (q₃, (q₄, (q₅, (q₆, (q₇, (q₈, tt))))))))) a at) (WpFn 𝓤 H C Λ code.function (sliceVal (b₀, o₀) (length ys) ∷ vptr b₁ o₁ ∷ vptr b₂ o₂ ∷ sliceVal (b₃, o₃) (length queue) ∷ sliceVal (b₄, o₄) (length items) ∷ sliceVal (b₅, o₅) (length values) ∷ sliceVal (b₆, o₆) (length stamps) ∷ sliceVal (b₇, o₇) (length places) ∷ sliceVal (b₈, o₈) (length block) ∷ []) Post)
@@ -191,7 +191,7 @@ module _ {M : Type 1} (𝓤 : URA M) (H : Heap 𝓤) (A : Atoms 𝓤) (W : Given
         land ! (from ! (stop !)) (init ! 78 refl (LL.lawful Y.the-type Y′.the-laws 𝓤 H A W .typed (record { number = 1; sender = 0; moved = false; count = 0; ticket = 0; aborted = replicate 6 0; append = false }) _ is .0)) $
         returns-within ! Post refl (look ! 78 refl) $
         frees-all ! (_ ∷ _ ∷ _ ∷ _ ∷ _ ∷ _ ∷ _ ∷ _ ∷ []) (room _ _ ∷ room _ _ ∷ room _ _ ∷ room _ _ ∷ room _ _ ∷ room _ _ ∷ room _ _ ∷ room _ _ ∷ room _ _ ∷ room _ _ ∷ room _ _ ∷ room _ _ ∷ room _ _ ∷ room _ _ ∷ room _ _ ∷ room _ _ ∷ room _ _ ∷ room _ _ ∷ room _ _ ∷ cell _ _ _ ∷ cell _ _ _ ∷ room _ _ ∷ room _ _ ∷ room _ _ ∷ room _ _ ∷ room _ _ ∷ cell _ _ _ ∷ cell _ _ _ ∷ cell _ _ _ ∷ cell _ _ _ ∷ cell _ _ _ ∷ cell _ _ _ ∷ cell _ _ _ ∷ cell _ _ _ ∷ cell _ _ _ ∷ cell _ _ _ ∷ []) $ free0 ! $
-        by ! (ends-not _ is (unequal (length ys) 6 other)))))
+        by ! (ends-not _ (record { number = 1; sender = 0; moved = false; count = 0; ticket = 0; aborted = replicate 6 0; append = false }) is (work-not ys h c queue items values stamps places block (unequal (length ys) 6 other))))))
         (λ six₀. let six = equal (length ys) 6 six₀ in
         assigns ! (addr ! (from ! (fld ! refl (hop ! (look-in ! 76 (sub ! 0 refl (whole !))) (stop !))))) (from ! (stop !)) (init ! 44 refl (tt, tt)) $
         assigns ! (agg ! (and-then ! (load ! (from ! (stop !)) (look ! 44 refl)) (and-then ! (load ! (from ! (fld ! refl (stop !))) (look-in ! 76 (sub ! 1 refl (whole !)))) (no-more !)))) (from ! (stop !)) (init ! 42 refl (tt, (tt, (record { fits = room₀ .0 }, tt)))) $

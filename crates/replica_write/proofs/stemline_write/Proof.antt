@@ -1,6 +1,6 @@
 -- `stemline_write` meets its contract: a walk of its code, written by `scripts/walks`. The lent parts are taken apart, the call by value is made with what is left of
 -- them, and what changed is put back. Assumes nothing.
-use mathlib.Core.Path.{_≡_, refl, ap}
+use mathlib.Core.Path.{_≡_, refl, ap, subst}
 use Prim.Native.Nat.{ℕ, _<_, _^_}
 use native.Mathlib.Omega.{arith}
 use mathlib.Core.List.{List, [], _∷_}
@@ -22,7 +22,7 @@ use contract.Monad.{Fun, fact}
 use contract.Running.{givenOf, tables, tablesOf}
 use types.Kit.{Given, Item, ‵, raw, _⊛_, some, later, ⋆, _$_, _∵_, !, qed, by, move, drop, use1, use2, updating, split, join, pick, rewrite, fsplit, fjoin, suffices, frame, await, done}
 use types.Part.{whole, sub, look-in, agg}
-use types.Run.{look, init, store, stop, hop, fld, from, load, lit, addr, bin, of-opd, and-then, no-more, assigns, land, returns, returns-within, enter, alloc1, alloc0, params1, pass1, pass0, free0}
+use types.Run.{look, init, store, stop, hop, fld, from, load, lit, neg-lit, addr, bin, of-opd, and-then, no-more, assigns, land, returns, returns-within, enter, alloc1, alloc0, params1, pass1, pass0, free0}
 use sound.WpLaws.{FmC, fmOf, WpFn-mono}
 use denote.Array.{Array, array-lawful, array-makes}
 use denote.Builtin.{u8, u32, usize, i32}
@@ -60,7 +60,7 @@ use Rattle.host_table.proofs.Rows.{R, vals, tells, makes, copies, lawful}
 use Rattle.host_table.proofs.Cursor as U
 use Rattle.host_table.proofs.Numbers as N
 use Rattle.host_table.proofs.Handed.{handed, goes-handed}
-use Rattle.replica_write.proofs.Facts.{WriteOn, WriteDid, write-not}
+use Rattle.replica_write.proofs.Facts.{WriteOn, WriteDid, write-not, write-station}
 use Rattle.replica_write.proofs.Ways.{write-stale, write-kept, write-did}
 use Rattle.call_reply.specs.declared.Changed.{Changed}
 use Rattle.call_reply.proofs.Changed as D
@@ -151,10 +151,10 @@ module _ {M : Type 1} (𝓤 : URA M) (H : Heap 𝓤) (A : Atoms 𝓤) (W : Given
       qed W (‵ (MutAt R b₀ o₀ κ₀ γ₀ (length ys) ys′) ∷ ‵ (flft κ₀ q₀) ∷ ‵ (ShrOf U.R b₁ o₁ κ₁ γ₁ h) ∷ ‵ (flft κ₁ q₁) ∷ ‵ (MutOf N.R b₂ o₂ κ₂ γ₂ c′) ∷ ‵ (flft κ₂ q₂) ∷ ‵ (fsep ftrue (fsep (left (MutSlice (named 0) κ₄ u8 .exit yes) (record { ptr = (b₄, o₄); name = γ₄; now = items }) items′) (fsep (left (MutSlice (named 0) κ₅ i32 .exit yes) (record { ptr = (b₅, o₅); name = γ₅; now = writes }) writes′) (fsep ftrue (fsep ftrue (fsep ftrue (fsep ftrue (fsep ftrue ftrue)))))))) ∷ Toks ∷ []) ∵ suffices ! _ (ends-at 𝓤 H A own.ended stayed (own.clauses 𝓤 H A mem run) W bound v r (ys′, (tt, (c′, (tt, (items′, (writes′, (tt, (tt, (tt, (tt, (tt, tt))))))))))) (long, (tt, (tt, (tt, (tt, (tt, (tt, (tt, (tt, (tt, (tt, tt)))))))))))) $ says ! did $
       move ! (5 ∷ 7 ∷ []) $ join ! $ move ! (4 ∷ 0 ∷ []) $ join ! $ move ! (2 ∷ 0 ∷ []) $ join ! $ frame ! $ move ! (2 ∷ 3 ∷ []) $ fjoin ! $ move ! (2 ∷ []) $ drop ! $ nothing ! $ fjoin ! $ move ! (1 ∷ 0 ∷ []) $ fjoin ! $ frame ! $ owned ! u8 (Is u8) (uint-makes 𝓤 H A W w8) r (v ∷ []) is $ done !
 
-  ends-not : (v : Val) → Is u8 (1) (v ∷ []) → (length ys ≡ 6 → ⊥) → ent 𝓤 (⋆ 𝓤 H A (‵ (MutAt R b₀ o₀ κ₀ γ₀ (length ys) ys) ∷ ‵ (flft κ₀ q₀) ∷ ‵ (ShrOf U.R b₁ o₁ κ₁ γ₁ h) ∷ ‵ (flft κ₁ q₁) ∷ ‵ (MutOf N.R b₂ o₂ κ₂ γ₂ c) ∷ ‵ (flft κ₂ q₂) ∷ ‵ Rest ∷ Toks ∷ [])) (Post v)
-  ends-not v is other =
+  ends-not : (v : Val) (r : ℕ) → Is u8 r (v ∷ []) → WriteDid ys h c ticket items writes stamps classes places item value r ys c items writes → ent 𝓤 (⋆ 𝓤 H A (‵ (MutAt R b₀ o₀ κ₀ γ₀ (length ys) ys) ∷ ‵ (flft κ₀ q₀) ∷ ‵ (ShrOf U.R b₁ o₁ κ₁ γ₁ h) ∷ ‵ (flft κ₁ q₁) ∷ ‵ (MutOf N.R b₂ o₂ κ₂ γ₂ c) ∷ ‵ (flft κ₂ q₂) ∷ ‵ Rest ∷ Toks ∷ [])) (Post v)
+  ends-not v r is did =
       qed W (‵ (MutAt R b₀ o₀ κ₀ γ₀ (length ys) ys) ∷ ‵ (flft κ₀ q₀) ∷ ‵ (ShrOf U.R b₁ o₁ κ₁ γ₁ h) ∷ ‵ (flft κ₁ q₁) ∷ ‵ (MutOf N.R b₂ o₂ κ₂ γ₂ c) ∷ ‵ (flft κ₂ q₂) ∷ ‵ Rest ∷ Toks ∷ []) ∵ updating ! $ move ! (6 ∷ []) $ use1 W (later (‵ (fsep ftrue (fsep (left (MutSlice (named 0) κ₄ u8 .exit yes) (record { ptr = (b₄, o₄); name = γ₄; now = items }) items) (fsep (left (MutSlice (named 0) κ₅ i32 .exit yes) (record { ptr = (b₅, o₅); name = γ₅; now = writes }) writes) (fsep ftrue (fsep ftrue (fsep ftrue (fsep ftrue (fsep ftrue ftrue)))))))))) (go-all 𝓤 H A W 8 ((plain (λ _. u32)) ∷ (mutSliceOf (3 ∷ []) tt (plain (λ _. u8))) ∷ (mutSliceOf (4 ∷ []) tt (plain (λ _. i32))) ∷ (shrSliceOf (5 ∷ []) tt (plain (λ _. u32))) ∷ (shrSliceOf (6 ∷ []) tt (plain (λ _. u8))) ∷ (shrSliceOf (7 ∷ []) tt (plain (λ _. u8))) ∷ (plain (λ _. u32)) ∷ (plain (λ _. i32)) ∷ []) (yes, (yes, (yes, (yes, (yes, (yes, (yes, (yes, tt)))))))) (stay-none (λ _. u32) yes, (stay-slice (3 ∷ []) tt (plain (λ _. u8)), (stay-slice (4 ∷ []) tt (plain (λ _. i32)), (stay-none-slice (5 ∷ []) tt (plain (λ _. u32)) yes, (stay-none-slice (6 ∷ []) tt (plain (λ _. u8)) yes, (stay-none-slice (7 ∷ []) tt (plain (λ _. u8)) yes, (stay-none (λ _. u32) yes, (stay-none (λ _. i32) yes, tt)))))))) (goes-none 𝓤 H A W 8 (λ _. u32) yes (λ κs x f. refl), (goes-slice 𝓤 H A W 8 3 tt (plain (λ _. u8)), (goes-slice 𝓤 H A W 8 4 tt (plain (λ _. i32)), (goes-none-slice 𝓤 H A W 8 (5 ∷ []) tt (plain (λ _. u32)) yes, (goes-none-slice 𝓤 H A W 8 (6 ∷ []) tt (plain (λ _. u8)) yes, (goes-none-slice 𝓤 H A W 8 (7 ∷ []) tt (plain (λ _. u8)) yes, (goes-none 𝓤 H A W 8 (λ _. u32) yes (λ κs x f. refl), (goes-none 𝓤 H A W 8 (λ _. i32) yes (λ κs x f. refl), tt)))))))) (κ₀, (κ₁, (κ₂, (κ₄, (κ₅, (κ₆, (κ₇, (κ₈, tt)))))))) rest (tt, (items, (writes, (tt, (tt, (tt, (tt, (tt, tt)))))))) rest-at (tt, (refl, (refl, (tt, (tt, (tt, (tt, (tt, tt))))))))) $ await ! tt $ move ! (1 ∷ 2 ∷ 3 ∷ 4 ∷ 5 ∷ 6 ∷ 0 ∷ []) $
-      by ! (ends v (1) ys c items writes is refl (write-not ys h c ticket items writes stamps classes places item value other))
+      by ! (ends v r ys c items writes is refl did)
 
   module _ (C : Calls 𝓤 H) (Λ : Loops 𝓤 H) (fm : FmC 𝓤 H (W .laws) C) (known-load : Triple 𝓤 (C #load) (Load 𝓤 H A mem run)) (known-find : Triple 𝓤 (C #find) (Find 𝓤 H A mem run)) (known-row : Triple 𝓤 (C #row) (Row 𝓤 H A mem run)) (known-end : Triple 𝓤 (C #end) (End 𝓤 H A mem run)) (known-writes : Triple 𝓤 (C #writes) (SetWrites 𝓤 H A mem run)) (known-copy : Triple 𝓤 (C #copy) (CopyOut 𝓤 H A mem run U.turn)) (known-copied : Triple 𝓤 (C #copied) (CopyOut 𝓤 H A mem run N.counts)) (known-aborted : Triple 𝓤 (C #aborted) (StoreOne 𝓤 H A mem run N.counts N.aborted)) (known-call : Triple 𝓤 (C #call) (ByValue 𝓤 H A mem run)) where
     walk : ent 𝓤 (onEntry 𝓤 H A own.signature (κ₀, (κ₁, (κ₂, (κ₄, (κ₅, (κ₆, (κ₇, (κ₈, tt)))))))) (q₀, (q₁, (q₂, (q₄, (q₅, (q₆, (q₇, (q₈, tt)))))))) a at) (WpFn 𝓤 H C Λ code.function (sliceVal (b₀, o₀) (length ys) ∷ vptr b₁ o₁ ∷ vptr b₂ o₂ ∷ vint w32 ticket ∷ sliceVal (b₄, o₄) (length items) ∷ sliceVal (b₅, o₅) (length writes) ∷ sliceVal (b₆, o₆) (length stamps) ∷ sliceVal (b₇, o₇) (length classes) ∷ sliceVal (b₈, o₈) (length places) ∷ vint w32 item ∷ vint w32 (ofZ w32 value) ∷ []) Post)
@@ -173,43 +173,56 @@ module _ {M : Type 1} (𝓤 : URA M) (H : Heap 𝓤) (A : Atoms 𝓤) (W : Given
         move ! (1 ∷ []) $
         split ! $
         move ! (7 ∷ 3 ∷ 6 ∷ 2 ∷ 4 ∷ 0 ∷ 5 ∷ 1 ∷ []) $
-        assigns ! (of-opd ! (load ! (from ! (fld ! refl (stop !))) (look-in ! 80 (sub ! 1 refl (whole !))))) (from ! (stop !)) (init ! 46 refl (tt, record { fits = room₀ .0 })) $
-        assigns ! (bin ! (load ! (from ! (stop !)) (look ! 46 refl)) (lit ! tt) tt) (from ! (stop !)) (init ! 44 refl (tt, tt)) $
+        assigns ! (addr ! (from ! (hop ! (look ! 76 refl) (stop !)))) (from ! (stop !)) (init ! 46 refl (tt, tt)) $
+        move ! (4 ∷ 5 ∷ []) $
+        calls-lending ! fm (ref-read N.R b₂ o₂ κ₂ q₂ γ₂ c W) (CopyOut 𝓤 H A mem run N.counts) known-copied (to-copy-out 𝓤 H A W mem run N.counts b₂ o₂ c) (asks-copy-out 𝓤 H A W mem run N.counts b₂ o₂ c) (λ u. Is N.R c (u ∷ [])) (gives-copy-out 𝓤 H A W mem run N.counts b₂ o₂ c)
+        (λ ν δ i j. (and-then ! (load ! (from ! (stop !)) (look ! 46 refl)) (no-more !))) (λ v₇ is₇. land ! (from ! (stop !)) (init ! 58 refl (N.lawful 𝓤 H A W .typed c _ is₇ .0)) $
+        rewrite ! 58 (λ (w : Val). ‵ (fat fullShare Q′.mir l12 0 w)) (ap only (N.tells c _ is₇)) refl $
+        let is₈ = subst (λ (vs : List Val). Is N.R c vs) (N.tells c _ is₇) is₇ in
+        assigns ! (bin ! (load ! (from ! (fld ! refl (stop !))) (look-in ! 58 (sub ! 1 refl (whole !)))) (neg-lit ! tt) tt) (from ! (stop !)) (init ! 44 refl (tt, tt)) $
+        when ! (load ! (from ! (stop !)) (look ! 44 refl)) (λ none.
+        -- a station
+        assigns ! (of-opd ! (lit ! tt)) (from ! (stop !)) (init ! 82 refl (tt, record { fits = omega arith })) $
+        returns-within ! Post refl (look ! 82 refl) $
+        frees-all ! (_ ∷ _ ∷ _ ∷ _ ∷ _ ∷ _ ∷ _ ∷ _ ∷ []) (room _ _ ∷ room _ _ ∷ room _ _ ∷ room _ _ ∷ room _ _ ∷ room _ _ ∷ room _ _ ∷ room _ _ ∷ room _ _ ∷ room _ _ ∷ room _ _ ∷ room _ _ ∷ room _ _ ∷ room _ _ ∷ room _ _ ∷ room _ _ ∷ room _ _ ∷ room _ _ ∷ cell _ _ _ ∷ cell _ _ _ ∷ room _ _ ∷ room _ _ ∷ room _ _ ∷ room _ _ ∷ room _ _ ∷ cell _ _ _ ∷ cell _ _ _ ∷ cell _ _ _ ∷ cell _ _ _ ∷ cell _ _ _ ∷ cell _ _ _ ∷ cell _ _ _ ∷ cell _ _ _ ∷ cell _ _ _ ∷ cell _ _ _ ∷ cell _ _ _ ∷ cell _ _ _ ∷ cell _ _ _ ∷ []) $ free0 ! $
+        move ! (2 ∷ 3 ∷ 4 ∷ 5 ∷ 0 ∷ 1 ∷ 6 ∷ 7 ∷ []) $
+        by ! (ends-not _ 25 (refl, omega arith) (write-station ys h c ticket items writes stamps classes places item value (eqb→eq (c .own) 255 none))))
+        (λ ours₀. let ours = missed (c .own) 255 ours₀ in
+        assigns ! (of-opd ! (load ! (from ! (fld ! refl (stop !))) (look-in ! 80 (sub ! 1 refl (whole !))))) (from ! (stop !)) (init ! 42 refl (tt, record { fits = room₀ .0 })) $
+        assigns ! (bin ! (load ! (from ! (stop !)) (look ! 42 refl)) (lit ! tt) tt) (from ! (stop !)) (store ! 44 refl (tt, tt)) $
         when ! (load ! (from ! (stop !)) (look ! 44 refl)) (λ other.
         -- another table than six rows
         assigns ! (of-opd ! (lit ! tt)) (from ! (stop !)) (init ! 82 refl (tt, record { fits = omega arith })) $
         returns-within ! Post refl (look ! 82 refl) $
-        frees-all ! (_ ∷ _ ∷ _ ∷ _ ∷ _ ∷ _ ∷ _ ∷ _ ∷ []) (room _ _ ∷ room _ _ ∷ room _ _ ∷ room _ _ ∷ room _ _ ∷ room _ _ ∷ room _ _ ∷ room _ _ ∷ room _ _ ∷ room _ _ ∷ room _ _ ∷ room _ _ ∷ room _ _ ∷ room _ _ ∷ room _ _ ∷ room _ _ ∷ room _ _ ∷ room _ _ ∷ cell _ _ _ ∷ cell _ _ _ ∷ room _ _ ∷ room _ _ ∷ room _ _ ∷ room _ _ ∷ room _ _ ∷ room _ _ ∷ cell _ _ _ ∷ cell _ _ _ ∷ cell _ _ _ ∷ cell _ _ _ ∷ cell _ _ _ ∷ cell _ _ _ ∷ cell _ _ _ ∷ cell _ _ _ ∷ cell _ _ _ ∷ cell _ _ _ ∷ cell _ _ _ ∷ cell _ _ _ ∷ []) $ free0 ! $
-        by ! (ends-not _ (refl, omega arith) (unequal (length ys) 6 other)))
+        frees-all ! (_ ∷ _ ∷ _ ∷ _ ∷ _ ∷ _ ∷ _ ∷ _ ∷ []) (room _ _ ∷ room _ _ ∷ room _ _ ∷ room _ _ ∷ room _ _ ∷ room _ _ ∷ room _ _ ∷ room _ _ ∷ room _ _ ∷ room _ _ ∷ room _ _ ∷ room _ _ ∷ room _ _ ∷ room _ _ ∷ room _ _ ∷ room _ _ ∷ room _ _ ∷ cell _ _ _ ∷ cell _ _ _ ∷ cell _ _ _ ∷ room _ _ ∷ room _ _ ∷ room _ _ ∷ room _ _ ∷ room _ _ ∷ cell _ _ _ ∷ cell _ _ _ ∷ cell _ _ _ ∷ cell _ _ _ ∷ cell _ _ _ ∷ cell _ _ _ ∷ cell _ _ _ ∷ cell _ _ _ ∷ cell _ _ _ ∷ cell _ _ _ ∷ cell _ _ _ ∷ cell _ _ _ ∷ cell _ _ _ ∷ []) $ free0 ! $
+        move ! (2 ∷ 3 ∷ 4 ∷ 5 ∷ 0 ∷ 1 ∷ 6 ∷ 7 ∷ []) $
+        by ! (ends-not _ 1 (refl, omega arith) (write-not ys h c ticket items writes stamps classes places item value ours (unequal (length ys) 6 other))))
         (λ six₀. let six = equal (length ys) 6 six₀ in
-        assigns ! (addr ! (from ! (fld ! refl (hop ! (look-in ! 80 (sub ! 0 refl (whole !))) (stop !))))) (from ! (stop !)) (init ! 42 refl (tt, tt)) $
-        assigns ! (agg ! (and-then ! (load ! (from ! (stop !)) (look ! 42 refl)) (and-then ! (load ! (from ! (fld ! refl (stop !))) (look-in ! 80 (sub ! 1 refl (whole !)))) (no-more !)))) (from ! (stop !)) (init ! 40 refl (tt, (tt, (record { fits = room₀ .0 }, tt)))) $
-        calls-lending ! fm (slice-read R b₀ o₀ κ₀ q₀ γ₀ ys W room₀) (Find 𝓤 H A mem run) known-find (to-find 𝓤 H A W mem run b₀ o₀ ys ticket g₃) (asks-find 𝓤 H A W mem run b₀ o₀ ys ticket g₃) (λ u. Is usize (rowOf ticket ys) (u ∷ [])) (gives-find 𝓤 H A W mem run b₀ o₀ ys ticket g₃)
-        (λ ν δ i j. (and-then ! (load ! (from ! (stop !)) (look ! 40 refl)) (and-then ! (load ! (from ! (stop !)) (look ! 74 refl)) (no-more !)))) (λ v₁ is₁. land ! (from ! (stop !)) (init ! 58 refl (uint-lawful 𝓤 H A W w64 .typed (rowOf ticket ys) _ is₁ .0)) $
-        rewrite ! 58 (λ (w : Val). ‵ (fat fullShare (tyInt w64) l12 0 w)) (ap only (uint-tells w64 (rowOf ticket ys) _ is₁)) refl $
-        assigns ! (addr ! (from ! (fld ! refl (hop ! (look-in ! 80 (sub ! 0 refl (whole !))) (stop !))))) (from ! (stop !)) (init ! 38 refl (tt, tt)) $
-        assigns ! (agg ! (and-then ! (load ! (from ! (stop !)) (look ! 38 refl)) (and-then ! (load ! (from ! (fld ! refl (stop !))) (look-in ! 80 (sub ! 1 refl (whole !)))) (no-more !)))) (from ! (stop !)) (init ! 36 refl (tt, (tt, (record { fits = room₀ .0 }, tt)))) $
-        calls-lending ! fm (slice-read R b₀ o₀ κ₀ q₀ γ₀ ys W room₀) (Row 𝓤 H A mem run) known-row (to-row 𝓤 H A W mem run b₀ o₀ ys (rowOf ticket ys) (is₁ .1)) (asks-row 𝓤 H A W mem run b₀ o₀ ys (rowOf ticket ys) (is₁ .1)) (λ u. Is R (rowAt ys (rowOf ticket ys)) (u ∷ [])) (gives-row 𝓤 H A W mem run b₀ o₀ ys (rowOf ticket ys) (is₁ .1))
-        (λ ν δ i j. (and-then ! (load ! (from ! (stop !)) (look ! 36 refl)) (and-then ! (load ! (from ! (stop !)) (look ! 58 refl)) (no-more !)))) (λ v₂ is₂. land ! (from ! (stop !)) (init ! 56 refl (lawful 𝓤 H A W .typed (rowAt ys (rowOf ticket ys)) _ is₂ .0)) $
-        assigns ! (addr ! (from ! (fld ! refl (hop ! (look-in ! 80 (sub ! 0 refl (whole !))) (stop !))))) (from ! (stop !)) (init ! 34 refl (tt, tt)) $
-        assigns ! (agg ! (and-then ! (load ! (from ! (stop !)) (look ! 34 refl)) (and-then ! (load ! (from ! (fld ! refl (stop !))) (look-in ! 80 (sub ! 1 refl (whole !)))) (no-more !)))) (from ! (stop !)) (init ! 32 refl (tt, (tt, (record { fits = room₀ .0 }, tt)))) $
-        calls-lending ! fm (slice-read R b₀ o₀ κ₀ q₀ γ₀ ys W room₀) (Load 𝓤 H A mem run) known-load (to-load 𝓤 H A W mem run b₀ o₀ ys) (asks-load 𝓤 H A W mem run b₀ o₀ ys) (λ u. Is (Array R 6) (loaded ys) (u ∷ [])) (gives-load 𝓤 H A W mem run b₀ o₀ ys)
-        (λ ν δ i j. (and-then ! (load ! (from ! (stop !)) (look ! 32 refl)) (no-more !))) (λ v₅ is₅. land ! (from ! (stop !)) (init ! 54 refl (array-lawful 𝓤 H A W R (lawful 𝓤 H A W) 6 .typed (loaded ys) _ is₅ .0)) $
+        assigns ! (addr ! (from ! (fld ! refl (hop ! (look-in ! 80 (sub ! 0 refl (whole !))) (stop !))))) (from ! (stop !)) (init ! 40 refl (tt, tt)) $
+        assigns ! (agg ! (and-then ! (load ! (from ! (stop !)) (look ! 40 refl)) (and-then ! (load ! (from ! (fld ! refl (stop !))) (look-in ! 80 (sub ! 1 refl (whole !)))) (no-more !)))) (from ! (stop !)) (init ! 38 refl (tt, (tt, (record { fits = room₀ .0 }, tt)))) $
         move ! (2 ∷ 3 ∷ []) $
-        calls-lending ! fm (ref-shared U.R b₁ o₁ κ₁ q₁ γ₁ h W U.vals U.tells (U.copies 𝓤 H A W)) (CopyOut 𝓤 H A mem run U.turn) known-copy (to-copy-out 𝓤 H A W mem run U.turn b₁ o₁ h) (asks-copy-out 𝓤 H A W mem run U.turn b₁ o₁ h) (λ u. Is U.R h (u ∷ [])) (gives-copy-out 𝓤 H A W mem run U.turn b₁ o₁ h)
-        (λ ν δ i j. (and-then ! (load ! (from ! (stop !)) (look ! 78 refl)) (no-more !))) (λ v₃ is₃. land ! (from ! (stop !)) (init ! 52 refl (U.lawful 𝓤 H A W .typed h _ is₃ .0)) $
-        assigns ! (addr ! (from ! (hop ! (look ! 76 refl) (stop !)))) (from ! (stop !)) (init ! 30 refl (tt, tt)) $
+        calls-lending ! fm (slice-read R b₀ o₀ κ₀ q₀ γ₀ ys W room₀) (Find 𝓤 H A mem run) known-find (to-find 𝓤 H A W mem run b₀ o₀ ys ticket g₃) (asks-find 𝓤 H A W mem run b₀ o₀ ys ticket g₃) (λ u. Is usize (rowOf ticket ys) (u ∷ [])) (gives-find 𝓤 H A W mem run b₀ o₀ ys ticket g₃)
+        (λ ν δ i j. (and-then ! (load ! (from ! (stop !)) (look ! 38 refl)) (and-then ! (load ! (from ! (stop !)) (look ! 74 refl)) (no-more !)))) (λ v₁ is₁. land ! (from ! (stop !)) (init ! 56 refl (uint-lawful 𝓤 H A W w64 .typed (rowOf ticket ys) _ is₁ .0)) $
+        rewrite ! 56 (λ (w : Val). ‵ (fat fullShare (tyInt w64) l13 0 w)) (ap only (uint-tells w64 (rowOf ticket ys) _ is₁)) refl $
+        assigns ! (addr ! (from ! (fld ! refl (hop ! (look-in ! 80 (sub ! 0 refl (whole !))) (stop !))))) (from ! (stop !)) (init ! 36 refl (tt, tt)) $
+        assigns ! (agg ! (and-then ! (load ! (from ! (stop !)) (look ! 36 refl)) (and-then ! (load ! (from ! (fld ! refl (stop !))) (look-in ! 80 (sub ! 1 refl (whole !)))) (no-more !)))) (from ! (stop !)) (init ! 34 refl (tt, (tt, (record { fits = room₀ .0 }, tt)))) $
+        calls-lending ! fm (slice-read R b₀ o₀ κ₀ q₀ γ₀ ys W room₀) (Row 𝓤 H A mem run) known-row (to-row 𝓤 H A W mem run b₀ o₀ ys (rowOf ticket ys) (is₁ .1)) (asks-row 𝓤 H A W mem run b₀ o₀ ys (rowOf ticket ys) (is₁ .1)) (λ u. Is R (rowAt ys (rowOf ticket ys)) (u ∷ [])) (gives-row 𝓤 H A W mem run b₀ o₀ ys (rowOf ticket ys) (is₁ .1))
+        (λ ν δ i j. (and-then ! (load ! (from ! (stop !)) (look ! 34 refl)) (and-then ! (load ! (from ! (stop !)) (look ! 56 refl)) (no-more !)))) (λ v₂ is₂. land ! (from ! (stop !)) (init ! 54 refl (lawful 𝓤 H A W .typed (rowAt ys (rowOf ticket ys)) _ is₂ .0)) $
+        assigns ! (addr ! (from ! (fld ! refl (hop ! (look-in ! 80 (sub ! 0 refl (whole !))) (stop !))))) (from ! (stop !)) (init ! 32 refl (tt, tt)) $
+        assigns ! (agg ! (and-then ! (load ! (from ! (stop !)) (look ! 32 refl)) (and-then ! (load ! (from ! (fld ! refl (stop !))) (look-in ! 80 (sub ! 1 refl (whole !)))) (no-more !)))) (from ! (stop !)) (init ! 30 refl (tt, (tt, (record { fits = room₀ .0 }, tt)))) $
+        calls-lending ! fm (slice-read R b₀ o₀ κ₀ q₀ γ₀ ys W room₀) (Load 𝓤 H A mem run) known-load (to-load 𝓤 H A W mem run b₀ o₀ ys) (asks-load 𝓤 H A W mem run b₀ o₀ ys) (λ u. Is (Array R 6) (loaded ys) (u ∷ [])) (gives-load 𝓤 H A W mem run b₀ o₀ ys)
+        (λ ν δ i j. (and-then ! (load ! (from ! (stop !)) (look ! 30 refl)) (no-more !))) (λ v₅ is₅. land ! (from ! (stop !)) (init ! 52 refl (array-lawful 𝓤 H A W R (lawful 𝓤 H A W) 6 .typed (loaded ys) _ is₅ .0)) $
         move ! (4 ∷ 5 ∷ []) $
-        calls-lending ! fm (ref-read N.R b₂ o₂ κ₂ q₂ γ₂ c W) (CopyOut 𝓤 H A mem run N.counts) known-copied (to-copy-out 𝓤 H A W mem run N.counts b₂ o₂ c) (asks-copy-out 𝓤 H A W mem run N.counts b₂ o₂ c) (λ u. Is N.R c (u ∷ [])) (gives-copy-out 𝓤 H A W mem run N.counts b₂ o₂ c)
-        (λ ν δ i j. (and-then ! (load ! (from ! (stop !)) (look ! 30 refl)) (no-more !))) (λ v₇ is₇. land ! (from ! (stop !)) (init ! 50 refl (N.lawful 𝓤 H A W .typed c _ is₇ .0)) $
+        calls-lending ! fm (ref-shared U.R b₁ o₁ κ₁ q₁ γ₁ h W U.vals U.tells (U.copies 𝓤 H A W)) (CopyOut 𝓤 H A mem run U.turn) known-copy (to-copy-out 𝓤 H A W mem run U.turn b₁ o₁ h) (asks-copy-out 𝓤 H A W mem run U.turn b₁ o₁ h) (λ u. Is U.R h (u ∷ [])) (gives-copy-out 𝓤 H A W mem run U.turn b₁ o₁ h)
+        (λ ν δ i j. (and-then ! (load ! (from ! (stop !)) (look ! 78 refl)) (no-more !))) (λ v₃ is₃. land ! (from ! (stop !)) (init ! 50 refl (U.lawful 𝓤 H A W .typed h _ is₃ .0)) $
         assigns ! (addr ! (from ! (fld ! refl (hop ! (look-in ! 72 (sub ! 0 refl (whole !))) (stop !))))) (from ! (stop !)) (init ! 28 refl (tt, tt)) $
         assigns ! (agg ! (and-then ! (load ! (from ! (stop !)) (look ! 28 refl)) (and-then ! (load ! (from ! (fld ! refl (stop !))) (look-in ! 72 (sub ! 1 refl (whole !)))) (no-more !)))) (from ! (stop !)) (init ! 26 refl (tt, (tt, (record { fits = room₄ .0 }, tt)))) $
         assigns ! (addr ! (from ! (fld ! refl (hop ! (look-in ! 70 (sub ! 0 refl (whole !))) (stop !))))) (from ! (stop !)) (init ! 24 refl (tt, tt)) $
         assigns ! (agg ! (and-then ! (load ! (from ! (stop !)) (look ! 24 refl)) (and-then ! (load ! (from ! (fld ! refl (stop !))) (look-in ! 70 (sub ! 1 refl (whole !)))) (no-more !)))) (from ! (stop !)) (init ! 22 refl (tt, (tt, (record { fits = room₅ .0 }, tt)))) $
         move ! (6 ∷ 7 ∷ []) $
         -- the call by value
-        use2 W (raw (ByValue 𝓤 H A mem run .pre (to-call v₂ v₅ v₃ v₇))) (asks-call (is₁ .1) v₂ v₅ v₃ v₇ is₂ is₅ is₃ is₇) $
-        calls-at ! fm (ByValue 𝓤 H A mem run) known-call (to-call v₂ v₅ v₃ v₇) (and-then ! (load ! (from ! (stop !)) (look ! 57 refl)) (and-then ! (load ! (from ! (stop !)) (look ! 55 refl)) (and-then ! (load ! (from ! (stop !)) (look ! 53 refl)) (and-then ! (load ! (from ! (stop !)) (look ! 51 refl)) (and-then ! (load ! (from ! (stop !)) (look ! 49 refl)) (and-then ! (load ! (from ! (stop !)) (look ! 25 refl)) (and-then ! (load ! (from ! (stop !)) (look ! 21 refl)) (and-then ! (load ! (from ! (stop !)) (look ! 67 refl)) (and-then ! (load ! (from ! (stop !)) (look ! 65 refl)) (and-then ! (load ! (from ! (stop !)) (look ! 63 refl)) (and-then ! (load ! (from ! (stop !)) (look ! 61 refl)) (and-then ! (load ! (from ! (stop !)) (look ! 59 refl)) (no-more !))))))))))))) (λ u.
+        use2 W (raw (ByValue 𝓤 H A mem run .pre (to-call v₂ v₅ v₃ (N.val c)))) (asks-call (is₁ .1) v₂ v₅ v₃ (N.val c) is₂ is₅ is₃ is₈) $
+        calls-at ! fm (ByValue 𝓤 H A mem run) known-call (to-call v₂ v₅ v₃ (N.val c)) (and-then ! (load ! (from ! (stop !)) (look ! 55 refl)) (and-then ! (load ! (from ! (stop !)) (look ! 53 refl)) (and-then ! (load ! (from ! (stop !)) (look ! 51 refl)) (and-then ! (load ! (from ! (stop !)) (look ! 49 refl)) (and-then ! (load ! (from ! (stop !)) (look ! 57 refl)) (and-then ! (load ! (from ! (stop !)) (look ! 25 refl)) (and-then ! (load ! (from ! (stop !)) (look ! 21 refl)) (and-then ! (load ! (from ! (stop !)) (look ! 67 refl)) (and-then ! (load ! (from ! (stop !)) (look ! 65 refl)) (and-then ! (load ! (from ! (stop !)) (look ! 63 refl)) (and-then ! (load ! (from ! (stop !)) (look ! 61 refl)) (and-then ! (load ! (from ! (stop !)) (look ! 59 refl)) (no-more !))))))))))))) (λ u.
         use1 W (later (some (λ (r : Changed). (Toks ⊛ ‵ (D.the-row .own r (u ∷ []))) ⊛ some (λ (ws : Lasts call.ended κs₁ a₁). ‵ (lasts call.ended κs₁ a₁ ws) ⊛ raw (fact 𝓤 (WriteOn (rowOf ticket ys) (rowAt ys (rowOf ticket ys)) (loaded ys) h c items writes stamps classes places item value r (ws .1 .1 .1 .1 .1 .0) (ws .1 .1 .1 .1 .1 .1 .0))))))) (id⊢ 𝓤 _) $ await ! tt $ pick ! (λ r. split ! $ move ! (1 ∷ []) $ pick ! (λ ws.
         split ! $ move ! (1 ∷ []) $ heard ! (WriteOn (rowOf ticket ys) (rowAt ys (rowOf ticket ys)) (loaded ys) h c items writes stamps classes places item value r (ws .1 .1 .1 .1 .1 .0) (ws .1 .1 .1 .1 .1 .1 .0)) (λ said. fsplit ! $ drop ! $ fsplit ! $ drop ! $ fsplit ! $ drop ! $ fsplit ! $ drop ! $ fsplit ! $ drop ! $ nothing ! $ fjoin ! $ move ! (1 ∷ []) $ split ! $ move ! (1 ∷ []) $
         peeks ! D.the-row (Is D.the-row) (shows 𝓤 H A D.the-row) r (u ∷ []) (λ is. drop ! $
@@ -220,37 +233,37 @@ module _ {M : Type 1} (𝓤 : URA M) (H : Heap 𝓤) (A : Atoms 𝓤) (W : Given
         when ! (load ! (from ! (stop !)) (look ! 44 refl)) (λ taken₀.
         assigns ! (addr ! (from ! (fld ! refl (hop ! (look-in ! 80 (sub ! 0 refl (whole !))) (stop !))))) (from ! (stop !)) (init ! 18 refl (tt, tt)) $
         assigns ! (agg ! (and-then ! (load ! (from ! (stop !)) (look ! 18 refl)) (and-then ! (load ! (from ! (fld ! refl (stop !))) (look-in ! 80 (sub ! 1 refl (whole !)))) (no-more !)))) (from ! (stop !)) (init ! 16 refl (tt, (tt, (record { fits = room₀ .0 }, tt)))) $
-        move ! (6 ∷ 7 ∷ []) $
-        calls-lending ! fm (slice-lent R b₀ o₀ κ₀ q₀ γ₀ ys W room₀ (set ys (rowOf ticket ys) closed) (length-set ys (rowOf ticket ys) closed)) (End 𝓤 H A mem run) known-end (to-end 𝓤 H A W mem run b₀ o₀ ys (rowOf ticket ys) (is₁ .1)) (asks-end 𝓤 H A W mem run b₀ o₀ ys (rowOf ticket ys) (is₁ .1)) (λ u. u ≡ vunit) (gives-end 𝓤 H A W mem run b₀ o₀ ys (rowOf ticket ys) (is₁ .1))
-        (λ ν δ i j. (and-then ! (load ! (from ! (stop !)) (look ! 16 refl)) (and-then ! (load ! (from ! (stop !)) (look ! 58 refl)) (no-more !)))) (λ w₁ e₁. land ! (from ! (stop !)) (init ! 20 refl (unit-typed w₁ e₁)) $
-        assigns ! (addr ! (from ! (hop ! (look ! 76 refl) (stop !)))) (from ! (stop !)) (init ! 14 refl (tt, tt)) $
         move ! (4 ∷ 5 ∷ []) $
+        calls-lending ! fm (slice-lent R b₀ o₀ κ₀ q₀ γ₀ ys W room₀ (set ys (rowOf ticket ys) closed) (length-set ys (rowOf ticket ys) closed)) (End 𝓤 H A mem run) known-end (to-end 𝓤 H A W mem run b₀ o₀ ys (rowOf ticket ys) (is₁ .1)) (asks-end 𝓤 H A W mem run b₀ o₀ ys (rowOf ticket ys) (is₁ .1)) (λ u. u ≡ vunit) (gives-end 𝓤 H A W mem run b₀ o₀ ys (rowOf ticket ys) (is₁ .1))
+        (λ ν δ i j. (and-then ! (load ! (from ! (stop !)) (look ! 16 refl)) (and-then ! (load ! (from ! (stop !)) (look ! 56 refl)) (no-more !)))) (λ w₁ e₁. land ! (from ! (stop !)) (init ! 20 refl (unit-typed w₁ e₁)) $
+        assigns ! (addr ! (from ! (hop ! (look ! 76 refl) (stop !)))) (from ! (stop !)) (init ! 14 refl (tt, tt)) $
+        move ! (6 ∷ 7 ∷ []) $
         calls-lending ! fm (ref-lent N.R b₂ o₂ κ₂ q₂ γ₂ c W (withAborted c (r .counts .aborted))) (StoreOne 𝓤 H A mem run N.counts N.aborted) known-aborted (to-store-one 𝓤 H A W mem run N.counts N.aborted b₂ o₂ c (r .counts .aborted) (LL.owed Q.the-type Q′.the-laws (r .counts) _ (fields .1 .0) .1 .1 .1 .1 .1 .1 .1 .0 .1)) (asks-store-one 𝓤 H A W mem run N.counts N.aborted b₂ o₂ c (r .counts .aborted) (LL.owed Q.the-type Q′.the-laws (r .counts) _ (fields .1 .0) .1 .1 .1 .1 .1 .1 .1 .0 .1)) (λ u. u ≡ vunit) (gives-store-one 𝓤 H A W mem run N.counts N.aborted b₂ o₂ c (r .counts .aborted) (LL.owed Q.the-type Q′.the-laws (r .counts) _ (fields .1 .0) .1 .1 .1 .1 .1 .1 .1 .0 .1))
         (λ ν δ i j. (and-then ! (load ! (from ! (stop !)) (look ! 14 refl)) (and-then ! (load ! (from ! (fld ! refl (fld ! refl (stop !)))) (look-in ! 48 (sub ! 7 refl (sub ! 1 refl (whole !))))) (no-more !)))) (λ w₂ e₂. land ! (from ! (stop !)) (store ! 20 refl (unit-typed w₂ e₂)) $
         assigns ! (of-opd ! (lit ! tt)) (from ! (stop !)) (init ! 82 refl (tt, record { fits = omega arith })) $
         returns-within ! Post refl (look ! 82 refl) $
         frees-all ! (_ ∷ _ ∷ _ ∷ _ ∷ _ ∷ _ ∷ _ ∷ _ ∷ []) (room _ _ ∷ room _ _ ∷ room _ _ ∷ cell _ _ _ ∷ cell _ _ _ ∷ cell _ _ _ ∷ cell _ _ _ ∷ cell _ _ _ ∷ cell _ _ _ ∷ cell _ _ _ ∷ cell _ _ _ ∷ cell _ _ _ ∷ cell _ _ _ ∷ cell _ _ _ ∷ cell _ _ _ ∷ cell _ _ _ ∷ cell _ _ _ ∷ cell _ _ _ ∷ cell _ _ _ ∷ cell _ _ _ ∷ cell _ _ _ ∷ cell _ _ _ ∷ cell _ _ _ ∷ cell _ _ _ ∷ cell _ _ _ ∷ cell _ _ _ ∷ cell _ _ _ ∷ cell _ _ _ ∷ cell _ _ _ ∷ cell _ _ _ ∷ cell _ _ _ ∷ cell _ _ _ ∷ cell _ _ _ ∷ cell _ _ _ ∷ cell _ _ _ ∷ cell _ _ _ ∷ cell _ _ _ ∷ cell _ _ _ ∷ []) $ free0 ! $
         move ! (2 ∷ 3 ∷ 6 ∷ 7 ∷ 0 ∷ 1 ∷ 5 ∷ 4 ∷ []) $
-        by ! (ends _ (9) (set ys (rowOf ticket ys) closed) (withAborted c (r .counts .aborted)) (ws .1 .1 .1 .1 .1 .0) (ws .1 .1 .1 .1 .1 .1 .0) (refl, omega arith) (length-set ys (rowOf ticket ys) closed) (write-stale ys h c ticket items writes stamps classes places item value r (ws .1 .1 .1 .1 .1 .0) (ws .1 .1 .1 .1 .1 .1 .0) six said (eqb→eq (r .number) 9 taken₀))))))
+        by ! (ends _ (9) (set ys (rowOf ticket ys) closed) (withAborted c (r .counts .aborted)) (ws .1 .1 .1 .1 .1 .0) (ws .1 .1 .1 .1 .1 .1 .0) (refl, omega arith) (length-set ys (rowOf ticket ys) closed) (write-stale ys h c ticket items writes stamps classes places item value r (ws .1 .1 .1 .1 .1 .0) (ws .1 .1 .1 .1 .1 .1 .0) ours six said (eqb→eq (r .number) 9 taken₀))))))
         (λ over₀.
         assigns ! (bin ! (load ! (from ! (fld ! refl (stop !))) (look-in ! 48 (sub ! 0 refl (whole !)))) (lit ! tt) tt) (from ! (stop !)) (store ! 44 refl (tt, tt)) $
         when ! (load ! (from ! (stop !)) (look ! 44 refl)) (λ taken₁.
         assigns ! (of-opd ! (load ! (from ! (fld ! refl (stop !))) (look-in ! 48 (sub ! 0 refl (whole !))))) (from ! (stop !)) (init ! 82 refl (tt, record { fits = fields .0 .1 })) $
         returns-within ! Post refl (look ! 82 refl) $
         frees-all ! (_ ∷ _ ∷ _ ∷ _ ∷ _ ∷ _ ∷ _ ∷ _ ∷ []) (room _ _ ∷ room _ _ ∷ room _ _ ∷ room _ _ ∷ room _ _ ∷ room _ _ ∷ room _ _ ∷ cell _ _ _ ∷ cell _ _ _ ∷ cell _ _ _ ∷ cell _ _ _ ∷ cell _ _ _ ∷ cell _ _ _ ∷ cell _ _ _ ∷ cell _ _ _ ∷ cell _ _ _ ∷ cell _ _ _ ∷ cell _ _ _ ∷ cell _ _ _ ∷ cell _ _ _ ∷ cell _ _ _ ∷ cell _ _ _ ∷ cell _ _ _ ∷ cell _ _ _ ∷ cell _ _ _ ∷ cell _ _ _ ∷ cell _ _ _ ∷ cell _ _ _ ∷ cell _ _ _ ∷ cell _ _ _ ∷ cell _ _ _ ∷ cell _ _ _ ∷ cell _ _ _ ∷ cell _ _ _ ∷ cell _ _ _ ∷ cell _ _ _ ∷ cell _ _ _ ∷ cell _ _ _ ∷ []) $ free0 ! $
-        move ! (6 ∷ 7 ∷ 4 ∷ 5 ∷ 2 ∷ 3 ∷ 1 ∷ 0 ∷ []) $
-        by ! (ends _ (r .number) ys c (ws .1 .1 .1 .1 .1 .0) (ws .1 .1 .1 .1 .1 .1 .0) (fields .0) refl (write-kept ys h c ticket items writes stamps classes places item value r (ws .1 .1 .1 .1 .1 .0) (ws .1 .1 .1 .1 .1 .1 .0) six said (missed (r .number) 9 over₀) (unequal (r .number) 0 taken₁))))
+        move ! (4 ∷ 5 ∷ 2 ∷ 3 ∷ 6 ∷ 7 ∷ 1 ∷ 0 ∷ []) $
+        by ! (ends _ (r .number) ys c (ws .1 .1 .1 .1 .1 .0) (ws .1 .1 .1 .1 .1 .1 .0) (fields .0) refl (write-kept ys h c ticket items writes stamps classes places item value r (ws .1 .1 .1 .1 .1 .0) (ws .1 .1 .1 .1 .1 .1 .0) ours six said (missed (r .number) 9 over₀) (unequal (r .number) 0 taken₁))))
         (λ over₁.
         assigns ! (addr ! (from ! (fld ! refl (hop ! (look-in ! 80 (sub ! 0 refl (whole !))) (stop !))))) (from ! (stop !)) (init ! 10 refl (tt, tt)) $
         assigns ! (agg ! (and-then ! (load ! (from ! (stop !)) (look ! 10 refl)) (and-then ! (load ! (from ! (fld ! refl (stop !))) (look-in ! 80 (sub ! 1 refl (whole !)))) (no-more !)))) (from ! (stop !)) (init ! 8 refl (tt, (tt, (record { fits = room₀ .0 }, tt)))) $
-        move ! (6 ∷ 7 ∷ []) $
+        move ! (4 ∷ 5 ∷ []) $
         calls-lending ! fm (slice-lent R b₀ o₀ κ₀ q₀ γ₀ ys W room₀ (set ys (rowOf ticket ys) (withWrites (rowAt ys (rowOf ticket ys)) (r .row .writes))) (length-set ys (rowOf ticket ys) (withWrites (rowAt ys (rowOf ticket ys)) (r .row .writes)))) (SetWrites 𝓤 H A mem run) known-writes (to-writes 𝓤 H A W mem run b₀ o₀ ys (rowOf ticket ys) (is₁ .1) (r .row .writes) (LL.owed T.the-type T′.the-laws (r .row) _ (fields .1 .1 .0) .1 .1 .1 .0 .1)) (asks-writes 𝓤 H A W mem run b₀ o₀ ys (rowOf ticket ys) (is₁ .1) (r .row .writes) (LL.owed T.the-type T′.the-laws (r .row) _ (fields .1 .1 .0) .1 .1 .1 .0 .1)) (λ u. u ≡ vunit) (gives-writes 𝓤 H A W mem run b₀ o₀ ys (rowOf ticket ys) (is₁ .1) (r .row .writes) (LL.owed T.the-type T′.the-laws (r .row) _ (fields .1 .1 .0) .1 .1 .1 .0 .1))
-        (λ ν δ i j. (and-then ! (load ! (from ! (stop !)) (look ! 8 refl)) (and-then ! (load ! (from ! (stop !)) (look ! 58 refl)) (and-then ! (load ! (from ! (fld ! refl (fld ! refl (stop !)))) (look-in ! 48 (sub ! 3 refl (sub ! 2 refl (whole !))))) (no-more !))))) (λ w₁ e₁. land ! (from ! (stop !)) (init ! 12 refl (unit-typed w₁ e₁)) $
+        (λ ν δ i j. (and-then ! (load ! (from ! (stop !)) (look ! 8 refl)) (and-then ! (load ! (from ! (stop !)) (look ! 56 refl)) (and-then ! (load ! (from ! (fld ! refl (fld ! refl (stop !)))) (look-in ! 48 (sub ! 3 refl (sub ! 2 refl (whole !))))) (no-more !))))) (λ w₁ e₁. land ! (from ! (stop !)) (init ! 12 refl (unit-typed w₁ e₁)) $
         assigns ! (of-opd ! (lit ! tt)) (from ! (stop !)) (init ! 82 refl (tt, record { fits = omega arith })) $
         returns ! (look ! 82 refl) $
         frees-all ! (_ ∷ _ ∷ _ ∷ _ ∷ _ ∷ _ ∷ _ ∷ _ ∷ []) (cell _ _ _ ∷ cell _ _ _ ∷ cell _ _ _ ∷ room _ _ ∷ room _ _ ∷ room _ _ ∷ room _ _ ∷ cell _ _ _ ∷ cell _ _ _ ∷ cell _ _ _ ∷ cell _ _ _ ∷ cell _ _ _ ∷ cell _ _ _ ∷ cell _ _ _ ∷ cell _ _ _ ∷ cell _ _ _ ∷ cell _ _ _ ∷ cell _ _ _ ∷ cell _ _ _ ∷ cell _ _ _ ∷ cell _ _ _ ∷ cell _ _ _ ∷ cell _ _ _ ∷ cell _ _ _ ∷ cell _ _ _ ∷ cell _ _ _ ∷ cell _ _ _ ∷ cell _ _ _ ∷ cell _ _ _ ∷ cell _ _ _ ∷ cell _ _ _ ∷ cell _ _ _ ∷ cell _ _ _ ∷ cell _ _ _ ∷ cell _ _ _ ∷ cell _ _ _ ∷ cell _ _ _ ∷ cell _ _ _ ∷ []) $ free0 ! $
-        move ! (0 ∷ 1 ∷ 6 ∷ 7 ∷ 4 ∷ 5 ∷ 3 ∷ 2 ∷ []) $
-        by ! (ends _ (0) (set ys (rowOf ticket ys) (withWrites (rowAt ys (rowOf ticket ys)) (r .row .writes))) c (ws .1 .1 .1 .1 .1 .0) (ws .1 .1 .1 .1 .1 .1 .0) (refl, omega arith) (length-set ys (rowOf ticket ys) (withWrites (rowAt ys (rowOf ticket ys)) (r .row .writes))) (write-did ys h c ticket items writes stamps classes places item value r (ws .1 .1 .1 .1 .1 .0) (ws .1 .1 .1 .1 .1 .1 .0) six said (missed (r .number) 9 over₀) (equal (r .number) 0 over₁)))))))))))))))))))))))))))))))))))))))))))))))))))))))
+        move ! (0 ∷ 1 ∷ 4 ∷ 5 ∷ 6 ∷ 7 ∷ 3 ∷ 2 ∷ []) $
+        by ! (ends _ (0) (set ys (rowOf ticket ys) (withWrites (rowAt ys (rowOf ticket ys)) (r .row .writes))) c (ws .1 .1 .1 .1 .1 .0) (ws .1 .1 .1 .1 .1 .1 .0) (refl, omega arith) (length-set ys (rowOf ticket ys) (withWrites (rowAt ys (rowOf ticket ys)) (r .row .writes))) (write-did ys h c ticket items writes stamps classes places item value r (ws .1 .1 .1 .1 .1 .0) (ws .1 .1 .1 .1 .1 .1 .0) ours six said (missed (r .number) 9 over₀) (equal (r .number) 0 over₁))))))))))))))))))))))))))))))))))))))))))))))))))))))))
 
 module _ {M : Type 1} (𝓤 : URA M) (H : Heap 𝓤) (A : Atoms 𝓤) (W : Given 𝓤 H A) (mem : Memory → SProp 𝓤) (run : Routine → Fun 𝓤) (𝓣 : Tables 𝓤 H)
     (g-load : Triple 𝓤 (𝓣 .C #load) (Load 𝓤 H A mem run)) (g-find : Triple 𝓤 (𝓣 .C #find) (Find 𝓤 H A mem run)) (g-row : Triple 𝓤 (𝓣 .C #row) (Row 𝓤 H A mem run)) (g-end : Triple 𝓤 (𝓣 .C #end) (End 𝓤 H A mem run)) (g-writes : Triple 𝓤 (𝓣 .C #writes) (SetWrites 𝓤 H A mem run)) (g-copy : Triple 𝓤 (𝓣 .C #copy) (CopyOut 𝓤 H A mem run U.turn)) (g-copied : Triple 𝓤 (𝓣 .C #copied) (CopyOut 𝓤 H A mem run N.counts)) (g-aborted : Triple 𝓤 (𝓣 .C #aborted) (StoreOne 𝓤 H A mem run N.counts N.aborted)) (g-call : Triple 𝓤 (𝓣 .C #call) (ByValue 𝓤 H A mem run)) where

@@ -2,8 +2,8 @@
 
 use model::block::{ENTRIES, MAX_TICKET};
 use model::refusal::{
-    ALL_OPEN, APPLYING, LOCKED, NOT_ACTIVE, NOT_OPEN, OUT_OF_RANGE, STALE, TICKETS_SPENT,
-    WRITESET_FULL,
+    ALL_OPEN, APPLYING, LOCKED, NOT_ACTIVE, NOT_OPEN, OUT_OF_RANGE, STALE, STATION_ONLY_READS,
+    TICKETS_SPENT, WRITESET_FULL,
 };
 use model::replica::ITEMS;
 
@@ -38,6 +38,9 @@ impl Replica {
 
     /// Puts the item with its value into the writeset.
     pub fn write(&mut self, ticket: u32, item: u32, value: i32) -> Result<(), u8> {
+        if self.is_station() {
+            return Err(STATION_ONLY_READS);
+        }
         let item = in_range(item)?;
         let r = self.active(ticket)?;
         if self.applying && self.is_to_come(item) {

@@ -3,7 +3,7 @@
 use model::block::{self, Header, BLOCK, NEXT, TO_COMMIT};
 use model::refusal::{
     ALREADY_SENT, FAR_SLOT, NOTHING_WAITS, NOT_OPEN_AS_SENT, NOT_OUR_TURN, NOT_SENT, PAST_SLOT,
-    SLOTS_SPENT, SLOT_TAKEN, WRONG_GROUP,
+    SLOTS_SPENT, SLOT_TAKEN, STATION_ONLY_READS, WRONG_GROUP,
 };
 use model::replica::SLOTS;
 
@@ -12,6 +12,9 @@ use super::{Replica, Stage, Work, OPEN};
 impl Replica {
     /// The block for the own slot at the turn.
     pub fn send(&mut self) -> Result<[u8; BLOCK], u8> {
+        if self.is_station() {
+            return Err(STATION_ONLY_READS);
+        }
         if self.turn == SLOTS {
             return Err(SLOTS_SPENT);
         }

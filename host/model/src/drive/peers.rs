@@ -1,4 +1,4 @@
-//! One replica among forged peers: the calls that it gets.
+//! One replica or station among forged peers: the calls that it gets.
 
 use super::{local_call, Seen, Style, Tally};
 use crate::block::{self, Entry, Message, Record, BLOCK, MAX_TICKET, NEXT, TO_COMMIT};
@@ -22,9 +22,18 @@ pub struct Peers {
 impl Peers {
     /// The peers of a replica in a group of `n`, of which no call is seen yet.
     pub fn new(n: u32, own: u32, report: Report) -> Peers {
+        Peers::with(n, Tally::new(own as usize, report))
+    }
+
+    /// The peers of a station beside a group of `n`, of which no call is seen yet.
+    pub fn of_station(n: u32, report: Report) -> Peers {
+        Peers::with(n, Tally::of_station(report))
+    }
+
+    fn with(n: u32, tally: Tally) -> Peers {
         Peers {
             n,
-            tally: Tally::new(own as usize, report),
+            tally,
             seen: Seen::default(),
             recent: Vec::new(),
             own: None,

@@ -75,7 +75,7 @@ impl Powered for Machine {
 }
 
 impl<S: Powered> Group<S> {
-    /// Cuts a member's power and restarts it. The cut may end a call: of that nothing is left but what
+    /// Cuts a replica's power and restarts it. The cut may end a call: of that nothing is left but what
     /// it appended, if that. `length` says how many bytes are left on the disk; it is given the floor
     /// and the bytes that are there.
     pub fn cut(
@@ -91,7 +91,7 @@ impl<S: Powered> Group<S> {
         let disk = self.members[k].disk();
         let left = length(floor, disk.len());
         let restart = Restart {
-            n: self.members.len() as u32,
+            n: self.replicas as u32,
             own: k as u32,
             values: start_values().to_vec(),
             journal: disk[..left].to_vec(),
@@ -111,9 +111,9 @@ impl<S: Powered> Group<S> {
         restarted
     }
 
-    /// A cut at a random member, which ends a call or none and leaves some bytes at or above the floor.
+    /// A cut at a random replica, which ends a call or none and leaves some bytes at or above the floor.
     pub fn random_cut(&mut self, random: &mut Random) {
-        let any = random.below(self.members.len());
+        let any = random.below(self.replicas);
         let (k, ended) = match random.below(3) {
             0 => (any, None),
             1 => (any, Some(Call::Work)),

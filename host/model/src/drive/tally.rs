@@ -5,7 +5,7 @@ use crate::journal;
 use crate::replica::{Replica, Report, Restarted, ITEMS};
 use crate::trace::{Answer, Call, Restart};
 
-/// A replica under test: the model's, or another that is compared with it.
+/// A replica or station under test: the model's, or another that is compared with it.
 pub trait Subject {
     /// Makes a call; an error is the number that refuses it.
     fn call(&mut self, call: &Call) -> Result<Answer, u8>;
@@ -27,10 +27,10 @@ impl Subject for Replica {
     }
 }
 
-/// What the answers of one replica amount to.
+/// What the answers of one replica or station amount to.
 #[derive(Clone)]
 pub struct Tally {
-    own: u8,
+    own: Option<u8>,
     /// The report that is due.
     pub report: Report,
     /// The tickets open.
@@ -41,10 +41,23 @@ impl Tally {
     /// Of a replica of which no call is seen yet.
     pub fn new(own: usize, report: Report) -> Tally {
         Tally {
-            own: own as u8,
+            own: Some(own as u8),
+            ..Tally::of_station(report)
+        }
+    }
+
+    /// Of a station of which no call is seen yet.
+    pub fn of_station(report: Report) -> Tally {
+        Tally {
+            own: None,
             report,
             open: Vec::new(),
         }
+    }
+
+    /// Whether it is a station's.
+    pub fn is_station(&self) -> bool {
+        self.own.is_none()
     }
 
     /// Takes in a call and its answer.
@@ -71,7 +84,7 @@ impl Tally {
                 report.turn += u32::from(work.moved);
                 report.commits += u32::from(work.ticket != 0);
                 report.aborted += work.aborted.len() as u32;
-                let own = work.sender == self.own && work.ticket != 0;
+                let own = self.own == Some(work.sender) && work.ticket != 0;
                 report.committed += u32::from(own);
                 if own {
                     self.close(work.ticket);
@@ -95,7 +108,7 @@ impl Tally {
         let (mut commits, mut own) = (0, Vec::new());
         for message in messages {
             commits += message.records.len() as u32;
-            if message.sender == self.own {
+            if self.own == Some(message.sender) {
                 own.extend(message.records.iter().map(|record| record.ticket));
             }
         }
@@ -122,7 +135,7 @@ pub struct Seen {
     /// The calls made.
     pub calls: u64,
     /// By refusal number.
-    pub refused: [u64; 24],
+    pub refused: [u64; 26],
     /// Writesets committed, at whatever replica.
     pub commits: u64,
     /// Transactions aborted by a work.
@@ -137,6 +150,12 @@ pub struct Seen {
     pub sent: [u64; 7],
     /// Blocks taken by a deliver.
     pub delivered: u64,
+    /// Blocks handed out that a replica refused by 18: none, if the premises hold.
+    pub far_at_replicas: u64,
+    /// Blocks handed out that a station refused by 18, which its caller is to offer it again.
+    pub far_at_stations: u64,
+    /// Of these, the blocks that the station took later.
+    pub offered_again: u64,
     /// Restarts.
     pub restarts: u64,
     /// Blocks first handed out by a restart, because a cut ended their send.
@@ -178,12 +197,17 @@ impl Seen {
         self.read_only += other.read_only;
         self.withdrawn += other.withdrawn;
         self.delivered += other.delivered;
+        self.far_at_replicas += other.far_at_replicas;
+        self.far_at_stations += other.far_at_stations;
+        self.offered_again += other.offered_again;
         self.restarts += other.restarts;
         self.sent_by_restart += other.sent_by_restart;
     }
 
     /// The refusal numbers met at least `least` times.
     pub fn numbers(&self, least: u64) -> Vec<usize> {
-        (1..24).filter(|&n| self.refused[n] >= least).collect()
+        (1..self.refused.len())
+            .filter(|&n| self.refused[n] >= least)
+            .collect()
     }
 }

@@ -7,7 +7,7 @@ use crate::replica::{Report, ITEMS};
 
 impl Observer {
     /// The sentences of demand 3 that do not hold after the calls so far, in words. `ends` has
-    /// report and values of each replica.
+    /// report and values of each member.
     pub fn violations(&self, ends: &[(Report, [i32; ITEMS])]) -> Vec<String> {
         let sequence: Vec<(u32, &Writeset)> = self
             .sent
@@ -15,26 +15,27 @@ impl Observer {
             .flat_map(|(&slot, writesets)| writesets.iter().map(move |w| (slot, w)))
             .collect();
         let mut broken = self.broken.clone();
-        for (replica, (report, values)) in ends.iter().enumerate() {
-            self.check_commits(replica, report, &sequence, &mut broken);
-            self.check_values(replica, report, values, &sequence, &mut broken);
+        for (member, (report, values)) in ends.iter().enumerate() {
+            self.check_commits(member, report, &sequence, &mut broken);
+            self.check_values(member, report, values, &sequence, &mut broken);
         }
         self.check_history(&sequence, &mut broken);
         broken
     }
 
-    /// A replica's commits against the sequence.
+    /// A member's commits against the sequence.
     fn check_commits(
         &self,
-        replica: usize,
+        member: usize,
         report: &Report,
         sequence: &[(u32, &Writeset)],
         broken: &mut Vec<String>,
     ) {
-        let commits = &self.commits[replica];
+        let commits = &self.commits[member];
         if commits.len() != report.commits as usize {
             broken.push(format!(
-                "replica {replica}: it reports {} commits, its works named {}",
+                "{}: it reports {} commits, its works named {}",
+                self.name(member),
                 report.commits,
                 commits.len()
             ));
@@ -43,8 +44,9 @@ impl Observer {
             let due = sequence.get(at).map(|(_, w)| (w.sender, w.ticket));
             if due != Some((sender, ticket)) {
                 broken.push(format!(
-                    "replica {replica}: its commit {} is ticket {ticket} of replica {sender}, the \
-                     sequence has {due:?}",
+                    "{}: its commit {} is ticket {ticket} of replica {sender}, the sequence has \
+                     {due:?}",
+                    self.name(member),
                     at + 1
                 ));
                 break;
@@ -53,18 +55,18 @@ impl Observer {
         let below = sequence.partition_point(|&(slot, _)| slot < report.turn);
         if commits.len() < below {
             broken.push(format!(
-                "replica {replica}: {below} writesets were sent for slots below its turn {}, it \
-                 committed {}",
+                "{}: {below} writesets were sent for slots below its turn {}, it committed {}",
+                self.name(member),
                 report.turn,
                 commits.len()
             ));
         }
     }
 
-    /// A replica's values against the sequence.
+    /// A member's values against the sequence.
     fn check_values(
         &self,
-        replica: usize,
+        member: usize,
         report: &Report,
         values: &[i32; ITEMS],
         sequence: &[(u32, &Writeset)],
@@ -80,8 +82,11 @@ impl Observer {
         }
         if let Some(item) = (0..ITEMS).find(|&item| values[item] != due[item]) {
             broken.push(format!(
-                "replica {replica}: item {item} is {}, after {} writesets of the sequence it is {}",
-                values[item], report.commits, due[item]
+                "{}: item {item} is {}, after {} writesets of the sequence it is {}",
+                self.name(member),
+                values[item],
+                report.commits,
+                due[item]
             ));
         }
     }
@@ -119,9 +124,13 @@ impl Observer {
             };
             if due != Some(read.value) {
                 broken.push(format!(
-                    "replica {}: ticket {} read {} from item {}, after {} writesets of the \
-                     sequence it is {due:?}",
-                    read.replica, read.ticket, read.value, read.item, read.snapshot
+                    "{}: ticket {} read {} from item {}, after {} writesets of the sequence it is \
+                     {due:?}",
+                    self.name(read.member),
+                    read.ticket,
+                    read.value,
+                    read.item,
+                    read.snapshot
                 ));
             }
         }

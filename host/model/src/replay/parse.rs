@@ -14,6 +14,10 @@ pub(super) enum Line {
         own: u32,
         value: i32,
     },
+    Station {
+        n: u32,
+        value: i32,
+    },
     /// A restart from the first bytes of the place's own journal.
     Cut {
         bytes: u32,
@@ -50,6 +54,10 @@ pub(super) fn line(line: &[u8]) -> Option<(usize, Line)> {
         (b"M", [n, own, value]) => Line::Make {
             n: number(n)?,
             own: number(own)?,
+            value: number(value)?,
+        },
+        (b"A", [n, value]) => Line::Station {
+            n: number(n)?,
             value: number(value)?,
         },
         (b"Z", [bytes, value]) => Line::Cut {

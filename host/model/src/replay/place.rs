@@ -1,4 +1,4 @@
-//! A replica of the program, and the journal that is kept of it.
+//! A replica or station of the program, and the journal that is kept of a replica.
 
 use crate::block::BLOCK;
 use crate::replica::{Replica, ITEMS};
@@ -10,7 +10,7 @@ pub const JOURNAL: usize = 128;
 #[derive(Clone, Debug, PartialEq, Eq)]
 pub(super) struct Place {
     pub replica: Replica,
-    /// What was appended, in bytes; `None` where that was more than is kept.
+    /// What was appended, in bytes; `None` where that was more than is kept, and at a station.
     journal: Option<Vec<u8>>,
 }
 
@@ -20,6 +20,14 @@ impl Place {
         Ok(Place {
             replica: Replica::make(n, own, &[value; ITEMS])?,
             journal: Some(Vec::new()),
+        })
+    }
+
+    /// A station, with all values the same.
+    pub fn station(n: u32, value: i32) -> Result<Place, u8> {
+        Ok(Place {
+            replica: Replica::station(n, &[value; ITEMS])?,
+            journal: None,
         })
     }
 
@@ -53,7 +61,7 @@ impl Place {
         Ok(answer)
     }
 
-    /// The journal, if all of it is kept.
+    /// The journal, if there is one and all of it is kept.
     pub fn journal(&self) -> Option<&[u8]> {
         self.journal.as_deref()
     }

@@ -1,6 +1,7 @@
 //! The format, line by line.
 
 mod restarts;
+mod stations;
 
 use super::*;
 use crate::replica::ITEMS;
@@ -137,7 +138,7 @@ fn numbers() {
         let lines = "W 0 1 5 *|M 0 2 0 *".replace('*', value);
         check_rejected(&replay, lines.split('|'));
     }
-    let lines = "Q 6|Q 10|Q 256|Q 4294967295|M 6 2 0 0|F 0 0 4096|F 0 0 8192|F 0 0 65536";
+    let lines = "Q 8|Q 10|Q 256|Q 4294967295|M 8 2 0 0|A 8 2 0|F 0 0 4096|F 0 0 8192|F 0 0 65536";
     check_rejected(&replay, lines.split('|'));
     check(
         &mut replay.clone(),

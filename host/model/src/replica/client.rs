@@ -5,8 +5,8 @@ use std::collections::BTreeMap;
 use super::{Replica, Report, Stage, Transaction, ITEMS, OPEN};
 use crate::block::{ENTRIES, MAX_TICKET};
 use crate::refusal::{
-    ALL_OPEN, APPLYING, LOCKED, NOT_ACTIVE, NOT_OPEN, OUT_OF_RANGE, STALE, TICKETS_SPENT,
-    WRITESET_FULL,
+    ALL_OPEN, APPLYING, LOCKED, NOT_ACTIVE, NOT_OPEN, OUT_OF_RANGE, STALE, STATION_ONLY_READS,
+    TICKETS_SPENT, WRITESET_FULL,
 };
 
 impl Replica {
@@ -38,9 +38,12 @@ impl Replica {
         Ok(written.unwrap_or(transaction.values[usize::from(item)]))
     }
 
-    /// Puts the item with its value into the writeset. Refused by 2, 3, 4, 7 and, if the
+    /// Puts the item with its value into the writeset. Refused by 25, 2, 3, 4, 7 and, if the
     /// transaction does not hold the item already, by 8, 9, 10.
     pub fn write(&mut self, ticket: u32, item: u32, value: i32) -> Result<(), u8> {
+        if self.is_station() {
+            return Err(STATION_ONLY_READS);
+        }
         let item = in_range(item)?;
         let at = self.active(ticket)?;
         if self.must_wait(item) {

@@ -2,7 +2,7 @@
 
 use super::turn::put;
 use super::Replica;
-use crate::block::{self, BLOCK};
+use crate::block::{self, Message, BLOCK};
 use crate::journal;
 
 /// The answer to an accepted [`Replica::restart`].
@@ -39,7 +39,7 @@ impl Replica {
         let mut last_own = [0; BLOCK];
         for bytes in journal::blocks(n, journal) {
             replica.commit_block(bytes);
-            if replica.is_own(bytes) {
+            if replica.is_own(block::header(bytes).sender) {
                 last_own = *bytes;
             }
         }
@@ -54,18 +54,17 @@ impl Replica {
 
     /// Commits a well-formed block of the turn, with all its writesets.
     fn commit_block(&mut self, bytes: &[u8; BLOCK]) {
-        for record in block::message(&block::header(bytes), bytes).records {
+        let Message {
+            sender, records, ..
+        } = block::message(&block::header(bytes), bytes);
+        for record in records {
             self.commits += 1;
             put(&record, self.commits, &mut self.values, &mut self.stamps);
-            if self.is_own(bytes) {
+            if self.is_own(sender) {
                 self.tickets = self.tickets.max(record.ticket);
                 self.committed += 1;
             }
         }
         self.turn += 1;
-    }
-
-    fn is_own(&self, bytes: &[u8; BLOCK]) -> bool {
-        block::header(bytes).sender == self.own
     }
 }

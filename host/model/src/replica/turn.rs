@@ -4,17 +4,18 @@ use super::{Replica, Stage, Transaction, Work, ITEMS, SLOTS};
 use crate::block::{self, Header, Message, Record, BLOCK, NEXT, TO_COMMIT};
 use crate::refusal::{
     ALREADY_SENT, FAR_SLOT, NOTHING_WAITS, NOT_OPEN_AS_SENT, NOT_OUR_TURN, NOT_SENT, PAST_SLOT,
-    SLOTS_SPENT, SLOT_TAKEN, WRONG_GROUP, WRONG_LENGTH,
+    SLOTS_SPENT, SLOT_TAKEN, STATION_ONLY_READS, WRONG_GROUP, WRONG_LENGTH,
 };
 
 impl Replica {
     /// The block for the own slot, with the writesets of all transactions asked so far, in the
-    /// order asked. Refused by 13, 11, 12.
+    /// order asked. Refused by 25, 13, 11, 12.
     pub fn send(&mut self) -> Result<[u8; BLOCK], u8> {
+        let own = self.own.ok_or(STATION_ONLY_READS)?;
         if self.turn == SLOTS {
             return Err(SLOTS_SPENT);
         }
-        if self.owner(self.turn) != usize::from(self.own) {
+        if self.owner(self.turn) != usize::from(own) {
             return Err(NOT_OUR_TURN);
         }
         if self.outbox.is_some() {
@@ -23,7 +24,7 @@ impl Replica {
         let count = self.queue.len() as u8;
         let header = Header {
             kind: if count == 0 { NEXT } else { TO_COMMIT },
-            sender: self.own,
+            sender: own,
             replicas: self.inbox.len() as u8,
             count,
             slot: self.turn,
@@ -46,8 +47,11 @@ impl Replica {
         Ok(block)
     }
 
-    /// As [`Replica::send`], into bytes of the caller. Refused by 1, 13, 11, 12.
+    /// As [`Replica::send`], into bytes of the caller. Refused by 25, 1, 13, 11, 12.
     pub fn send_into(&mut self, bytes: &mut [u8]) -> Result<(), u8> {
+        if self.is_station() {
+            return Err(STATION_ONLY_READS);
+        }
         let bytes: &mut [u8; BLOCK] = bytes.try_into().map_err(|_| WRONG_LENGTH)?;
         *bytes = self.send()?;
         Ok(())
@@ -68,7 +72,7 @@ impl Replica {
             return Err(FAR_SLOT);
         }
         // The whole block is compared, also when some of its writesets are committed already.
-        if header.sender == self.own && self.outbox.as_ref().is_none_or(|sent| sent != bytes) {
+        if self.is_own(header.sender) && self.outbox.as_ref().is_none_or(|sent| sent != bytes) {
             return Err(NOT_SENT);
         }
         let owner = self.owner(header.slot);
@@ -88,12 +92,20 @@ impl Replica {
     }
 
     /// As [`Replica::work`]; and beside the answer, if the turn left the slot of another, that one's
-    /// block, which is to be appended to the journal. An own block stands there since its send.
+    /// block, which is to be appended to the journal. An own block stands there since its send, and a
+    /// station has no journal.
     pub fn work_journaled(&mut self) -> Result<(Work, Option<[u8; BLOCK]>), u8> {
         let (work, left) = self.step()?;
         // A message has one block, so these are the bytes that were delivered.
-        let of_another = left.filter(|message| message.sender != self.own);
+        let of_another = left.filter(|message| !self.is_station() && !self.is_own(message.sender));
         Ok((work, of_another.as_ref().map(block::encode)))
+    }
+
+    /// The block that waits for the turn, if one does: the bytes that were delivered.
+    pub fn waiting(&self) -> Option<[u8; BLOCK]> {
+        self.inbox[self.owner(self.turn)]
+            .as_ref()
+            .map(block::encode)
     }
 
     /// A work, and the message of the slot that the turn left.
@@ -112,7 +124,7 @@ impl Replica {
         };
         work.ticket = record.ticket;
         work.moved = self.done + 1 == message.records.len();
-        if work.sender == self.own {
+        if self.is_own(work.sender) {
             let sent = |t: &Transaction| t.ticket == record.ticket && t.stage == Stage::Sent;
             let at = self.open.iter().position(sent);
             self.open.remove(at.ok_or(NOT_OPEN_AS_SENT)?);
@@ -139,6 +151,11 @@ impl Replica {
     /// The replica that a slot belongs to. Its message waits at that index of the inbox.
     pub(super) fn owner(&self, slot: u32) -> usize {
         slot as usize % self.inbox.len()
+    }
+
+    /// Whether it is this replica that sends under a number. At a station every sender is another.
+    pub(super) fn is_own(&self, sender: u8) -> bool {
+        self.own == Some(sender)
     }
 
     /// Ends the turn, and gives the message of the slot that it was.

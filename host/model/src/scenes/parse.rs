@@ -1,5 +1,6 @@
 //! The lines of a scene, and its commands.
 
+use std::fmt;
 use std::ops::RangeInclusive;
 use std::str::{FromStr, SplitWhitespace};
 
@@ -31,16 +32,36 @@ pub(super) enum Command {
         n: u32,
         value: i32,
     },
+    /// A station; beside the group that is there, if no size is said.
+    MakeStation {
+        n: Option<u32>,
+    },
     Stabilize,
     Values,
     Bytes {
         slot: u32,
         range: RangeInclusive<usize>,
     },
-    At(usize, Local),
+    At(Who, Local),
 }
 
-/// What is done at one replica.
+/// Where something is done.
+#[derive(Clone, Copy, Debug, PartialEq, Eq)]
+pub(super) enum Who {
+    Replica(usize),
+    Station,
+}
+
+impl fmt::Display for Who {
+    fn fmt(&self, f: &mut fmt::Formatter) -> fmt::Result {
+        match self {
+            Who::Replica(k) => write!(f, "replica {k}"),
+            Who::Station => f.write_str("the station"),
+        }
+    }
+}
+
+/// What is done at one replica, or at the station.
 #[derive(Debug)]
 pub(super) enum Local {
     Call(Call),
@@ -204,7 +225,7 @@ impl<'a> Rest<'a> {
     }
 }
 
-/// The commands at one replica, whose number stands behind them.
+/// The commands at one replica, whose number stands behind them, or at the station.
 const LOCAL: [&str; 16] = [
     "begin", "read", "write", "ask", "withdraw", "report", "send", "deliver", "take", "work",
     "load", "restart", "journal", "values", "late", "lose",
@@ -215,6 +236,9 @@ fn command(line: &str) -> Result<Command, String> {
     let mut rest = Rest { words };
     let name = rest.words.next().unwrap_or_default();
     let command = match name {
+        "make" if rest.takes("station") => Command::MakeStation {
+            n: rest.maybe("of")?,
+        },
         "make" => Command::Make {
             n: rest.number()?,
             value: rest.maybe("value")?.unwrap_or(0),
@@ -225,7 +249,13 @@ fn command(line: &str) -> Result<Command, String> {
             slot: rest.named("slot")?,
             range: rest.range("from", BLOCK - 1)?,
         },
-        _ if LOCAL.contains(&name) => Command::At(rest.number()?, local(name, &mut rest)?),
+        _ if LOCAL.contains(&name) => {
+            let who = match rest.takes("station") {
+                true => Who::Station,
+                false => Who::Replica(rest.number()?),
+            };
+            Command::At(who, local(name, &mut rest)?)
+        }
         _ => return Err(unknown(name)),
     };
     rest.end()?;

@@ -1,8 +1,8 @@
-//! The replicas of a scene, and the blocks that they handed out.
+//! The replicas of a scene, its station, and the blocks that were handed out.
 
 use std::collections::BTreeMap;
 
-use super::parse::{Carried, Change, Command, Local, Source};
+use super::parse::{Carried, Change, Command, Local, Source, Who};
 use super::words;
 use super::{Player, Words};
 use crate::block::{self, BLOCK};
@@ -18,18 +18,20 @@ pub(super) struct Playing<P, M> {
     make: M,
     words: Words,
     players: Vec<P>,
+    station: Option<P>,
     /// The value that all items started with.
     start: i32,
     /// What was handed out last for a slot.
     blocks: BTreeMap<u32, Box<[u8; BLOCK]>>,
 }
 
-impl<P: Player, M: Fn(u32, u32, &[i32; ITEMS]) -> Result<P, u8>> Playing<P, M> {
+impl<P: Player, M: Fn(u32, Option<u32>, &[i32; ITEMS]) -> Result<P, u8>> Playing<P, M> {
     pub fn new(make: M, words: Words) -> Playing<P, M> {
         Playing {
             make,
             words,
             players: Vec::new(),
+            station: None,
             start: 0,
             blocks: BTreeMap::new(),
         }
@@ -39,6 +41,7 @@ impl<P: Player, M: Fn(u32, u32, &[i32; ITEMS]) -> Result<P, u8>> Playing<P, M> {
     pub fn play(&mut self, command: &Command) -> Result<Vec<String>, String> {
         match *command {
             Command::Make { n, value } => Ok(self.make(n, value)),
+            Command::MakeStation { n } => self.make_station(n),
             Command::Stabilize => self.stabilize(),
             Command::Values => Ok(self.all_values()),
             Command::Bytes { slot, ref range } => {
@@ -46,10 +49,25 @@ impl<P: Player, M: Fn(u32, u32, &[i32; ITEMS]) -> Result<P, u8>> Playing<P, M> {
                 let digits: Vec<String> = bytes.iter().map(|b| format!("{b:02x}")).collect();
                 Ok(vec![format!("slot {slot} has {}", digits.join(" "))])
             }
-            Command::At(k, ref local) => match k < self.players.len() {
-                true => self.local(k, local),
-                false => Err(format!("replica {k} is not made")),
+            Command::At(who, ref local) => match self.everyone().any(|made| made == who) {
+                true => self.local(who, local),
+                false => Err(format!("{who} is not made")),
             },
+        }
+    }
+
+    /// All that is made, the replicas first.
+    fn everyone(&self) -> impl Iterator<Item = Who> + 'static {
+        let station = self.station.iter().map(|_| Who::Station);
+        let replicas = (0..self.players.len()).map(Who::Replica);
+        replicas.chain(station).collect::<Vec<_>>().into_iter()
+    }
+
+    /// One that is made.
+    fn player(&mut self, who: Who) -> &mut P {
+        match who {
+            Who::Replica(k) => &mut self.players[k],
+            Who::Station => self.station.as_mut().expect("a station is made"),
         }
     }
 
@@ -57,12 +75,13 @@ impl<P: Player, M: Fn(u32, u32, &[i32; ITEMS]) -> Result<P, u8>> Playing<P, M> {
     fn make(&mut self, n: u32, value: i32) -> Vec<String> {
         // A number out of range is refused at the first replica.
         let made: Result<Vec<P>, u8> = (0..n.max(1))
-            .map(|own| (self.make)(n, own, &[value; ITEMS]))
+            .map(|own| (self.make)(n, Some(own), &[value; ITEMS]))
             .collect();
         match made {
-            Err(number) => vec![words::refusal(0, number, self.words)],
+            Err(number) => vec![words::refusal(Who::Replica(0), number, self.words)],
             Ok(players) => {
                 self.players = players;
+                self.station = None;
                 self.start = value;
                 self.blocks.clear();
                 let last = n - 1;
@@ -71,59 +90,83 @@ impl<P: Player, M: Fn(u32, u32, &[i32; ITEMS]) -> Result<P, u8>> Playing<P, M> {
         }
     }
 
-    fn local(&mut self, k: usize, local: &Local) -> Result<Vec<String>, String> {
-        let line = match local {
-            Local::Call(call) => self.call(k, call).0,
-            Local::Deliver(carried) => {
+    /// A station beside the group, with its values. A refused one leaves what was there.
+    fn make_station(&mut self, n: Option<u32>) -> Result<Vec<String>, String> {
+        if self.players.is_empty() {
+            return Err("a station is made beside a group, and none is made".to_string());
+        }
+        let n = n.unwrap_or(self.players.len() as u32);
+        let start = self.start;
+        Ok(match (self.make)(n, None, &[start; ITEMS]) {
+            Err(number) => vec![words::refusal(Who::Station, number, self.words)],
+            Ok(station) => {
+                self.station = Some(station);
+                vec![format!("the station holds all items at {start}")]
+            }
+        })
+    }
+
+    fn local(&mut self, who: Who, local: &Local) -> Result<Vec<String>, String> {
+        let line = match (local, who) {
+            (Local::Call(Call::Load { .. }), Who::Station) => {
+                return Err("a station has no classes".to_string());
+            }
+            (Local::Restart { .. } | Local::Journal, Who::Station) => {
+                return Err("a station has no journal".to_string());
+            }
+            (Local::Call(call), _) => self.call(who, call).0,
+            (Local::Deliver(carried), _) => {
                 let bytes = self.bytes(carried)?;
-                self.call(k, &Call::Deliver { bytes }).0
+                self.call(who, &Call::Deliver { bytes }).0
             }
-            Local::Take(carried) => {
+            (Local::Take(carried), _) => {
                 let bytes = self.bytes(carried)?;
-                return Ok(self.take(k, bytes));
+                return Ok(self.take(who, bytes));
             }
-            Local::Restart { bytes, bit, with } => self.restart(k, *bytes, *bit, with)?,
-            Local::Journal => words::journal(k, self.players[k].disk()),
-            Local::Values => {
-                let who = format!("replica {k} holds");
-                words::values(&who, &self.players[k].values(), self.start)
+            (Local::Restart { bytes, bit, with }, Who::Replica(k)) => {
+                self.restart(k, *bytes, *bit, with)?
             }
-            Local::Late { slots, tickets } => {
-                self.players[k].late(*slots, *tickets);
-                format!("replica {k} is as after {slots} slots and {tickets} tickets")
+            (Local::Journal, Who::Replica(k)) => words::journal(k, self.players[k].disk()),
+            (Local::Values, _) => {
+                let (start, values) = (self.start, self.player(who).values());
+                words::values(&format!("{who} holds"), &values, start)
             }
-            Local::Lose { ticket } => {
-                self.players[k].lose(*ticket);
-                format!("ticket {ticket} is gone from the memory of replica {k}")
+            (Local::Late { slots, tickets }, _) => {
+                self.player(who).late(*slots, *tickets);
+                format!("{who} is as after {slots} slots and {tickets} tickets")
+            }
+            (Local::Lose { ticket }, _) => {
+                self.player(who).lose(*ticket);
+                format!("ticket {ticket} is gone from the memory of {who}")
             }
         };
         Ok(vec![line])
     }
 
     /// A call, in words, and its answer.
-    fn call(&mut self, k: usize, call: &Call) -> (String, Result<Answer, u8>) {
-        let answer = self.players[k].call(call);
+    fn call(&mut self, who: Who, call: &Call) -> (String, Result<Answer, u8>) {
+        let answer = self.player(who).call(call);
         if let Ok(Answer::Block(block)) = &answer {
             self.blocks.insert(block::header(block).slot, block.clone());
         }
-        (words::answer(k, call, &answer, self.words), answer)
+        (words::answer(who, call, &answer, self.words), answer)
     }
 
     /// A deliver and, where it is accepted, works until nothing waits.
-    fn take(&mut self, k: usize, bytes: Vec<u8>) -> Vec<String> {
-        let (line, answer) = self.call(k, &Call::Deliver { bytes });
+    fn take(&mut self, who: Who, bytes: Vec<u8>) -> Vec<String> {
+        let (line, answer) = self.call(who, &Call::Deliver { bytes });
         let mut lines = vec![line];
         if answer.is_ok() {
-            self.work(k, &mut lines);
+            self.work(who, &mut lines);
         }
         lines
     }
 
     /// Works until nothing waits. Gives whether anything was done.
-    fn work(&mut self, k: usize, lines: &mut Vec<String>) -> bool {
+    fn work(&mut self, who: Who, lines: &mut Vec<String>) -> bool {
         let mut moved = false;
         loop {
-            let (line, answer) = self.call(k, &Call::Work);
+            let (line, answer) = self.call(who, &Call::Work);
             match answer {
                 Ok(_) => lines.push(line),
                 Err(NOTHING_WAITS) => return moved,
@@ -142,9 +185,9 @@ impl<P: Player, M: Fn(u32, u32, &[i32; ITEMS]) -> Result<P, u8>> Playing<P, M> {
         let mut lines = Vec::new();
         for _ in 0..PASSES {
             let mut moved = false;
-            for k in 0..self.players.len() {
-                moved |= self.hand(k, &mut lines);
-                moved |= self.work(k, &mut lines);
+            for who in self.everyone() {
+                moved |= self.hand(who, &mut lines);
+                moved |= self.work(who, &mut lines);
             }
             if !moved {
                 if lines.is_empty() {
@@ -158,12 +201,12 @@ impl<P: Player, M: Fn(u32, u32, &[i32; ITEMS]) -> Result<P, u8>> Playing<P, M> {
 
     /// Delivers all blocks from the turn on. Of refusals only those are told that a host would not
     /// meet by handing blocks out again.
-    fn hand(&mut self, k: usize, lines: &mut Vec<String>) -> bool {
-        let turn = self.players[k].report().turn;
+    fn hand(&mut self, who: Who, lines: &mut Vec<String>) -> bool {
+        let turn = self.player(who).report().turn;
         let blocks = self.blocks.range(turn..).map(|(_, block)| block.to_vec());
         let mut moved = false;
         for bytes in blocks.collect::<Vec<_>>() {
-            let (line, answer) = self.call(k, &Call::Deliver { bytes });
+            let (line, answer) = self.call(who, &Call::Deliver { bytes });
             match answer {
                 Ok(_) => moved = true,
                 Err(PAST_SLOT | FAR_SLOT | SLOT_TAKEN) => {}
@@ -211,12 +254,17 @@ impl<P: Player, M: Fn(u32, u32, &[i32; ITEMS]) -> Result<P, u8>> Playing<P, M> {
     }
 
     fn all_values(&self) -> Vec<String> {
-        let values: Vec<_> = self.players.iter().map(|player| player.values()).collect();
+        let players = self.players.iter().chain(&self.station);
+        let values: Vec<_> = players.map(|player| player.values()).collect();
         if values.iter().all(|held| *held == values[0]) && !values.is_empty() {
-            return vec![words::values("all replicas hold", &values[0], self.start)];
+            let all = match self.station {
+                None => "all replicas hold",
+                Some(_) => "all replicas and the station hold",
+            };
+            return vec![words::values(all, &values[0], self.start)];
         }
-        let each = values.iter().enumerate();
-        each.map(|(k, held)| words::values(&format!("replica {k} holds"), held, self.start))
+        let each = self.everyone().zip(&values);
+        each.map(|(who, held)| words::values(&format!("{who} holds"), held, self.start))
             .collect()
     }
 

@@ -84,6 +84,12 @@ fn wrong_commands() {
             "128 is not 5 to 127",
         ),
         ("restart 0 bytes 1", "the journal of replica 0 has 0 bytes"),
+        ("begin station", "the station is not made"),
+        (
+            "make station 2",
+            r#""2" is one word too many, or no such word"#,
+        ),
+        ("make station of", "a number is due, and not the line's end"),
         ("bytes slot 0 from 1 to 0", "0 is not 1 to 511"),
         (
             "bytes slot 0 from 1 to 1",
@@ -105,6 +111,51 @@ fn forged_blocks_have_room() {
     let tickets = (1..8).map(|ticket| format!(" ticket {ticket} item 1 value 1"));
     let many = format!("take 0 forged slot 0 of 2{}", tickets.collect::<String>());
     assert_eq!(wrong(&many), "a block has room for 6 tickets");
+}
+
+/// What a station has not, in a scene that makes one on its second line; and one without a group.
+#[test]
+fn wrong_commands_at_a_station() {
+    for (line, words) in [
+        ("load station class 1", "a station has no classes"),
+        ("restart station", "a station has no journal"),
+        ("journal station", "a station has no journal"),
+        (
+            "begin station 0",
+            r#""0" is one word too many, or no such word"#,
+        ),
+    ] {
+        let text = format!("# A scene.\nmake 2\nmake station\n{line}\n----\n");
+        let error = played(&text).unwrap_err();
+        assert_eq!(error, format!("some.txt, line 4: {words}"));
+    }
+    let error = played("# A scene.\nmake station\n----\n").unwrap_err();
+    let words = "a station is made beside a group, and none is made";
+    assert_eq!(error, format!("some.txt, line 2: {words}"));
+}
+
+/// A station is handed round to as well; a new group has none yet, and a refused station leaves the one
+/// that is there.
+#[test]
+fn a_station_in_a_scene() {
+    let text = "# A scene.\nmake 2 value 3\nmake station\nsend 0\nstabilize\nmake station of 7\n\
+        report station\nvalues\nwrite station ticket 1 item 5 value 1\n----\n";
+    let said = played(text).unwrap();
+    let (_, answers) = said.split_once("----\n").unwrap();
+    let lines: Vec<&str> = answers.lines().collect();
+    assert_eq!(lines[1], "the station holds all items at 3");
+    let passes = "passes over the block of replica 0; the turn moves";
+    assert_eq!(lines[5], format!("the station {passes}"));
+    let report = "reports turn 1, commits 0, tickets 0: open 0, committed 0, read-only 0, aborted 0, withdrawn 0";
+    let due = [
+        "the station refuses by 2: another",
+        &format!("the station {report}"),
+        "all replicas and the station hold all items at 3",
+        "the station refuses by 25: another",
+    ];
+    assert_eq!(lines[6..], due);
+    let error = played(&text.replace("report station", "make 2")).unwrap_err();
+    assert_eq!(error, "some.txt, line 9: the station is not made");
 }
 
 /// What stands under the dashes is written anew, and nothing else.

@@ -1,14 +1,15 @@
 //! Answers in words.
 
+use super::parse::Who;
 use super::Words;
 use crate::block::{self, Message, BLOCK};
 use crate::replica::{Report, Restarted, Work, ITEMS};
 use crate::trace::{Answer, Call};
 
-/// What a replica answers to a call.
-pub(super) fn answer(k: usize, call: &Call, answer: &Result<Answer, u8>, words: Words) -> String {
+/// What a replica or the station answers to a call.
+pub(super) fn answer(who: Who, call: &Call, answer: &Result<Answer, u8>, words: Words) -> String {
     let said = match answer {
-        Err(number) => return refusal(k, *number, words),
+        Err(number) => return refusal(who, *number, words),
         Ok(Answer::Done) => done(call),
         Ok(Answer::Ticket(ticket)) => format!("begins ticket {ticket}"),
         Ok(Answer::Value(value)) => format!("reads {value}"),
@@ -17,11 +18,11 @@ pub(super) fn answer(k: usize, call: &Call, answer: &Result<Answer, u8>, words: 
         Ok(Answer::Block(block)) => format!("sends {}", contents(block)),
         Ok(Answer::Work(work)) => worked(work),
     };
-    format!("replica {k} {said}")
+    format!("{who} {said}")
 }
 
-pub(super) fn refusal(k: usize, number: u8, words: Words) -> String {
-    format!("replica {k} refuses by {number}: {}", words(number))
+pub(super) fn refusal(who: Who, number: u8, words: Words) -> String {
+    format!("{who} refuses by {number}: {}", words(number))
 }
 
 /// A call that is accepted, and no more.

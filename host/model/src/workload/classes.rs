@@ -11,7 +11,7 @@ use crate::samples::block_of;
 
 /// Lines that print `?`.
 const LINES: &str =
-    "P|P |P 0|P  |P 0  |P  0 01|P 0 01 |P 0 01 01|p 0 01|P0 01|P 6 01|P 00 01|P 0 1|\
+    "P|P |P 0|P  |P 0  |P  0 01|P 0 01 |P 0 01 01|p 0 01|P0 01|P 8 01|P 00 01|P 0 1|\
     P 0 011|P 0 0A|P 0 0g|P 0 g0|P 0 0/|P 0 :0|P 0 0x01|P 0 01\r|PP 0 01";
 
 pub(super) fn all(list: &mut List) {

@@ -1,7 +1,9 @@
 //! Random calls of groups of 2 to 6 replicas, by seed. Blocks arrive early, late, repeated, damaged,
-//! forged, or not at all for a while; in some rounds replicas lose power, in some they load classes.
+//! forged, or not at all for a while; in some rounds replicas lose power, in some they load classes, in
+//! some there are stations.
 
 mod group;
+mod stations;
 
 use self::group::Group;
 use super::List;
@@ -13,6 +15,10 @@ use crate::samples::{self, Random};
 const CALLS: usize = 3_000;
 /// The same, where replicas lose power.
 const CALLS_AND_CUTS: usize = 1_800;
+/// The same, where there are stations.
+const CALLS_AND_STATIONS: usize = 800;
+/// The first place of a station.
+const STATION: usize = 6;
 
 /// How a round's calls are chosen.
 pub(super) struct Round {
@@ -29,6 +35,8 @@ pub(super) struct Round {
     cuts: usize,
     /// One call in so many at transactions is a load of classes instead, if this is not 0.
     loads: usize,
+    /// The stations beside each group.
+    stations: usize,
 }
 
 pub(super) const ROUNDS: [Round; 10] = [
@@ -68,6 +76,17 @@ pub(super) const TABLE_ROUNDS: [Round; 4] = [
     Round::with_tables(&[3, 2], 16, 25, 50),
 ];
 
+/// The seed of the first round with stations.
+pub(super) const STATION_SEED: u64 = TABLE_SEED + TABLE_ROUNDS.len() as u64;
+
+/// The rounds with stations. In the last one replicas lose power, and stations their memory.
+pub(super) const STATION_ROUNDS: [Round; 4] = [
+    Round::with_stations(&[2], 2, 0),
+    Round::with_stations(&[6], 1, 0),
+    Round::with_stations(&[4, 2], 1, 0),
+    Round::with_stations(&[3], 2, 60),
+];
+
 impl Round {
     const fn new(sizes: &'static [usize], items: usize, asks: usize, forged: bool) -> Round {
         Round {
@@ -77,6 +96,7 @@ impl Round {
             forged,
             cuts: 0,
             loads: 0,
+            stations: 0,
         }
     }
 
@@ -91,6 +111,13 @@ impl Round {
         Round {
             loads: 16,
             ..Round::with_cuts(sizes, items, asks, cuts)
+        }
+    }
+
+    const fn with_stations(sizes: &'static [usize], stations: usize, cuts: usize) -> Round {
+        Round {
+            stations,
+            ..Round::with_cuts(sizes, 24, 25, cuts)
         }
     }
 }
@@ -113,6 +140,12 @@ pub(super) fn with_tables(list: &mut List) {
     }
 }
 
+pub(super) fn with_stations(list: &mut List) {
+    for (round, seed) in STATION_ROUNDS.iter().zip(STATION_SEED..) {
+        play(list, round, seed);
+    }
+}
+
 /// A round. It gives its groups as places.
 pub(super) fn play(list: &mut List, round: &Round, seed: u64) -> Vec<Vec<usize>> {
     let mut random = Random::new(seed);
@@ -123,15 +156,23 @@ pub(super) fn play(list: &mut List, round: &Round, seed: u64) -> Vec<Vec<usize>>
         groups.push(Group::make(list, &mut random, place, size, value));
         place += size;
     }
-    let calls = if round.cuts > 0 {
-        CALLS_AND_CUTS
-    } else {
-        CALLS
+    for at in 0..round.stations * groups.len() {
+        groups[at / round.stations].add_station(list, STATION + at);
+    }
+    let calls = match round {
+        Round { stations: 1.., .. } => CALLS_AND_STATIONS,
+        Round { cuts: 1.., .. } => CALLS_AND_CUTS,
+        _ => CALLS,
     };
     for _ in 0..calls {
         let at = random.below(groups.len());
-        if round.cuts > 0 && random.below(round.cuts) == 0 {
+        if round.stations > 0 && random.below(3) == 0 {
+            groups[at].station_call(list, &mut random, round.items);
+        } else if round.cuts > 0 && random.below(round.cuts) == 0 {
             groups[at].cut(list, &mut random);
+            if round.stations > 0 && random.below(4) == 0 {
+                groups[at].renew_station(list, &mut random);
+            }
         } else {
             groups[at].call(list, &mut random, round);
         }

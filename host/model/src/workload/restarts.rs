@@ -12,8 +12,8 @@ use crate::replay::{JOURNAL, MAX_JOURNAL};
 /// Lines that print `?`.
 const LINES: &str =
     "Z|Z |Z 0|Z 0 |Z 0 0|Z 0 0 |Z 0 0 0 |Z 0 0 0 0|Z  0 0 0|Z 0  0 0|z 0 0 0|Z0 0 0|\
-    Z 6 0 0|Z 00 0 0|J|J 0|J 0 |J 0 0 |J 0 0 0|J 0  0|j 0 0|J 6 0|Y|Y 0|Y 0 2|Y 0 2 0|Y 0 2 0 0|\
-    Y 0 2 0 0  |Y 0 2 0  |Y 0 2  0 0 |Y 0 2 0 0 00 |Y 0 2 0 0 00 00|Y 6 2 0 0 |y 0 2 0 0 ";
+    Z 8 0 0|Z 00 0 0|J|J 0|J 0 |J 0 0 |J 0 0 0|J 0  0|j 0 0|J 8 0|Y|Y 0|Y 0 2|Y 0 2 0|Y 0 2 0 0|\
+    Y 0 2 0 0  |Y 0 2 0  |Y 0 2  0 0 |Y 0 2 0 0 00 |Y 0 2 0 0 00 00|Y 8 2 0 0 |y 0 2 0 0 ";
 /// What is no 32-bit unsigned number, nor a signed one. Cut to 32 bits, the last is 512.
 const NUMBERS: &str = "00|-0|+1|01|1a|0x1|4294967296|4294967808";
 /// What is no whole number of bytes.

@@ -103,6 +103,47 @@ fn rounds_with_cuts() {
     );
 }
 
+/// Stations end with the copies of their groups, which go on without them: some blocks they have no place
+/// for, and take when they are offered again.
+#[test]
+fn rounds_with_stations() {
+    let mut list = List::default();
+    for (round, seed) in random::STATION_ROUNDS.iter().zip(random::STATION_SEED..) {
+        for places in random::play(&mut list, round, seed) {
+            agree(&list, &places);
+            let stations = places.iter().filter(|&&k| list.replica(k).is_station());
+            assert!(stations.count() > 0, "seed {seed}");
+            assert!(list.replica(places[0]).report().turn > 8, "seed {seed}");
+        }
+    }
+    let mut replay = Replay::default();
+    let (mut seen, mut own) = ([0; 4], [0; 2]);
+    let text = String::from_utf8(list.text).unwrap();
+    for line in text.lines() {
+        let place = line.get(2..3).and_then(|k| replay.replica(k.parse().ok()?));
+        let station = place.is_some_and(Replica::is_station);
+        let answer = replay.answer(line.as_bytes());
+        let first = line.chars().next().unwrap_or(' ');
+        own[usize::from(station)] += i32::from(answer == "19");
+        let counted = match (first, answer.as_str()) {
+            ('W' | 'S', "25") => 0,
+            ('D' | 'H', "18") => 1,
+            ('H', "0") => 2,
+            ('A', "0") => 3,
+            _ => continue,
+        };
+        seen[counted] += i32::from(station);
+    }
+    // Refused by 25 and 18; taken from a journal; made anew.
+    let least = [50, 50, 5, 2];
+    assert!(
+        seen.iter().zip(least).all(|(&seen, least)| seen > least),
+        "{seen:?}"
+    );
+    // Refused by 19: at replicas some, at stations none.
+    assert!(own[0] > 0 && own[1] == 0, "{own:?}");
+}
+
 /// Groups that load tables end with equal copies. Loads are accepted and refused by each number, and while
 /// a block is applied some writes wait and some do not; tables of one group differ.
 #[test]

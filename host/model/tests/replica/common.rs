@@ -9,6 +9,11 @@ pub fn make(n: u32, own: u32) -> Replica {
     Replica::make(n, own, &start_values()).unwrap()
 }
 
+/// A station beside `n` replicas, with the same values.
+pub fn station(n: u32) -> Replica {
+    Replica::station(n, &start_values()).unwrap()
+}
+
 /// Delivers a block of the turn and works it off. It gives the tickets that were aborted.
 pub fn take(replica: &mut Replica, block: &[u8]) -> Vec<u32> {
     replica.deliver(block).unwrap();

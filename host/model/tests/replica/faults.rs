@@ -41,7 +41,7 @@ fn objections(fault: Fault, every: bool, runs: u64) -> Option<Vec<String>> {
             } else {
                 Fault::None
             };
-            Historical::make(n, own, start_values(), fault)
+            Historical::make(n, Some(own), start_values(), fault)
         };
         let mut group = Group::new((0..n).map(member).collect(), STYLE);
         let mut random = Random::new(seed);

@@ -49,7 +49,8 @@ pub enum Fault {
 pub struct Historical {
     pub fault: Fault,
     n: u32,
-    own: u32,
+    /// A station has none.
+    own: Option<u32>,
     values: [i32; ITEMS],
     /// Slots and tickets before the first call.
     slots: u32,
@@ -112,7 +113,8 @@ impl Begun {
 }
 
 impl Historical {
-    pub fn make(n: u32, own: u32, values: [i32; ITEMS], fault: Fault) -> Historical {
+    /// A replica, or without a number a station.
+    pub fn make(n: u32, own: Option<u32>, values: [i32; ITEMS], fault: Fault) -> Historical {
         Historical {
             fault,
             n,
@@ -170,7 +172,7 @@ impl Historical {
     }
 
     fn applying(&self) -> bool {
-        let remote = |m: &Message| u32::from(m.sender) != self.own;
+        let remote = |m: &Message| Some(u32::from(m.sender)) != self.own;
         self.done() > 0 && self.waiting().is_some_and(remote)
     }
 
@@ -232,6 +234,9 @@ impl Historical {
     }
 
     fn write(&mut self, ticket: u32, item: u32, value: i32) -> Result<(), u8> {
+        if self.own.is_none() {
+            return Err(25);
+        }
         if item > 127 {
             return Err(2);
         }

@@ -14,4 +14,6 @@ mod restart_faults;
 mod restarts;
 mod scenes;
 mod single;
+mod station_faults;
+mod stations;
 mod story;

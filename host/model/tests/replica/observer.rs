@@ -2,6 +2,7 @@
 //! gives, each of which breaks one sentence.
 
 mod restarts;
+mod stations;
 
 use model::observer::Observer;
 use model::replica::{Report, Work, ITEMS};
@@ -9,19 +10,19 @@ use model::trace::{Answer, Call};
 
 use crate::common::{block_of, start_values, Writes};
 
-/// An observed group of 2 of which only the answers exist.
+/// An observed group of 2, and stations beside it, of which only the answers exist.
 struct Script {
     observer: Observer,
-    reports: [Report; 2],
-    values: [[i32; ITEMS]; 2],
+    reports: Vec<Report>,
+    values: Vec<[i32; ITEMS]>,
 }
 
 impl Script {
     fn new() -> Script {
         Script {
             observer: Observer::new(2, start_values()),
-            reports: [Report::default(); 2],
-            values: [start_values(); 2],
+            reports: vec![Report::default(); 2],
+            values: vec![start_values(); 2],
         }
     }
 
@@ -54,6 +55,12 @@ impl Script {
         self.observer.feed(replica, &Call::Ask { ticket }, &answer);
     }
 
+    /// An ask that ends a ticket without writes.
+    fn end(&mut self, member: usize, ticket: u32) {
+        let answer = Ok(Answer::ReadOnly(true));
+        self.observer.feed(member, &Call::Ask { ticket }, &answer);
+    }
+
     fn send(&mut self, replica: usize, slot: u32, records: &[Writes]) {
         let block = Box::new(block_of(2, slot, records));
         self.observer
@@ -84,8 +91,12 @@ impl Script {
     }
 
     fn violations(&self) -> Vec<String> {
-        let ends = [0, 1].map(|k| (self.reports[k], self.values[k]));
-        self.observer.violations(&ends)
+        let ends = self
+            .reports
+            .iter()
+            .copied()
+            .zip(self.values.iter().copied());
+        self.observer.violations(&ends.collect::<Vec<_>>())
     }
 
     /// That exactly these sentences are broken, each named by a part of it.

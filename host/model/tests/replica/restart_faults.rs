@@ -245,7 +245,7 @@ fn differ(fault: Fault, seed: u64) -> bool {
     journal.truncate(journal.len() - random.below(2).min(journal.len()));
     let restart = Restart {
         n,
-        own: u32::from(right.machine.replica.own),
+        own: u32::from(right.machine.replica.own.unwrap()),
         values: crate::common::start_values().to_vec(),
         journal,
     };

@@ -6,13 +6,14 @@ use std::fs;
 use std::sync::OnceLock;
 
 use model::drive::{Machine, Powered, Subject};
-use model::replica::{Replica, Report, Restarted, ITEMS};
+use model::replica::{Report, Restarted, ITEMS};
 use model::scenes::{self, Player, Scene};
 use model::trace::{Answer, Call, Restart};
 
 use crate::faults::FAULTS;
 use crate::history::{Fault, Historical};
-use crate::restart_faults::{self, Faulty};
+use crate::restart_faults;
+use crate::station_faults;
 
 // The words of the crate for hosts: a file that stands alone.
 #[allow(dead_code)]
@@ -70,21 +71,26 @@ fn the_flag() {
     assert_eq!(rewrite(Some("yes")), Err(error.to_string()));
 }
 
-/// Every number of document 01's table, and 23, refuses a call in some scene.
+/// Every number of document 01's table, 23 and 25 refuse a call in some scene; there is no 24.
 #[test]
 fn every_refusal_is_shown() {
     let lines = all().iter().flat_map(|scene| scene.text.lines());
     let refused = lines.filter_map(|line| line.split_once(" refuses by ")?.1.split_once(':'));
     let numbers: BTreeSet<u8> = refused.map(|(n, _)| n.parse().unwrap()).collect();
-    assert!(numbers.into_iter().eq(1..=23));
+    assert!(numbers.into_iter().eq((1..=25).filter(|&n| n != 24)));
 }
 
 /// A replica by history, which has no disk.
 struct ByHistory(Historical);
 
 impl ByHistory {
-    fn make(n: u32, own: u32, values: &[i32; ITEMS], fault: Fault) -> Result<ByHistory, u8> {
-        Replica::make(n, own, values)?;
+    fn make(
+        n: u32,
+        own: Option<u32>,
+        values: &[i32; ITEMS],
+        fault: Fault,
+    ) -> Result<ByHistory, u8> {
+        Machine::make(n, own, values)?;
         Ok(ByHistory(Historical::make(n, own, *values, fault)))
     }
 
@@ -129,7 +135,16 @@ impl Player for ByHistory {
     }
 }
 
-impl Player for Faulty {
+impl Player for restart_faults::Faulty {
+    fn late(&mut self, slots: u32, tickets: u32) {
+        self.machine.late(slots, tickets);
+    }
+    fn lose(&mut self, ticket: u32) {
+        self.machine.lose(ticket);
+    }
+}
+
+impl Player for station_faults::Faulty {
     fn late(&mut self, slots: u32, tickets: u32) {
         self.machine.late(slots, tickets);
     }
@@ -141,7 +156,7 @@ impl Player for Faulty {
 /// Whether such replicas do not answer what stands in the scene.
 fn differs<P: Player>(
     scene: &Scene,
-    make: impl Fn(u32, u32, &[i32; ITEMS]) -> Result<P, u8>,
+    make: impl Fn(u32, Option<u32>, &[i32; ITEMS]) -> Result<P, u8>,
 ) -> bool {
     let played = scenes::play(scene, make, words);
     played.map_or(true, |played| scenes::difference(scene, &played).is_some())
@@ -166,12 +181,27 @@ fn wrong_replicas_are_told() {
 #[test]
 fn wrong_machines_are_told() {
     let told = |fault| {
-        let make = |n, own, values: &_| Ok(Faulty::of(Machine::make(n, own, values)?, fault));
+        let faulty = |machine| restart_faults::Faulty::of(machine, fault);
+        let make = |n, own, values: &_| Machine::make(n, own, values).map(faulty);
         all().iter().any(|scene| differs(scene, make))
     };
     assert!(!told(restart_faults::Fault::None));
     for (fault, _) in restart_faults::FAULTS {
         let shown = fault != restart_faults::Fault::NoStamps;
         assert_eq!(told(fault), shown, "{fault:?}");
+    }
+}
+
+/// Stations that are not as document 02's Req 05 says.
+#[test]
+fn wrong_stations_are_told() {
+    let told = |fault| {
+        let faulty = |machine| station_faults::Faulty::of(machine, fault);
+        let make = |n, own, values: &_| Machine::make(n, own, values).map(faulty);
+        all().iter().any(|scene| differs(scene, make))
+    };
+    assert!(!told(station_faults::Fault::None));
+    for (fault, _) in station_faults::FAULTS {
+        assert!(told(fault), "no scene tells {fault:?}");
     }
 }

@@ -6,7 +6,7 @@ use model::replica::{Replica, ITEMS, SLOTS};
 use model::samples::Random;
 use model::trace::Call;
 
-use crate::common::{make, start_values};
+use crate::common::{make, start_values, station};
 use crate::history::{Fault, Historical};
 
 /// A replica of the model and one by history, which get the same calls.
@@ -24,9 +24,20 @@ impl Pair {
     /// Both after so many slots and tickets.
     pub fn late(n: u32, own: u32, fault: Fault, slots: u32, tickets: u32) -> Pair {
         let replica = make(n, own).fast_forward(slots, tickets);
-        let historical = Historical::make(n, own, start_values(), fault);
+        let historical = Historical::make(n, Some(own), start_values(), fault);
         Pair {
             peers: Peers::new(n, own, replica.report()),
+            replica,
+            historical: historical.fast_forward(slots, tickets),
+        }
+    }
+
+    /// A station of both, after so many slots and tickets.
+    pub fn station(n: u32, slots: u32, tickets: u32) -> Pair {
+        let replica = station(n).fast_forward(slots, tickets);
+        let historical = Historical::make(n, None, start_values(), Fault::None);
+        Pair {
+            peers: Peers::of_station(n, replica.report()),
             replica,
             historical: historical.fast_forward(slots, tickets),
         }
@@ -95,6 +106,30 @@ fn both_give_the_same() {
     assert!(seen.sent.iter().all(|&blocks| blocks > 10), "{seen:?}");
     let due: Vec<usize> = (1..24).filter(|n| ![6, 13, 22].contains(n)).collect();
     assert_eq!(seen.numbers(50), due, "{seen:?}");
+}
+
+/// The same at stations: of document 01's numbers those are left that no write or send gives, and without
+/// 4 and 19.
+#[test]
+fn both_give_the_same_at_stations() {
+    let mut seen = Seen::default();
+    for seed in 200..300 {
+        let n = 2 + seed as u32 % 5;
+        let style = STYLES[seed as usize % 4];
+        // Of a few the last slots and tickets are near.
+        let (slots, tickets) = match seed % 10 {
+            0 => (SLOTS - 60, MAX_TICKET - 60),
+            _ => (0, 0),
+        };
+        let pair = Pair::station(n, slots, tickets);
+        seen.add(&run(pair, seed, style, 2_000));
+    }
+    assert_eq!(seen.calls, 200_000);
+    assert!(seen.commits > 10_000 && seen.aborted == 0, "{seen:?}");
+    assert!(seen.read_only > 300 && seen.withdrawn > 300, "{seen:?}");
+    let due = [1, 2, 3, 5, 6, 14, 15, 16, 17, 18, 20, 21, 25];
+    assert_eq!(seen.numbers(50), due, "{seen:?}");
+    assert_eq!(seen.numbers(1), due, "{seen:?}");
 }
 
 /// The same near the last slots and tickets.

@@ -2,7 +2,8 @@
 
 use std::io::{self, Write};
 
-use crate::{Refusal, Report, Work, ITEMS};
+use crate::ffi::WorkReply;
+use crate::{Refusal, Report, ITEMS, TABLE};
 
 #[derive(Debug)]
 pub(super) struct List<C, A> {
@@ -107,10 +108,14 @@ pub(super) fn report(of: &Report) -> String {
     )
 }
 
-pub(super) fn work(work: &Work) -> String {
-    let (moved, count) = (u8::from(work.moved), work.aborted().len());
-    let aborted: String = work.aborted().iter().map(|t| format!(" {t}")).collect();
-    format!(" {} {} {moved} {count}{aborted}", work.sender, work.ticket)
+pub(super) fn work(of: &WorkReply) -> String {
+    if of.number != 0 {
+        return of.number.to_string();
+    }
+    let count = TABLE.min(usize::from(of.count));
+    let aborted = of.aborted[..count].iter().map(|t| format!(" {t}"));
+    let (moved, aborted) = (u8::from(of.moved), aborted.collect::<String>());
+    format!("0 {} {} {moved} {count}{aborted}", of.sender, of.ticket)
 }
 
 /// Bytes as lowercase hexadecimal digits.

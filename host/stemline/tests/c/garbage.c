@@ -3,12 +3,12 @@
  * each call how often it gave each number. */
 #include "same.h"
 
-enum call { MAKE, RESTART, BEGIN, READ, WRITE, ASK, WITHDRAW, REPORT, SEND, DELIVER, WORK, LOAD,
-            CALLS };
+enum call { MAKE, STATION, RESTART, BEGIN, READ, WRITE, ASK, WITHDRAW, REPORT, SEND, DELIVER, WORK,
+            LOAD, CALLS };
 
 static const char *const names[CALLS] = {
-    "make", "restart", "begin", "read", "write", "ask", "withdraw", "report", "send", "deliver",
-    "work", "load"};
+    "make", "make_station", "restart", "begin", "read", "write", "ask", "withdraw", "report", "send",
+    "deliver", "work", "load"};
 static unsigned given[CALLS][256];
 static uint8_t good[STEMLINE_BLOCK];
 static int32_t start[STEMLINE_ITEMS] = {7, -7};
@@ -43,7 +43,7 @@ static void alter(stemline_replica *r) {
     r->turn.sent = (uint8_t)(any() % 2 * any());
     r->turn.applying = (uint8_t)(any() % 2 * any());
     r->counts.replicas = (uint8_t)(any() % 2 ? 2 : number());
-    r->counts.own = (uint8_t)(any() % 4);
+    r->counts.own = (uint8_t)(any() % 4 ? any() % 4 : STEMLINE_NO_NUMBER);
     r->counts.tickets = number();
 }
 
@@ -61,6 +61,20 @@ static uint8_t make(stemline_replica *r) {
     memcpy(from_any.places + used, from_zeros.places + used, sizeof r->places - used);
     hold(same(&from_zeros, &from_any), "make: what was there before is left");
     return stemline_replica_make(r, number(), number(), start);
+}
+
+/* A station in range is a replica in all but its number; then one that may not be in range. */
+static uint8_t make_station(stemline_replica *r) {
+    static stemline_replica replica, station;
+    uint32_t n = 2 + any() % 5;
+    memcpy(&replica, r, sizeof replica);
+    memcpy(&station, r, sizeof station);
+    hold(stemline_replica_make(&replica, n, any() % n, start) == 0, "make: refused");
+    hold(stemline_replica_make_station(&station, n, start) == 0, "make_station: refused");
+    hold(station.counts.own == STEMLINE_NO_NUMBER, "make_station: a number");
+    replica.counts.own = STEMLINE_NO_NUMBER;
+    hold(same(&replica, &station), "make_station: not what a make leaves");
+    return stemline_replica_make_station(r, number(), start);
 }
 
 /* Two restarts from one journal, as the makes: one block that is good for a group of two, and any bytes. */
@@ -138,6 +152,7 @@ static uint8_t play(stemline_replica *r, enum call call) {
     uint32_t item = any() % (STEMLINE_ITEMS + 2);
     switch (call) {
     case MAKE: return make(r);
+    case STATION: return make_station(r);
     case RESTART: return restart(r);
     case BEGIN: return stemline_replica_begin(r).number;
     case READ: return stemline_replica_read(r, ticket, item).number;
@@ -163,8 +178,11 @@ int main(void) {
             memcpy(&before, &r, sizeof r);
             uint8_t said = play(&r, name);
             given[name][said]++;
+            bool station = before.counts.own == STEMLINE_NO_NUMBER;
+            hold((said == STEMLINE_STATION_ONLY_READS) == (station && (name == WRITE || name == SEND)), "not 25");
+            hold(said != STEMLINE_NOT_SENT || !station, "19 at a station");
             hold(said == 0 || said == STEMLINE_STALE || same(&r, &before), names[name]);
-            if (name == MAKE || name == RESTART) {
+            if (name == MAKE || name == STATION || name == RESTART) {
                 memcpy(&r, &before, sizeof r);
             }
         }

@@ -1,6 +1,7 @@
 /* replay.c by the calls over lent parts. The parts of a replica are copied to where each lies by itself,
  * lent, and copied back. Before a call come others, with one lent array after the other an element short
- * and an element too long: each answers 1, zeros beside it, and changes nothing. */
+ * and an element too long: each answers 1, zeros beside it, and changes nothing; at a station a write and a
+ * send answer 25. */
 #include "same.h"
 
 /* The arrays that calls are lent. */
@@ -40,11 +41,19 @@ static struct {
     stemline_work_reply work;
 } said;
 
-/* ---- The twelve calls over the parts, with the lengths as they are told */
+/* ---- The thirteen calls over the parts, with the lengths as they are told */
 
 static uint8_t call_make(void) {
     return stemline_make(
         p.table, length[TABLE], &p.turn, &p.counts, p.n, p.own, p.start, length[START],
+        p.queue, length[QUEUE], p.items, length[ITEMS], p.writes, length[WRITES],
+        p.snapshots, length[SNAPSHOTS], p.values, length[VALUES], p.stamps, length[STAMPS],
+        p.classes, length[CLASSES], p.places, length[PLACES], p.outbox, length[OUTBOX]);
+}
+
+static uint8_t call_make_station(void) {
+    return stemline_make_station(
+        p.table, length[TABLE], &p.turn, &p.counts, p.n, p.start, length[START],
         p.queue, length[QUEUE], p.items, length[ITEMS], p.writes, length[WRITES],
         p.snapshots, length[SNAPSHOTS], p.values, length[VALUES], p.stamps, length[STAMPS],
         p.classes, length[CLASSES], p.places, length[PLACES], p.outbox, length[OUTBOX]);
@@ -166,11 +175,13 @@ static void give_back(stemline_replica *r) {
 /* The call with each of the arrays that it is lent at a wrong length, then the call itself. */
 static uint8_t called(const char *name, uint8_t (*call)(void), const enum part *lent, size_t count) {
     static parts before;
+    bool only_reads = p.counts.own == STEMLINE_NO_NUMBER && (call == call_write || call == call_send);
+    uint8_t wrong = only_reads ? STEMLINE_STATION_ONLY_READS : STEMLINE_WRONG_LENGTH;
     memcpy(&before, &p, sizeof p);
     for (size_t i = 0; i < 2 * count; i++) {
         size_t *told = &length[lent[i / 2]], right = *told;
         *told = i % 2 == 0 ? right - 1 : right + 1;
-        hold(call() == STEMLINE_WRONG_LENGTH && said_zeros() && same_parts(&p, &before), name);
+        hold(call() == wrong && said_zeros() && same_parts(&p, &before), name);
         *told = right;
     }
     return call();
@@ -195,6 +206,13 @@ static bool lend_made(const stemline_replica *r, uint32_t n, uint32_t own, const
 static uint8_t lent_make(stemline_replica *r, uint32_t n, uint32_t own, const int32_t *start) {
     bool in_range = lend_made(r, n, own, start);
     uint8_t number = in_range ? CALLED(make, MADE, PLACES) : CALLED(make, MADE);
+    give_back(r);
+    return number;
+}
+
+static uint8_t lent_make_station(stemline_replica *r, uint32_t n, const int32_t *start) {
+    bool in_range = lend_made(r, n, 0, start);
+    uint8_t number = in_range ? CALLED(make_station, MADE, PLACES) : CALLED(make_station, MADE);
     give_back(r);
     return number;
 }
@@ -301,6 +319,7 @@ static uint8_t lent_load(stemline_replica *r, const uint8_t *classes, size_t cou
 }
 
 #define stemline_replica_make lent_make
+#define stemline_replica_make_station lent_make_station
 #define stemline_replica_restart lent_restart
 #define stemline_replica_begin lent_begin
 #define stemline_replica_read lent_read

@@ -1,11 +1,12 @@
 /* Plays a list of calls at replicas in structs and prints the answers, both in the format of
- * model/src/replay.rs; each line is one that the format takes. There are two more:
+ * model/src/replay.rs; each line is one that the format takes. There are three more:
  *
  *     L k n own slots tickets
+ *     I k n slots tickets
  *     T k n own b
  *
- * L makes a replica whose item i starts with 10 * i - 600, as it is after so many slots and tickets;
- * T restarts such a one from the first b bytes of the journal.
+ * L makes a replica whose item i starts with 10 * i - 600, as it is after so many slots and tickets, I such
+ * a station; T restarts such a replica from the first b bytes of the journal.
  *
  * It stops where a refused call has changed something, where is_turn is not what a send answers, where
  * a take is not a deliver with its works, and where a work's block is not the one that it leaves. */
@@ -13,7 +14,7 @@
 
 #include "same.h"
 
-#define PLACES 6
+#define PLACES 8
 #define KEPT 64
 #define JOURNAL (4096 * STEMLINE_BLOCK)
 
@@ -66,6 +67,23 @@ static uint8_t make(stemline_replica *r, journal *j, char letter, const char *re
     hold(fields == (letter == 'M' ? 3 : 4), rest);
     fill(start, letter == 'L', value);
     uint8_t number = stemline_replica_make(r, n, own, start);
+    r->turn.slot += slots;
+    r->counts.tickets += tickets;
+    r->counts.withdrawn += tickets;
+    j->length = number == 0 ? 0 : j->length;
+    printf("%d", number);
+    return number;
+}
+
+/* make a station: with one value, or as the tests' stations are */
+static uint8_t make_station(stemline_replica *r, journal *j, char letter, const char *rest) {
+    uint32_t n, slots = 0, tickets = 0;
+    int32_t value = 0, start[STEMLINE_ITEMS];
+    int fields = letter == 'A' ? sscanf(rest, "%" SCNu32 " %" SCNd32, &n, &value)
+                               : sscanf(rest, "%" SCNu32 " %" SCNu32 " %" SCNu32, &n, &slots, &tickets);
+    hold(fields == (letter == 'A' ? 2 : 3), rest);
+    fill(start, letter == 'I', value);
+    uint8_t number = stemline_replica_make_station(r, n, start);
     r->turn.slot += slots;
     r->counts.tickets += tickets;
     r->counts.withdrawn += tickets;
@@ -176,7 +194,8 @@ static uint8_t work(stemline_replica *r, journal *j) {
     uint8_t block[STEMLINE_BLOCK];
     memset(block, 0xa5, sizeof block);
     stemline_work_reply w = hold_work(stemline_replica_work, r, block);
-    if (w.append) {
+    /* a station has no journal */
+    if (w.append && r->counts.own != STEMLINE_NO_NUMBER) {
         append(j, block);
     }
     printf("%d", w.number);
@@ -228,6 +247,7 @@ static uint8_t block_of(const journal *j, const char *rest) {
 static uint8_t play(stemline_replica *r, journal *j, char letter, const char *rest) {
     switch (letter) {
     case 'M': case 'L': return make(r, j, letter, rest);
+    case 'A': case 'I': return make_station(r, j, letter, rest);
     case 'Z': case 'Y': case 'T': return restart(r, j, letter, rest);
     case 'J': return block_of(j, rest);
     case 'B': case 'R': case 'W': case 'C': case 'X': return transaction(r, letter, rest);

@@ -5,19 +5,32 @@ use model::block::{self, Message, BLOCK, MAX_TICKET};
 use model::drive::{start_values, Peers, Subject, STYLES};
 use model::samples::{self, Random};
 use stemline::ffi::Txn;
-use stemline::{Memory, Refusal, Replica, Taken, ITEMS, STEPS};
+use stemline::{Memory, Refusal, Replica, Station, Taken, ITEMS, NO_NUMBER, STEPS};
 
 use crate::both::Both;
 use crate::lent::{refused, Lent};
 use crate::seeds::Seeds;
+use crate::stations;
 
 const RUNS: u64 = 2_000;
 /// Calls at one altered memory, each on what the last one left.
 const CALLS: usize = 60;
 /// The calls, write twice: it has the most to look at.
-const CALLED: [&str; 13] = [
-    "make", "restart", "begin", "read", "write", "write", "ask", "withdraw", "report", "send",
-    "deliver", "work", "load",
+const CALLED: [&str; 14] = [
+    "make",
+    "make_station",
+    "restart",
+    "begin",
+    "read",
+    "write",
+    "write",
+    "ask",
+    "withdraw",
+    "report",
+    "send",
+    "deliver",
+    "work",
+    "load",
 ];
 
 /// A number with the limits of what a call compares it with.
@@ -92,7 +105,7 @@ fn reached(random: &mut Random, seed: u64) -> Lent {
 fn alter(random: &mut Random, memory: &mut Lent) {
     let replicas = memory.counts.replicas;
     let counts = &mut memory.counts;
-    match random.below(18) {
+    match random.below(19) {
         0 => memory.table[random.below(6)] = row(random),
         1 => memory.table.fill_with(|| row(random)),
         2 => memory.table[random.below(6)].stage = small(random),
@@ -129,6 +142,7 @@ fn alter(random: &mut Random, memory: &mut Lent) {
         }
         15 => memory.outbox = place(random, replicas).to_vec(),
         16 => memory.classes.fill_with(|| byte(random)),
+        17 => counts.own = NO_NUMBER,
         _ => memory.classes[random.below(ITEMS)] = byte(random),
     }
 }
@@ -176,7 +190,7 @@ fn journal(random: &mut Random, n: u32) -> Vec<u8> {
 
 #[test]
 fn every_call_returns() {
-    let mut numbers = [0u32; 24];
+    let mut numbers = [0u32; 26];
     let seeds = Seeds::new(RUNS);
     seeds.each(|seed| {
         let mut random = Random::new(seed);
@@ -201,6 +215,11 @@ fn every_call_returns() {
                 assert_eq!(answer, refused(name, answer.0), "{place}");
                 assert!(answer.0 == 9 || memory == before, "{place}: {answer:?}");
             }
+            // Whatever else it holds, a memory without a number is a station's, and no other is.
+            let is_station = before.counts.own == NO_NUMBER;
+            let only_reads = is_station && ["write", "send"].contains(&name);
+            assert_eq!(answer.0 == 25, only_reads, "{place}: {answer:?}");
+            assert!(answer.0 != 19 || !is_station, "{place}: 19");
             match name {
                 "report" => assert_eq!(answer.0, 0, "{place}"),
                 "send" => {
@@ -214,8 +233,9 @@ fn every_call_returns() {
             numbers[usize::from(answer.0)] += 1;
         }
     });
-    // Every number of the table is met here too, unless fewer runs are asked for.
-    let missing: Vec<usize> = (0..24).filter(|&number| numbers[number] == 0).collect();
+    // Every number of the table, which has no 24, is met here too, unless fewer runs are asked for.
+    let met = |number: &usize| numbers[*number] > 0 || *number == 24;
+    let missing: Vec<usize> = (0..26).filter(|number| !met(number)).collect();
     assert!(seeds.runs < RUNS || missing.is_empty(), "{numbers:?}");
 }
 
@@ -231,7 +251,8 @@ fn same_append(before: &Lent, after: &Lent, answer: &str) {
     }
 }
 
-/// A take is a deliver and its works, as many as a take has at most; all return.
+/// A take is a deliver and its works, as many as a take has at most; all return. At a station it is the
+/// same, by steps that say less.
 fn same_take(memory: &Lent) {
     let mut calling = Replica::from_memory(memory.memory());
     let mut due = calling.deliver(&memory.bytes).map(|()| Taken {
@@ -252,6 +273,15 @@ fn same_take(memory: &Lent) {
     let mut taking = Replica::from_memory(memory.memory());
     assert_eq!(taking.take(&memory.bytes), due);
     assert!(taking == calling, "take: another memory");
+    let station = Station::from_memory(memory.memory());
+    assert_eq!(station.is_some(), memory.counts.own == NO_NUMBER);
+    if let Some(mut station) = station {
+        let taken = station.take(&memory.bytes);
+        let steps = taken.map(|taken| (stations::said(&taken.steps), taken.refused));
+        let due = due.map(|due| (stations::said_by_replica(&due.steps), due.refused));
+        assert_eq!(steps, due);
+        assert!(station.memory() == calling.memory(), "take: another memory");
+    }
 }
 
 /// A replica 0 of 2 with one transaction open, and its memory altered.
@@ -297,6 +327,13 @@ fn single_alterations() {
     assert_eq!(places(0, 2).write(1, 5, 0), Err(Refusal::WrongLength));
     assert_eq!(places(0, 0).write(1, 5, 0), Ok(()));
     assert_eq!(places(0, 0).work(), Err(Refusal::NothingWaits));
+    // At slot 255 of no replicas the turn is that of own number 255, and is no station's.
+    let mut station = altered(|memory| {
+        (memory.counts.own, memory.counts.replicas) = (NO_NUMBER, 0);
+        memory.turn.slot = u32::from(NO_NUMBER);
+    });
+    assert_eq!(station.send(), Err(Refusal::StationOnlyReads));
+    assert!(!station.is_turn());
     let good = samples::block_of(2, 1, &[]);
     let mut replica = places(200, 0);
     assert_eq!(replica.deliver(&good), Err(Refusal::WrongLength));

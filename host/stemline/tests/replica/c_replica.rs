@@ -6,11 +6,12 @@ use std::path::{Path, PathBuf};
 use std::rc::Rc;
 
 use model::block::MAX_TICKET;
-use model::drive::{Group, Machine, Peers, Powered, Seen, Style, Subject, STYLES};
+use model::drive::{start_values, Group, Machine, Peers, Powered, Seen, Style, Subject, STYLES};
 use model::replay::{hex, run as answers};
 use model::replica::{Replica, Report, Restarted, ITEMS, SLOTS};
 use model::samples::Random;
 use model::trace::{Answer, Call, Restart};
+use soak::runs::NUMBERS;
 
 use crate::c::{build, printed, run, run_c};
 use crate::lines::{line, shown};
@@ -18,6 +19,8 @@ use crate::seeds::Seeds;
 
 const CALLS: usize = 2_000;
 const RUNS: u64 = 20;
+/// The places of stations: no replica has them.
+const STATIONS: [usize; 2] = [6, 7];
 
 fn replay(name: &str) -> PathBuf {
     let source = include_str!("../c/replay.c");
@@ -83,7 +86,7 @@ impl List {
     }
 }
 
-/// A replica of the model at a place, whose calls are put down.
+/// A replica or station of the model at a place, whose calls are put down.
 struct Noted {
     place: usize,
     model: Machine,
@@ -93,13 +96,31 @@ struct Noted {
 impl Noted {
     /// Replica `own` of `n`, as it is after so many slots and tickets, at the place of its number.
     fn new(list: &Rc<RefCell<List>>, n: u32, own: u32, late: (u32, u32)) -> Noted {
-        let model = Replica::make(n, own, &model::drive::start_values()).unwrap();
+        let model = Replica::make(n, own, &start_values()).unwrap();
+        let line = format!("L {own} {n} {own} {} {}", late.0, late.1);
+        Noted::of(list, own as usize, model, late, &line)
+    }
+
+    /// A station of a group of `n` so, at a place above those of the replicas.
+    fn station(list: &Rc<RefCell<List>>, n: u32, place: usize, late: (u32, u32)) -> Noted {
+        let model = Replica::station(n, &start_values()).unwrap();
+        let line = format!("I {place} {n} {} {}", late.0, late.1);
+        Noted::of(list, place, model, late, &line)
+    }
+
+    fn of(
+        list: &Rc<RefCell<List>>,
+        place: usize,
+        model: Replica,
+        late: (u32, u32),
+        line: &str,
+    ) -> Noted {
         let noted = Noted {
-            place: own as usize,
+            place,
             model: Machine::new(model.fast_forward(late.0, late.1)),
             list: list.clone(),
         };
-        noted.note(&format!("L {own} {n} {own} {} {}", late.0, late.1), "0");
+        noted.note(line, "0");
         noted
     }
 
@@ -146,35 +167,53 @@ impl Powered for Noted {
     }
 }
 
-/// A group and a single replica among forged peers, as they are after so many slots and tickets. Where
-/// these are none, the group's replicas lose power.
+/// A group with two stations, and a single replica and a station among forged peers, as they are after so
+/// many slots and tickets. Where these are none, the group's replicas lose power, and so do its stations.
 fn play(list: &Rc<RefCell<List>>, seed: u64, style: Style, late: (u32, u32), seen: &mut Seen) {
     let n = 2 + seed as u32 % 5;
     let mut random = Random::new(seed);
     let members = (0..n).map(|own| Noted::new(list, n, own, late)).collect();
     let mut group: Group<Noted> = Group::new(members, style);
+    for place in STATIONS {
+        group.add_station(Noted::station(list, n, place, late));
+    }
     for _ in 0..CALLS {
-        match random.below(50) {
-            0 if late == (0, 0) => group.random_cut(&mut random),
+        match random.below(1_000) {
+            0..20 if late == (0, 0) => group.random_cut(&mut random),
+            20 => {
+                let lost = random.pick(group.stations());
+                let place = group.members[lost].place;
+                group.renew_station(lost, Noted::station(list, n, place, late));
+            }
             _ => group.random_call(&mut random),
         }
     }
     group.settle(2);
-    for (k, member) in group.members.iter().enumerate() {
+    for k in (0..n as usize).chain(group.stations().to_vec()) {
+        let member = &group.members[k];
         let values: Vec<String> = member.values().iter().map(i32::to_string).collect();
-        member.note(&format!("V {k}"), &format!("0 {}", values.join(" ")));
+        let line = format!("V {}", member.place);
+        member.note(&line, &format!("0 {}", values.join(" ")));
     }
     seen.add(&group.seen);
 
     let own = seed as u32 / 5 % n;
-    let mut single = Noted::new(list, n, own, late);
-    let mut peers = Peers::new(n, own, single.report());
+    let mut replica = Noted::new(list, n, own, late);
+    let peers = Peers::new(n, own, replica.report());
+    seen.add(&alone(&mut replica, peers, style, &mut random));
+    let mut station = Noted::station(list, n, STATIONS[0], late);
+    let peers = Peers::of_station(n, station.report());
+    seen.add(&alone(&mut station, peers, style, &mut random));
+}
+
+/// A replica or a station among forged peers.
+fn alone(single: &mut Noted, mut peers: Peers, style: Style, random: &mut Random) -> Seen {
     for _ in 0..CALLS {
-        let call = peers.random_call(&mut random, style);
+        let call = peers.random_call(random, style);
         let answer = single.call(&call);
         peers.feed(&call, &answer);
     }
-    seen.add(&peers.seen);
+    peers.seen
 }
 
 /// Random lists: the C program answers as the model does. No list of calls leads to 22.
@@ -199,8 +238,9 @@ fn random_lists() {
         let list = list.take();
         compare(&program, &list.lines, &list.due);
     });
-    let all: Vec<usize> = (1..=23).filter(|&number| number != 22).collect();
-    let enough = seen.numbers(20) == all && seen.restarts > 500;
+    let mut all = NUMBERS.to_vec();
+    all.retain(|&number| number != 22);
+    let enough = seen.numbers(20) == all && seen.restarts > 500 && seen.offered_again > 20;
     assert!(seeds.runs < RUNS || enough, "{seen:?}");
 }
 
@@ -212,14 +252,15 @@ fn any_bytes() {
     let lines: Vec<&str> = said.lines().collect();
     let least = [
         ("make", 2),
+        ("make_station", 2),
         ("restart", 2),
         ("begin", 3),
         ("read", 4),
-        ("write", 8),
+        ("write", 9),
         ("ask", 3),
         ("withdraw", 3),
         ("report", 1),
-        ("send", 4),
+        ("send", 5),
         ("deliver", 7),
         ("work", 4),
         ("load", 4),
@@ -256,6 +297,10 @@ fn refused_makes() {
             for (size_t i = 0; i < sizeof sizes / sizeof sizes[0]; i++) {
                 int number = stemline_replica_make(&s.r, sizes[i], 6, start);
                 hold(number == STEMLINE_OUT_OF_RANGE && same(&s.r, &before.r), "make");
+                if (sizes[i] < 2 || sizes[i] > 6) {
+                    number = stemline_replica_make_station(&s.r, sizes[i], start);
+                    hold(number == STEMLINE_OUT_OF_RANGE && same(&s.r, &before.r), "make_station");
+                }
                 stemline_restart_reply reply =
                     stemline_replica_restart(&s.r, sizes[i], 6, start, NULL, 0, block);
                 hold(reply.number == STEMLINE_OUT_OF_RANGE && same(&s.r, &before.r), "restart");
@@ -305,4 +350,30 @@ fn takes_at_altered_memory() {
         }
     "#;
     assert_eq!(run_c("takes", source, b""), "14 0:\n0 22: 1 2\n20 0:\n");
+}
+
+/// It is never a station's turn, also where altered memory has no replicas and the slot is its number.
+#[test]
+fn no_turn_at_a_station() {
+    let source = r#"
+        #include "same.h"
+        int main(void) {
+            static stemline_replica r;
+            static int32_t start[STEMLINE_ITEMS];
+            uint8_t block[STEMLINE_BLOCK];
+            for (uint32_t slot = 0; slot < 600; slot++) {
+                for (uint8_t n = 0; n <= 6; n++) {
+                    stemline_replica_make_station(&r, 2, start);
+                    r.turn.slot = slot;
+                    r.counts.replicas = n;
+                    hold(!stemline_replica_is_turn(&r), "is_turn at a station");
+                    hold(stemline_replica_send(&r, block) == STEMLINE_STATION_ONLY_READS, "send: not 25");
+                }
+            }
+            stemline_replica_make(&r, 2, 0, start);
+            printf("%d\n", stemline_replica_is_turn(&r));
+            return 0;
+        }
+    "#;
+    assert_eq!(run_c("station_turn", source, b""), "1\n");
 }

@@ -4,13 +4,13 @@
 use model::block::{BLOCK, MAX_TICKET};
 use stemline::ffi::Counts;
 
-use crate::lengths::{states, CALLS};
+use crate::lengths::{states, CALLS, FILLING};
 use crate::lent::{refused, Lent};
 
 /// The counts by name, with the calls that look at each. An accepted make or restart sets them all.
 const COUNTS: [(&str, &str); 9] = [
     ("replicas", "write send deliver work"),
-    ("own", "send deliver work"),
+    ("own", "write send deliver work"),
     ("commits", "begin report work"),
     ("done", "write work"),
     ("tickets", "begin report"),
@@ -75,7 +75,7 @@ fn every_byte_of_the_counts() {
                     let answer = call(name, &mut memory);
                     if !looks {
                         let mut due_memory = plain.clone();
-                        if !["make", "restart"].contains(&name) || due.0 != 0 {
+                        if !FILLING.contains(&name) || due.0 != 0 {
                             set(&mut due_memory.counts, count, at, byte);
                         }
                         assert_eq!(answer, due, "{name}: {count}, byte {at}: {byte}");
@@ -90,20 +90,25 @@ fn every_byte_of_the_counts() {
 /// Any number of replicas, with as many places, which hold something.
 #[test]
 fn every_number_of_replicas() {
-    let mut numbers = [0; 24];
-    for name in ["send", "deliver", "work"] {
+    let mut numbers = [0; 26];
+    for name in ["write", "send", "deliver", "work"] {
         for (state, _) in states(name) {
             for replicas in 0..=255 {
-                for own in [0, 1, 255] {
+                for own in [0, 1, 254, 255] {
                     let mut memory = state.clone();
                     (memory.counts.replicas, memory.counts.own) = (replicas, own);
                     memory.places.resize(BLOCK * usize::from(replicas), 2);
                     let answer = call(name, &mut memory);
                     numbers[usize::from(answer.0)] += 1;
+                    // Own number 255 is that of a station, however many there are.
+                    let only_reads = own == 255 && (name == "write" || name == "send");
+                    assert_eq!(answer.0 == 25, only_reads, "{name}: {replicas}, {own}");
                     // Slot 0 is replica 0's, however many there are.
-                    if name == "send" {
+                    if name == "send" && !only_reads {
                         assert_ne!(answer.0 == 11, own == 0, "{replicas}, {own}");
                     }
+                    // A block has no sender 254 or 255, so it is never their own.
+                    assert!(answer.0 != 19 || own < 2, "{replicas}, {own}");
                     // The block is of a group of two.
                     if name == "deliver" && answer.0 != 14 {
                         assert_eq!(answer.0 == 16, replicas != 2, "{replicas}, {own}");
@@ -113,7 +118,8 @@ fn every_number_of_replicas() {
         }
     }
     let met = |number: usize| numbers[number] > 0;
-    assert!([0, 11, 12, 14, 16, 21].into_iter().all(met), "{numbers:?}");
+    let due = [0, 11, 12, 14, 16, 19, 21, 25];
+    assert!(due.into_iter().all(met), "{numbers:?}");
 }
 
 /// The tickets at each side of their limit, and the counts at theirs: these stay.

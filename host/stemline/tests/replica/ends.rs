@@ -7,7 +7,7 @@ use model::replica::{self as second, Stage, SLOTS};
 use model::samples::block_of;
 use model::trace::{Answer, Call};
 use stemline::ffi::Txn;
-use stemline::Replica;
+use stemline::{Replica, Station};
 
 use crate::both::{same, Both};
 use crate::lent::Lent;
@@ -50,6 +50,36 @@ fn makes() {
                 }
                 _ => panic!("{n}, {own}: one is refused"),
             }
+        }
+    }
+}
+
+/// Stations the same, which are given no number.
+#[test]
+fn makes_of_stations() {
+    let values = start_values();
+    let used = Lent::of(with_own_block().library.memory());
+    for n in (0..10).chain([256, 258, 1 << 31, u32::MAX]) {
+        let model = second::Replica::station(n, &values);
+        let library = Station::new(n, &values);
+        let before = Lent { n, ..used.clone() };
+        let mut again = before.clone();
+        let (number, _) = again.call("make_station");
+        match (library, model) {
+            (Ok(library), Ok(model)) => {
+                same(&model, library.memory());
+                let made = Lent {
+                    n,
+                    ..Lent::of(library.memory())
+                };
+                let due = if n == 2 { (0, made) } else { (1, before) };
+                assert!((number, again) == due, "{n}");
+            }
+            (Err(refusal), Err(due)) => {
+                assert_eq!(refusal.number(), due);
+                assert!(number == 2 && again == before, "{n}");
+            }
+            _ => panic!("{n}: one is refused"),
         }
     }
 }

@@ -1,5 +1,5 @@
-//! Random lists of calls at whole groups, and at single replicas among forged peers: library and
-//! model give the same answers and hold the same memory after every call.
+//! Random lists of calls at whole groups with stations, and at single replicas and stations among forged
+//! peers: library and model give the same answers and hold the same memory after every call.
 
 use soak::runs;
 
@@ -27,8 +27,9 @@ fn library_and_model_give_the_same() {
     // Fewer runs may meet less.
     if seeds.runs >= RUNS {
         assert!(seen.calls >= 1_000_000, "{} calls", seen.calls);
-        let all: Vec<usize> = (1..=23).collect();
-        assert_eq!(seen.numbers(20), all, "{seen:?}");
+        assert_eq!(seen.numbers(20), runs::NUMBERS, "{seen:?}");
+        assert!(seen.far_at_stations > 500, "{seen:?}");
+        assert!(seen.offered_again > 100, "{seen:?}");
         assert!(seen.commits > 50_000 && seen.aborted > 10_000, "{seen:?}");
         assert!(seen.stale > 5_000 && seen.read_only > 5_000, "{seen:?}");
         assert!(seen.sent.iter().all(|&blocks| blocks > 200), "{seen:?}");

@@ -17,6 +17,18 @@ const HEADERS: &str = concat!(
     include_str!("../../../include/stemline.h")
 );
 const FIRST: &str = include_str!("../../../examples/first.c");
+const PRINT_ROOM: &str = include_str!("../../../examples/print_room.c");
+const PRINT_ROOM_SAYS: &str = "\
+the last block, too early: the block's slot is too far above the turn (18)
+slot 0: accepted, item 5 is 40
+slot 1: accepted, item 5 is 41
+slot 2: accepted, item 5 is 42
+slot 3: accepted, item 5 is 43
+slot 4: accepted, item 5 is 44
+slot 5: accepted, item 5 is 45
+a write: a station neither writes nor sends (25)
+read in the print room: 45
+";
 
 /// A program of these lines.
 fn program(lines: &str) -> String {
@@ -103,7 +115,7 @@ fn limits_have_one_name() {
     let rust = limits(include_str!("../../src/lib.rs"), "pub const ", &[':'], ';');
     assert_eq!(c, rust);
     assert!(
-        rust.len() == 10 && rust["ITEMS"] == ITEMS as u64,
+        rust.len() == 11 && rust["ITEMS"] == ITEMS as u64,
         "{rust:?}"
     );
 }
@@ -129,7 +141,7 @@ fn numbers_have_one_name() {
     }
     let cases = cases!(WrongLength OutOfRange NotOpen NotActive AllOpen TicketsSpent Applying Locked Stale
         WritesetFull NotOurTurn AlreadySent SlotsSpent WrongCheck WrongForm WrongGroup PastSlot FarSlot
-        NotSent SlotTaken NothingWaits NotOpenAsSent LoadWhileApplying);
+        NotSent SlotTaken NothingWaits NotOpenAsSent LoadWhileApplying StationOnlyReads);
     let (mut due, mut lines) = (String::new(), String::new());
     for (case, refusal) in cases {
         let mut name = String::new();
@@ -187,8 +199,8 @@ int main(void) {
 }
 "#;
 
-/// The headers with the first program, and that of the calls alone, without a warning, in each language that
-/// they are for.
+/// The headers with the first program and the one with a station, and that of the calls alone, without a
+/// warning, in each language that they are for.
 #[test]
 fn every_language() {
     let mut languages = vec![("cc", "c", "c99"), ("cc", "c", "c11")];
@@ -197,6 +209,7 @@ fn every_language() {
     }
     let programs = [
         ("first", FIRST, "the write: accepted\nitem 5: 40 and 40\n"),
+        ("print-room", PRINT_ROOM, PRINT_ROOM_SAYS),
         ("lent-alone", LENT, "1 3\n1 15\n9 2: 5 = -84\n"),
     ];
     for (compiler, extension, standard) in languages {

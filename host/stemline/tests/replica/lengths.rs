@@ -1,9 +1,9 @@
-//! Lent parts of a wrong length: 1, before any other number, and nothing is changed.
+//! Lent parts of a wrong length: 1, before any other number but a station's 25, and nothing is changed.
 
 use model::drive::start_values;
 use model::samples::{block_of, Random};
 use stemline::ffi::Txn;
-use stemline::{Replica, ITEMS};
+use stemline::{Replica, Station, ITEMS, NO_NUMBER};
 
 use crate::lent::{refused, Lent};
 
@@ -66,9 +66,13 @@ fn resize(lent: &mut Lent, part: &str, length: usize) {
 }
 
 /// The calls and the parts that each is lent. A journal has no wrong length.
-pub const CALLS: [(&str, &str); 12] = [
+pub const CALLS: [(&str, &str); 13] = [
     (
         "make",
+        "table queue items writes snapshots values stamps classes places outbox start",
+    ),
+    (
+        "make_station",
         "table queue items writes snapshots values stamps classes places outbox start",
     ),
     (
@@ -87,9 +91,12 @@ pub const CALLS: [(&str, &str); 12] = [
     ("load", "classes given"),
 ];
 
+/// The calls that fill the parts, whatever they held.
+pub const FILLING: [&str; 3] = ["make", "make_station", "restart"];
+
 /// A replica 0 of 2 at which the call is accepted; and one at which it is refused, by the number. For
 /// a work also one at which it leaves the slot of another, for a write and a load those at which a block
-/// of another is applied in part.
+/// of another is applied in part. Last a station of 2 with a block of another applied in part.
 pub fn states(name: &str) -> Vec<(Lent, u8)> {
     let mut replica = Replica::new(2, 0, &start_values()).unwrap();
     let ticket = replica.begin().unwrap();
@@ -115,7 +122,7 @@ pub fn states(name: &str) -> Vec<(Lent, u8)> {
     bad.ticket = 77;
     bad.bytes[100] ^= 4;
     let number = match name {
-        "make" | "restart" => {
+        "make" | "make_station" | "restart" => {
             bad.n = 7;
             2
         }
@@ -159,7 +166,30 @@ pub fn states(name: &str) -> Vec<(Lent, u8)> {
         };
         states.extend((name == "write").then_some((free, 0)));
     }
+    let station = Lent {
+        bytes: bytes.to_vec(),
+        journal,
+        ticket,
+        item: 6,
+        ..Lent::of(station().memory())
+    };
+    let number = match name {
+        "write" | "send" => 25,
+        "load" => 23,
+        _ => 0,
+    };
+    states.push((station, number));
     states
+}
+
+/// A station of 2 with one transaction, at slot 0 of which one of two writesets is applied.
+fn station() -> Station {
+    let mut station = Station::new(2, &start_values()).unwrap();
+    station.begin().unwrap();
+    let records: [(u32, &[(u8, i32)]); 2] = [(1, &[(5, 1)]), (2, &[(9, 1)])];
+    station.deliver(&block_of(2, 0, &records)).unwrap();
+    assert!(!station.work().unwrap().moved);
+    station
 }
 
 /// A replica 0 of 2 that has loaded classes, with one transaction, and a block of another applied in
@@ -180,7 +210,8 @@ fn applying() -> Replica {
     replica
 }
 
-/// Calls with these parts at wrong lengths; none of the parts may be lent to it, or it is 1.
+/// Calls with these parts at wrong lengths; none of the parts may be lent to it, or it is 1. At a station a
+/// write and a send are refused by 25 whatever is lent.
 fn check(name: &str, lent: &str, good: &Lent, number: u8, wrong: &[(&str, usize)]) {
     let mut state = good.clone();
     for &(part, length) in wrong {
@@ -190,12 +221,13 @@ fn check(name: &str, lent: &str, good: &Lent, number: u8, wrong: &[(&str, usize)
     let answer = state.call(name);
     // An n out of range gives the places no length.
     let seen = |part: &str| {
-        let fills = name == "make" || name == "restart";
-        let any = fills && part == "places" && good.n == 7;
+        let any = FILLING.contains(&name) && part == "places" && good.n == 7;
         lent.split(' ').any(|of_call| of_call == part) && !any
     };
+    let only_reads = good.counts.own == NO_NUMBER && ["write", "send"].contains(&name);
     if wrong.iter().any(|&(part, _)| seen(part)) {
-        assert_eq!(answer, refused(name, 1), "{name}, {wrong:?}");
+        let due = if only_reads { 25 } else { 1 };
+        assert_eq!(answer, refused(name, due), "{name}, {wrong:?}");
         assert!(state == before, "{name}, {wrong:?}: something is changed");
     } else {
         assert_eq!(answer, good.clone().call(name), "{name}, {wrong:?}");

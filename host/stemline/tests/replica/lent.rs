@@ -110,6 +110,22 @@ impl Lent {
                 &mut l.places,
                 &mut l.outbox,
             ),
+            "make_station" => ffi::make_station(
+                &mut l.table,
+                &mut l.turn,
+                &mut l.counts,
+                l.n,
+                &l.start,
+                &mut l.queue,
+                &mut l.items,
+                &mut l.writes,
+                &mut l.snapshots,
+                &mut l.values,
+                &mut l.stamps,
+                &mut l.classes,
+                &mut l.places,
+                &mut l.outbox,
+            ),
             "restart" => {
                 return said!(ffi::restart(
                     &mut l.table,

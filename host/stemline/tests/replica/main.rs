@@ -23,6 +23,7 @@ mod recorder;
 mod restarts;
 mod scenes;
 mod seeds;
+mod stations;
 mod story;
 mod takes;
 

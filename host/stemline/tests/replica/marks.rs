@@ -6,7 +6,6 @@ use model::replica::{Report, ITEMS};
 use model::samples::Random;
 use model::trace::{Answer, Call};
 use stemline::ffi::Turn;
-use stemline::Replica;
 
 use crate::both::Both;
 use crate::seeds::Seeds;
@@ -20,11 +19,9 @@ struct Marked {
 }
 
 impl Marked {
-    fn new(n: u32, own: u32, seed: u64) -> Marked {
-        Marked {
-            both: Both::new(n, own, &start_values()),
-            random: Random::new(seed),
-        }
+    fn new(both: Both, seed: u64) -> Marked {
+        let random = Random::new(seed);
+        Marked { both, random }
     }
 
     /// Puts other numbers for the marks that are on.
@@ -37,7 +34,7 @@ impl Marked {
             }
         }
         let turn = memory.turn;
-        self.both.library = Replica::from_memory(memory);
+        self.both.put(memory);
         turn
     }
 }
@@ -81,9 +78,10 @@ fn any_number_but_0_is_on() {
         let n = 2 + seed as u32 % 5;
         let style = STYLES[seed as usize / 5 % 4];
         let mut random = Random::new(seed);
-        let members = (0..n).map(|own| Marked::new(n, own, seed)).collect();
-        let mut group = Group::new(members, style);
-        let mut single = Marked::new(n, 0, seed);
+        let replica = |own| Marked::new(Both::new(n, own, &start_values()), seed);
+        let mut group = Group::new((0..n).map(replica).collect(), style);
+        group.add_station(Marked::new(Both::station(n, &start_values()), seed));
+        let mut single = replica(0);
         let mut peers = Peers::new(n, 0, single.report());
         for _ in 0..CALLS {
             group.random_call(&mut random);

@@ -1,9 +1,10 @@
-//! The twelve calls and the three functions that read a block, with their parameters, in order, as the crates
+//! The thirteen calls and the three functions that read a block, with their parameters, in order, as the crates
 //! of the engine export them; the C header and the Rust crate declare the same. A compiler sees types alone, of
 //! which several parameters have the same.
 
 const ENGINE: &str = concat!(
     include_str!("../../../../crates/replica_make/src/lib.rt"),
+    include_str!("../../../../crates/replica_station/src/lib.rt"),
     include_str!("../../../../crates/replica_client/src/lib.rt"),
     include_str!("../../../../crates/replica_write/src/lib.rt"),
     include_str!("../../../../crates/replica_turn/src/lib.rt"),
@@ -92,7 +93,7 @@ fn sorted(mut all: Vec<Function>) -> Vec<Function> {
 
 fn engine() -> Vec<Function> {
     let found = functions(ENGINE, "pub extern \"C\" fn ", &['\n', '{']);
-    assert_eq!(found.len(), 12 + 3);
+    assert_eq!(found.len(), 13 + 3);
     sorted(found)
 }
 

@@ -2,6 +2,7 @@
 //! and by the proved program.
 
 mod program;
+mod stations;
 
 use std::io::{self, Write};
 
@@ -106,7 +107,7 @@ fn the_model_plays_the_same() {
 
 /// What a member of a group of `n` has on its disk after so many calls and some cuts, maybe cut itself.
 fn journal(n: u32, own: u32, calls: usize, random: &mut Random) -> Vec<u8> {
-    let members = (0..n).map(|own| Machine::make(n, own, &start_values()).unwrap());
+    let members = (0..n).map(|own| Machine::make(n, Some(own), &start_values()).unwrap());
     let mut group = Group::new(members.collect(), STYLES[random.below(4)]);
     for _ in 0..calls {
         match random.below(60) {

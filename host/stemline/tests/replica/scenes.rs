@@ -5,53 +5,89 @@ use model::drive::{Powered, Subject};
 use model::replica::{self as second, Restarted, ITEMS};
 use model::scenes::{self, Player};
 use model::trace::{Answer, Call, Restart};
+use soak::played_at_station;
 use stemline::ffi::Txn;
-use stemline::{Memory, Refusal, Replica};
+use stemline::{Memory, Refusal, Replica, Station};
 
-use crate::both::{play, report, restarted};
+use crate::both::{play, report, restarted, stepped};
 
-/// A replica of the library and its disk.
-struct Library {
-    replica: Replica,
-    disk: Vec<u8>,
+/// A replica of the library and its disk, or a station.
+enum Library {
+    Replica(Replica, Vec<u8>),
+    Station(Station),
 }
 
 impl Library {
-    fn make(n: u32, own: u32, values: &[i32; ITEMS]) -> Result<Library, u8> {
-        let replica = Replica::new(n, own, values).map_err(Refusal::number)?;
-        let disk = Vec::new();
-        Ok(Library { replica, disk })
+    fn make(n: u32, own: Option<u32>, values: &[i32; ITEMS]) -> Result<Library, u8> {
+        let made = match own {
+            Some(own) => {
+                Replica::new(n, own, values).map(|made| Library::Replica(made, Vec::new()))
+            }
+            None => Station::new(n, values).map(Library::Station),
+        };
+        made.map_err(Refusal::number)
+    }
+
+    fn memory(&self) -> &Memory {
+        match self {
+            Library::Replica(replica, _) => replica.memory(),
+            Library::Station(station) => station.memory(),
+        }
     }
 
     fn alter(&mut self, change: impl FnOnce(&mut Memory)) {
-        let mut memory = self.replica.memory().clone();
+        let mut memory = self.memory().clone();
         change(&mut memory);
-        self.replica = Replica::from_memory(memory);
+        match self {
+            Library::Replica(replica, _) => *replica = Replica::from_memory(memory),
+            Library::Station(station) => *station = Station::from_memory(memory).unwrap(),
+        }
     }
 }
 
 impl Subject for Library {
     fn call(&mut self, call: &Call) -> Result<Answer, u8> {
-        play(&mut self.replica, call, &mut self.disk)
+        match self {
+            Library::Replica(replica, disk) => play(replica, call, disk),
+            Library::Station(station) => match played_at_station!(station, call) {
+                Some(answer) => answer,
+                // A call that a station has not is refused by 25 over its memory, and changes nothing there.
+                None => {
+                    let mut over = Replica::from_memory(station.memory().clone());
+                    let answer = play(&mut over, call, &mut Vec::new());
+                    assert!(answer == Err(25) && over.memory() == station.memory());
+                    answer
+                }
+            },
+        }
     }
     fn report(&self) -> second::Report {
-        report(self.replica.report())
+        report(match self {
+            Library::Replica(replica, _) => replica.report(),
+            Library::Station(station) => station.report(),
+        })
     }
     fn values(&self) -> [i32; ITEMS] {
-        *self.replica.values()
+        self.memory().values
     }
 }
 
 impl Powered for Library {
     fn disk(&self) -> &[u8] {
-        &self.disk
+        match self {
+            Library::Replica(_, disk) => disk,
+            Library::Station(_) => &[],
+        }
     }
     fn floor(&self) -> usize {
         0
     }
     fn restart(&mut self, restart: &Restart) -> Result<Restarted, u8> {
-        let restarted = restarted(&mut self.replica, restart)?;
-        self.disk = restart.journal[..BLOCK * restarted.count as usize].to_vec();
+        let Library::Replica(replica, disk) = self else {
+            panic!("a station has no restart");
+        };
+        let restarted = restarted(replica, restart)?;
+        *disk = restart.journal[..BLOCK * restarted.count as usize].to_vec();
         Ok(restarted)
     }
 }

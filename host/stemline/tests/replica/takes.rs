@@ -6,7 +6,7 @@ use model::samples::{block_of, Random};
 use model::trace::{Answer, Call};
 use stemline::{Refusal, Replica, Work, REPLICAS, STEPS};
 
-use crate::both::{worked, Both};
+use crate::both::{stepped, worked, Both};
 use crate::seeds::Seeds;
 
 const CALLS: usize = 2_000;
@@ -30,18 +30,16 @@ impl Met {
     }
 }
 
-/// A pair at which each deliver is tried as a take before.
+/// A pair, of replicas or stations, at which each deliver is tried as a take before.
 struct Taking {
     both: Both,
     met: Met,
 }
 
 impl Taking {
-    fn new(n: u32, own: u32) -> Taking {
-        Taking {
-            both: Both::new(n, own, &start_values()),
-            met: Met::default(),
-        }
+    fn new(both: Both) -> Taking {
+        let met = Met::default();
+        Taking { both, met }
     }
 
     /// On copies: a take by the library, and the calls by library and model.
@@ -49,10 +47,10 @@ impl Taking {
         let mut calls = self.both.clone();
         let mut library = self.both.library.clone();
         let taken = library.take(bytes);
-        let bytes = bytes.to_vec();
-        let due = calls
-            .call(&Call::Deliver { bytes })
-            .map(|_| works(&mut calls));
+        let delivered = calls.call(&Call::Deliver {
+            bytes: bytes.to_vec(),
+        });
+        let due = delivered.map(|_| works(&mut calls));
         match &due {
             Err(_) => self.met.refused += 1,
             Ok(steps) => match steps.iter().filter(|step| step.moved).count() {
@@ -61,10 +59,17 @@ impl Taking {
                 _ => self.met.several += 1,
             },
         }
-        let steps = taken.iter().flat_map(|taken| &taken.steps);
-        let appended = steps.filter_map(Work::append).flatten().copied();
-        let appended: Vec<u8> = appended.collect();
-        assert!(appended == calls.disk()[self.both.disk().len()..]);
+        if let Some(mut station) = self.both.station.clone() {
+            let taken = station.take(bytes);
+            let steps = taken.map(|taken| taken.steps.into_iter().map(stepped).collect());
+            assert_eq!(steps.map_err(Refusal::number), due, "a station's take");
+            assert!(station.memory() == library.memory(), "another memory");
+        } else {
+            let steps = taken.iter().flat_map(|taken| &taken.steps);
+            let appended = steps.filter_map(Work::append).flatten().copied();
+            let appended: Vec<u8> = appended.collect();
+            assert!(appended == calls.disk()[self.both.disk().len()..]);
+        }
         let given = taken.map(|taken| {
             assert_eq!(taken.refused, None);
             taken.steps.iter().map(worked).collect()
@@ -112,9 +117,10 @@ fn a_take_is_a_deliver_and_its_works() {
         let n = 2 + seed as u32 % 5;
         let style = STYLES[seed as usize / 5 % 4];
         let mut random = Random::new(seed);
-        let members = (0..n).map(|own| Taking::new(n, own)).collect();
-        let mut group = Group::new(members, style);
-        let mut single = Taking::new(n, 0);
+        let replica = |own| Taking::new(Both::new(n, own, &start_values()));
+        let mut group = Group::new((0..n).map(replica).collect(), style);
+        group.add_station(Taking::new(Both::station(n, &start_values())));
+        let mut single = replica(0);
         let mut peers = Peers::new(n, 0, single.report());
         for _ in 0..CALLS {
             group.random_call(&mut random);

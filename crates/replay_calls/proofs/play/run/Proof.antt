@@ -1,7 +1,7 @@
 -- `play::run` meets its contract.
 use borrow.Author.Needs.{needs}
 use mir.Facts.{toZ-ofZ}
-use Rattle.replay_calls.proofs.RunLaws.{run-make, run-begin, run-read, run-write, run-ask, run-withdraw, run-report, run-send, run-deliver, run-work, run-restart, run-load, run-show, run-look}
+use Rattle.replay_calls.proofs.RunLaws.{run-make, run-begin, run-read, run-write, run-ask, run-withdraw, run-report, run-send, run-deliver, run-work, run-restart, run-load, run-show, run-station, run-look}
 use Rattle.replay_calls.proofs.play.run.Statement.{statement}
 use Rattle.replay_calls.proofs.play.run.Tie as tie
 
@@ -43,6 +43,9 @@ load-requires c κs = search needs
 
 show-requires : tie.Need-show-requires
 show-requires c κs = search needs
+
+make-requires-2 : tie.Need-make-requires-2
+make-requires-2 c κs = search needs
 
 shown-requires : tie.Need-shown-requires
 shown-requires c κs = search needs
@@ -126,9 +129,15 @@ returns-13 c =
 
 returns-14 : tie.Need-returns-14
 returns-14 c =
+    let a = c .before .before .before .before .before .args in
+    run-station (a .call) (a .replica) (c .make2 .result) (a .bytes .now) (a .block .now) (c .before .before .match .keys14) (rw (toZ-ofZ (record { sfits = c .before .struct-told4 .given .1 .1 .1 .0 .1 })) at (c .make2 .ensures))
+
+returns-15 : tie.Need-returns-15
+returns-15 c =
     let a = c .before .before .before .before .args in
     let n = c .before .match .rest in
-    run-look (a .call) (a .replica) (c .shown .result) (a .bytes .now) (a .block .now) (n .0 .0 .0 .0 .0 .0 .0 .0 .0 .0 .0 .0 .1) (n .0 .0 .0 .0 .0 .0 .0 .0 .0 .0 .0 .1) (n .0 .0 .0 .0 .0 .0 .0 .0 .0 .0 .1) (n .0 .0 .0 .0 .0 .0 .0 .0 .0 .1) (n .0 .0 .0 .0 .0 .0 .0 .0 .1) (n .0 .0 .0 .0 .0 .0 .0 .1) (n .0 .0 .0 .0 .0 .0 .1) (n .0 .0 .0 .0 .0 .1) (n .0 .0 .0 .0 .1) (n .0 .0 .0 .1) (n .0 .0 .1) (n .0 .1) (n .1) (c .shown .ensures)
+    run-look (a .call) (a .replica) (c .shown .result) (a .bytes .now) (a .block .now)
+    (n .0 .0 .0 .0 .0 .0 .0 .0 .0 .0 .0 .0 .0 .1) (n .0 .0 .0 .0 .0 .0 .0 .0 .0 .0 .0 .0 .1) (n .0 .0 .0 .0 .0 .0 .0 .0 .0 .0 .0 .1) (n .0 .0 .0 .0 .0 .0 .0 .0 .0 .0 .1) (n .0 .0 .0 .0 .0 .0 .0 .0 .0 .1) (n .0 .0 .0 .0 .0 .0 .0 .0 .1) (n .0 .0 .0 .0 .0 .0 .0 .1) (n .0 .0 .0 .0 .0 .0 .1) (n .0 .0 .0 .0 .0 .1) (n .0 .0 .0 .0 .1) (n .0 .0 .0 .1) (n .0 .0 .1) (n .0 .1) (n .1) (c .shown .ensures)
 
 pub run-spec : {M : Type 1} → statement M
 run-spec =
@@ -147,6 +156,7 @@ run-spec =
     restart-requires
     load-requires
     show-requires
+    make-requires-2
     shown-requires
     returns
     returns-2
@@ -165,4 +175,5 @@ run-spec =
     returns-12
     same-length-4
     returns-13
-    returns-14)
+    returns-14
+    returns-15)

@@ -36,7 +36,7 @@ fn fields_numbers_and_bytes() {
     let lines =
         "Z|Z 0|Z 0 0|Z 0 0 |Z 0 0 0 0|Z 0  0|Z  0 0 0|z 0 0 0|J|J 0|J 0 |J 0 0 0|j 0 0|Y|Y 0|\
         Y 0 2 0 0|Y 0 2 0 0  |Y 0 2 0 0 00 00|Y 0 2 0  |y 0 2 0 0 |Y 0 2 0 0 0|Y 0 2 0 0 0A|\
-        Y 0 2 0 0 0g|Y 0 2 0 0 000|Z 6 0 0|J 6 0|Y 6 2 0 0 |Y 0 2 0 0 00\r|ZZ 0 0 0";
+        Y 0 2 0 0 0g|Y 0 2 0 0 000|Z 8 0 0|J 8 0|Y 8 2 0 0 |Y 0 2 0 0 00\r|ZZ 0 0 0";
     check_rejected(&replay, lines.split('|'));
     let places = "Z * 0 0|J * 0|Y * 2 0 0 |Z 0 * 0|J 0 *|Y 0 * 0 0 |Y 0 2 * 0 ";
     for number in "|00|01|+1|-1|-0|1a|0x1|4294967296|4294967808|18446744073709551616".split('|') {

@@ -2,6 +2,7 @@
 
 use std::collections::{BTreeMap, BTreeSet};
 
+use super::stations::Station;
 use super::{client_call, Round};
 use crate::block::{self, Message, BLOCK, MAX_TICKET};
 use crate::replay::KEPT;
@@ -11,10 +12,11 @@ use crate::workload::List;
 
 pub(super) struct Group {
     members: Vec<Member>,
+    pub(super) stations: Vec<Station>,
     /// The value that every item started with.
-    value: i32,
+    pub(super) value: i32,
     /// By slot the number of its block in the run.
-    blocks: BTreeMap<u32, u64>,
+    pub(super) blocks: BTreeMap<u32, u64>,
     /// The member that gets no block for now, if there is one of this index.
     withheld: usize,
 }
@@ -50,14 +52,30 @@ impl Group {
         };
         Group {
             members: (0..size).map(member).collect(),
+            stations: Vec::new(),
             value,
             blocks: BTreeMap::new(),
             withheld: size,
         }
     }
 
+    /// The places of its replicas, then those of its stations.
     pub fn places(&self) -> Vec<usize> {
-        self.members.iter().map(|member| member.place).collect()
+        let replicas = self.members.iter().map(|member| member.place);
+        let stations = self.stations.iter().map(|station| station.place);
+        replicas.chain(stations).collect()
+    }
+
+    /// The number of its replicas.
+    pub fn size(&self) -> usize {
+        self.members.len()
+    }
+
+    /// The place of the replica that a slot belongs to.
+    pub fn place_of(&self, slot: u32) -> usize {
+        let owner = self.owner(slot);
+        let member = self.members.iter().find(|member| member.own == owner);
+        member.expect("each number has a member").place
     }
 
     /// One random call.
@@ -218,8 +236,8 @@ impl Group {
         })
     }
 
-    /// Lets every member send twice and brings all blocks to all, so that all end at one turn, and
-    /// shows them.
+    /// Lets every member send twice and brings all blocks to all, so that all end at one turn, the
+    /// stations too, and shows them.
     pub fn settle(&mut self, list: &mut List) {
         let size = self.members.len();
         for step in 0..=2 * size {
@@ -235,9 +253,10 @@ impl Group {
                 list.work_off(self.members[at].place);
             }
         }
-        for place in self.places() {
+        for Member { place, .. } in &self.members {
             list.calls(&format!("Q {place}, V {place}"));
         }
+        self.settle_stations(list);
     }
 
     /// The blocks within a member's reach that it has not, by their number in the run.

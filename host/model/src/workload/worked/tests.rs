@@ -2,12 +2,13 @@
 
 use super::*;
 use crate::replay::Replay;
-use crate::workload::{classes, restarts};
+use crate::workload::{classes, restarts, stations};
 
 /// All of them.
 fn lists() -> impl Iterator<Item = (&'static str, &'static str)> {
     let (first, second) = (restarts::worked::LISTS, classes::worked::LISTS);
-    first.into_iter().chain(second)
+    let lists = first.into_iter().chain(second);
+    lists.chain(stations::worked::LISTS)
 }
 
 /// Whether an answer is of a pattern.

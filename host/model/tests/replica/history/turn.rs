@@ -7,11 +7,11 @@ use super::{Fault, Historical, State};
 
 impl Historical {
     pub(super) fn send(&mut self) -> Result<[u8; BLOCK], u8> {
-        let turn = self.turn();
+        let (turn, own) = (self.turn(), self.own.ok_or(25)?);
         if turn == SLOTS {
             return Err(13);
         }
-        if turn % self.n != self.own {
+        if turn % self.n != own {
             return Err(11);
         }
         if self.present_block().is_some() {
@@ -20,7 +20,7 @@ impl Historical {
         let records = self.take_queue();
         let block = block::encode(&Message {
             kind: if records.is_empty() { NEXT } else { TO_COMMIT },
-            sender: self.own as u8,
+            sender: own as u8,
             replicas: self.n as u8,
             slot: turn,
             records,
@@ -54,7 +54,7 @@ impl Historical {
         if message.slot >= turn + self.n {
             return Err(18);
         }
-        let own = u32::from(message.sender) == self.own;
+        let own = Some(u32::from(message.sender)) == self.own;
         if own && self.present_block().is_none_or(|block| block != bytes) {
             return Err(19);
         }
@@ -87,7 +87,7 @@ impl Historical {
         if let Some(record) = record.filter(|_| self.fault != Fault::DropsBlocks) {
             work.ticket = record.ticket;
             work.moved = done + 1 == message.records.len() || self.fault == Fault::FirstOnly;
-            let own = u32::from(message.sender) == self.own;
+            let own = Some(u32::from(message.sender)) == self.own;
             for t in &mut self.begun {
                 let spared = t.state == State::Asked && self.fault == Fault::SparesAsked;
                 let in_reach = matches!(t.state, State::Active | State::Asked) && !spared;

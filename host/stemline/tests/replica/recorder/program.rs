@@ -6,9 +6,9 @@ use std::{fs, iter};
 
 use model::drive::start_values;
 use model::samples::Random;
-use stemline::Recorder;
+use stemline::{Recorder, StationRecorder};
 
-use super::{altered, drive, journal, text, values};
+use super::{altered, drive, journal, stations, text, values};
 
 /// The repository's top folder.
 fn top() -> PathBuf {
@@ -28,7 +28,7 @@ fn recorded(files: &[&Path]) -> Output {
     script.output().unwrap()
 }
 
-/// Makes and restarts of all kinds, in one list.
+/// Makes and restarts of all kinds, and a station, in one list.
 fn long_list(random: &mut Random) -> (String, String) {
     let lists = [None, Some(10), Some(500), Some(20_000)].map(|calls| {
         let (calls_out, answers_out) = (Vec::new(), Vec::new());
@@ -45,7 +45,11 @@ fn long_list(random: &mut Random) -> (String, String) {
         assert_eq!(recorder.stopped(), None);
         text(recorder)
     });
-    lists.into_iter().unzip()
+    let made = StationRecorder::new(3, 7, &values(random), Vec::new(), Vec::new());
+    let mut station = made.unwrap();
+    stations::drive(&mut station, 3, 3_000, random);
+    assert_eq!(station.stopped(), None);
+    lists.into_iter().chain([stations::text(station)]).unzip()
 }
 
 /// What the script says of two lists, and its status. The files have the test's name.
@@ -67,14 +71,14 @@ fn the_proved_program_plays_the_same() {
     let (calls, answers) = long_list(&mut Random::new(1));
     let lines = calls.lines().count();
     assert!(lines > 6_000, "{lines}");
-    // A make, a restart of each kind.
+    // A make, a restart of each kind, a station.
     let count = |letter| {
         calls
             .lines()
             .filter(|line| line.starts_with(letter))
             .count()
     };
-    assert_eq!(['M', 'Y', 'Z'].map(count), [3, 1, 1]);
+    assert_eq!(['M', 'Y', 'Z', 'A'].map(count), [3, 1, 1, 1]);
     let same = format!("{lines} calls, all answered as by the program\n");
     assert_eq!(told("same", &calls, &answers), (Some(0), same));
     for line in [1, 2, lines / 2, lines] {

@@ -1,8 +1,9 @@
--- `replica_named` meets its contract.
+-- `place_named` meets its contract.
+use native.Mathlib.Omega.{arith}
 use borrow.Author.Needs.{needs}
 use Rattle.replay_parse.proofs.LineLaws.{named-short, named-other, named-below, named-above, named-is}
-use Rattle.replay_parse.proofs.replica_named.Statement.{statement}
-use Rattle.replay_parse.proofs.replica_named.Tie as tie
+use Rattle.replay_parse.proofs.place_named.Statement.{statement}
+use Rattle.replay_parse.proofs.place_named.Tie as tie
 
 returns : tie.Need-returns
 returns c = named-short (c .before .args .line .now) (c .if1 .taken)
@@ -20,16 +21,16 @@ returns-3 : tie.Need-returns-3
 returns-3 c = named-below (c .before .before .before .before .before .args .line .now) (c .before .before .before .before .if1 .left) (c .before .before .if2 .left) (c .if3 .taken)
 
 returns-4 : tie.Need-returns-4
-returns-4 c = named-above (c .before .before .before .before .before .before .args .line .now) (c .before .before .before .before .before .if1 .left) (c .before .before .before .if2 .left) (c .before .if3 .left) (c .if4 .taken)
+returns-4 c = named-above (c .before .before .before .before .before .before .args .line .now) (c .before .before .before .before .before .if1 .left) (c .before .before .before .if2 .left) (c .before .if3 .left) (omega (arith, c .if4 .taken))
 
 cast-result : tie.Need-cast-result
 cast-result c = search needs
 
 returns-5 : tie.Need-returns-5
-returns-5 c = named-is (c .before .before .before .before .before .before .args .line .now) (c .before .before .before .before .before .if1 .left) (c .before .before .before .if2 .left) (c .before .if3 .left) (c .if4 .left)
+returns-5 c = named-is (c .before .before .before .before .before .before .args .line .now) (c .before .before .before .before .before .if1 .left) (c .before .before .before .if2 .left) (c .before .if3 .left) (omega (arith, c .if4 .left))
 
-pub replica-named-spec : {M : Type 1} → statement M
-replica-named-spec =
+pub place-named-spec : {M : Type 1} → statement M
+place-named-spec =
     tie.close
     (tie.spec
     returns

@@ -1,0 +1,125 @@
+-- What a call owes at a member of the group: at a replica what it owes there, and at a station the model's step at a member that owns no slot. Assumes nothing.
+use Prim.Native.Nat.{ℕ, _%_, _≤_, _<_}
+use mathlib.Core.Path.{_≡_, refl, sym, ap, _∙_}
+use mathlib.Core.Bool.{true}
+use mathlib.Core.Option.{some}
+use mathlib.Core.List.{List}
+use native.Mathlib.Nat.{mod-lt}
+use native.Mathlib.Omega.{arith}
+use lib.IntN.{ℤ}
+use borrow.Author.Tests.{eq-eqb}
+use Rattle.block.specs.Message.{ownerOf}
+use Rattle.block.specs.Answers.{blockRefusal, headerOf}
+use Rattle.memory.specs.Memory.{Memory, noNumber, isStation}
+use Rattle.memory.specs.Turns.{blockIn, isEmpty}
+use Rattle.engine.specs.Calls.{Outcome, outcome}
+use Rattle.engine.specs.Calls.Answer.{refused}
+use Rattle.engine.specs.Moves.{deliverRefusal}
+use Rattle.engine.specs.Restart.{blocksIn, restartRefusal, restartStep}
+use Rattle.engine.specs.Step.{Call, step}
+use Rattle.engine.specs.Step.Call.{begin, read, write, ask, withdraw, report, send, deliver, work, load}
+use Rattle.engine.proofs.Tests.{bool-by, not-first}
+use Rattle.engine.proofs.Steps.{deliver-by, restart-by}
+use Rattle.engine.proofs.Passed.{deliver-passed, restart-passed}
+use Rattle.engine.proofs.BlockFacts.{taken-block}
+use Rattle.engine.proofs.Reports.{restarted-own}
+use Rattle.engine.proofs.Stations.{stations}
+use Rattle.protocol.specs.Writesets.{Message}
+use Rattle.protocol.specs.Replica.{Event}
+use Rattle.protocol.specs.System as system
+use Rattle.protocol.specs.Machine.{Alike}
+use Rattle.protocol.proofs.Stations.{alike-numbered, Foreign, step-under}
+use Rattle.agreement.specs.Group.{messageIn, GroupCall, call, restart, heard}
+use Rattle.agreement.proofs.View.{setup, placeAt, view, viewAt, Sound, meant, Owed, refuses, follows, alike-same}
+use Rattle.agreement.proofs.PlaceView.{place-empty, place-taken}
+use Rattle.agreement.proofs.BlockView.{sender-seen}
+use Rattle.agreement.proofs.RestartStep.{not-nine, meantBy, RestartOwed, turned-away, restores, restart-owes}
+
+-- what the outcome o of call c at member k owes: a refusal other than 9 that leaves the view alone, or the model's step
+pub data OwedAt (n : ℕ) (start : List ℤ) (k : ℕ) (m : Memory) (c : GroupCall) (o : Outcome) : Type 0 where
+  refuses-at : (i : ℕ) → (i ≡ 9 → ⊥) → heard n c (o .answer) ≡ Event.refused i → Alike (viewAt k m) (viewAt k (o .memory)) → OwedAt n start k m c o
+  follows-at : heard n c (o .answer) ≡ system.step (setup n start) (viewAt k m) (meantBy n c) .event → Alike (system.step (setup n start) (viewAt k m) (meantBy n c) .replica) (viewAt k (o .memory))
+      → OwedAt n start k m c o
+
+turned-away-at : (n : ℕ) (start : List ℤ) (k : ℕ) (m : Memory) (c : GroupCall) (i : ℕ) → (i ≡ 9 → ⊥) → OwedAt n start k m c (outcome (refused i) m)
+unfolding heard
+turned-away-at n start k m c i h = refuses-at i h refl (alike-same (viewAt k m))
+
+-- ---- a replica
+
+pub view-own : (k : ℕ) (m : Memory) → m .counts .own ≡ k → viewAt k m ≡ view m
+view-own k m e = ap (λ (j : ℕ). viewAt j m) (sym e)
+
+module _ (n : ℕ) (start : List ℤ) (k : ℕ) (m : Memory) (q : m .counts .own ≡ k) where
+  pub replica-owes : (c : Call) (o : Outcome) → o .memory .counts .own ≡ k → Owed n start m c o → OwedAt n start k m (call c) o
+  replica-owes c o f (refuses i h e L) = refuses-at i h e (rw (view-own k m q, view-own k (o .memory) f) L)
+  replica-owes c o f (follows e L) = follows-at (rw (view-own k m q) e) (rw (view-own k m q, view-own k (o .memory) f) L)
+
+  restarted-owes : (j b : List ℕ) (o : Outcome) → o .memory .counts .own ≡ k → RestartOwed n start m j b o → OwedAt n start k m (restart j b) o
+  restarted-owes j b o f (turned-away i h e L) = refuses-at i h e (rw (view-own k m q, view-own k (o .memory) f) L)
+  restarted-owes j b o f (restores e L) = follows-at (rw (view-own k m q) e) (rw (view-own k m q, view-own k (o .memory) f) L)
+
+  pub replica-restarts : (j b : List ℕ) → OwedAt n start k m (restart j b) (restartStep m n k start j b)
+  replica-restarts j b =
+      restarted-owes j b (restartStep m n k start j b)
+      (restart-by (λ (o : Outcome). o .memory .counts .own ≡ k) m n k start j b (λ e. restarted-own n k start (blocksIn n j)) (λ e. q)) (restart-owes n start m j b k q)
+
+-- ---- a station
+
+-- the sender of a block of the group is one of its replicas
+sender-among : (n : ℕ) (b : List ℕ) → 0 < n → blockRefusal b ≡ 0 → headerOf b .replicas ≡ n → messageIn b .sender < n
+unfolding ownerOf
+sender-among n b above e r = rw (sender-seen b, taken-block b e .sender, r) (mod-lt (headerOf b .slot) above)
+
+module _ (n : ℕ) (start : List ℤ) (most : n ≤ 6) (k : ℕ) (m : Memory) (s : Sound n m) (above : n ≤ k) (no-own : m .counts .own ≡ noNumber) where
+  any-replica : 0 < n
+  any-replica = omega (arith, s .shape .ranges .least, s .size)
+
+  station : isStation m ≡ true
+  station = eq-eqb (m .counts .own) noNumber no-own
+
+  -- a message from a replica is met neither under its own number nor under the group's
+  foreign : (a : Message ℤ) → a .sender < n → (a .sender ≡ m .counts .own → ⊥) × (a .sender ≡ k → ⊥)
+  foreign a h = ((λ e. let q = no-own in omega arith), (λ e. omega arith))
+
+  -- the message at the turn is from a replica
+  at-turn : (a : Message ℤ) → placeAt (m .blocks .places) (m .turn .slot % n) ≡ some a → a .sender < n
+  at-turn a e = bool-by (isEmpty n (m .turn .slot) (m .blocks .places))
+      (λ z. let q = sym (place-empty n (m .turn .slot) (m .blocks .places) z) ∙ e in absurd (let w : _≡_ {A = ℕ} 0 1 = cc in let v : ⊥ = omega arith in v))
+      (λ z.
+      let b = blockIn n (m .turn .slot) (m .blocks .places) in
+      let w = s .shape .places .waits (m .turn .slot) (omega arith) (omega (arith, s .shape .ranges .least)) (rw (s .size) z) in
+      let q : messageIn b ≡ a = (let q = sym (place-taken n (m .turn .slot) (m .blocks .places) z) ∙ e in cc) in
+      rw (← q) (sender-among n b any-replica (rw (s .size) at (w .0)) (rw (s .size) at (w .2))))
+
+  under : (c : Call) (o : Outcome) → Foreign (setup n start) (m .counts .own) (view m) (meant c) → Foreign (setup n start) k (view m) (meant c) → Owed n start m c o → OwedAt n start k m (call c) o
+  under c o d e (refuses i h q L) = refuses-at i h q (alike-numbered k (view m) (view (o .memory)) L)
+  under c o d e (follows q L) =
+      let z = step-under (setup n start) k (view m) (meant c) d e in
+      follows-at (rw z q) (rw z (alike-numbered k _ (view (o .memory)) L))
+
+  pub station-owes : (c : Call) → Owed n start m c (step m c) → OwedAt n start k m (call c) (step m c)
+  station-owes begin O = under begin _ tt tt O
+  station-owes (read t i) O = under (read t i) _ tt tt O
+  station-owes (write t i v) O = rw (stations .writes m station t i v) (turned-away-at n start k m (call (write t i v)) 25 (λ e. omega arith))
+  station-owes (ask t) O = under (ask t) _ tt tt O
+  station-owes (withdraw t) O = under (withdraw t) _ tt tt O
+  station-owes report O = under report _ tt tt O
+  station-owes (send b) O = rw (stations .sends m station b) (turned-away-at n start k m (call (send b)) 25 (λ e. omega arith))
+  station-owes (deliver b) O =
+      deliver-by (λ (o : Outcome). Owed n start m (deliver b) o → OwedAt n start k m (call (deliver b)) o) m b
+      (λ e. let p = deliver-passed m b e in
+      let f = foreign (messageIn b) (sender-among n b any-replica (p .taken) (p .replicas ∙ s .size)) in
+      under (deliver b) _ (f .0) (f .1))
+      (λ z Q. turned-away-at n start k m (call (deliver b)) (deliverRefusal m b) (unfold deliverRefusal in not-first 9 _ refl)) O
+  station-owes work O = under work _ (λ a e. foreign a (at-turn a e) .0) (λ a e. foreign a (at-turn a e) .1) O
+  station-owes (load l) O = under (load l) _ tt tt O
+
+  -- a restart there is lent no number of the group's
+  pub station-not-restarted : (b : List ℕ) → restartRefusal m n k start b ≡ 0 → ⊥
+  station-not-restarted b e = let a = restart-passed m n k start b e .among in omega arith
+
+  pub station-restarts : (j b : List ℕ) → OwedAt n start k m (restart j b) (restartStep m n k start j b)
+  station-restarts j b =
+      restart-by (OwedAt n start k m (restart j b)) m n k start j b (λ e. absurd (station-not-restarted b e))
+      (λ e. turned-away-at n start k m (restart j b) (restartRefusal m n k start b) (not-nine m n k start b))

@@ -1,0 +1,101 @@
+-- A replica is no station, after any calls and restarts, and 25 is a station's alone. Assumes nothing.
+use Prim.Native.Nat.{ℕ, _≤_, _<_}
+use mathlib.Core.Path.{_≡_, refl, sym, ap, _∙_}
+use mathlib.Core.Bool.{false, not}
+use mathlib.Core.List.{List, []}
+use native.Mathlib.Omega.{arith}
+use lib.Dec.{leb}
+use lib.IntN.{ℤ}
+use borrow.Author.Tests.{leb-false, not-false}
+use Rattle.block.specs.Answers.{Refusal, firstOf}
+use Rattle.block.specs.Message.{within}
+use Rattle.block.proofs.BoolLaws.{is-within}
+use Rattle.memory.specs.Memory.{Memory, isStation}
+use Rattle.engine.specs.Calls.{numberOf, Outcome}
+use Rattle.engine.specs.Calls.Answer.{refused}
+use Rattle.engine.specs.Make.{madeMemory, makeRefusal, makeStep}
+use Rattle.engine.specs.Classes.{loadRefusal}
+use Rattle.engine.specs.Client.{rowNo, isOwn, beginRefusal, readRefusal, writeRefusal, askRefusal, withdrawRefusal}
+use Rattle.engine.specs.Moves.{sendRefusal, deliverRefusal, workRefusal}
+use Rattle.engine.specs.Restart.{blocksIn, restartedMemory, restartRefusal, restartStep}
+use Rattle.engine.specs.Step.{Call, refusalOf}
+use Rattle.engine.specs.Step.Call.{begin, read, write, ask, withdraw, report, send, deliver, work, load}
+use Rattle.engine.specs.History.{AnyCall, anyStep, afterAll}
+use Rattle.engine.specs.History.AnyCall.{call, restart}
+use Rattle.engine.specs.Station.{Numbered}
+use Rattle.engine.proofs.Tests.{cond-by, clash, not-first, passes, unless-by}
+use Rattle.engine.proofs.Steps.{restart-by}
+use Rattle.engine.proofs.Passed.{neither, restart-passed}
+use Rattle.engine.proofs.Refusals.{refusals}
+use Rattle.engine.proofs.Restarts.{restarts}
+use Rattle.engine.proofs.Reports.{made-own, restarted-own}
+use Rattle.engine.proofs.Reached.{Reached, numbered, made-reached, all-reached}
+
+-- ---- 25 at a replica
+
+-- nor is it among a write's numbers there
+write-numbers : (m : Memory) (r i : ℕ) → writeRefusal m r i ≡ 25 → ⊥
+unfolding writeRefusal
+write-numbers m r i e =
+    let a = passes _ _ refl e in
+    let b = passes _ _ refl (a .1) in
+    let c = passes _ _ refl (b .1) in
+    let d = passes _ _ refl (c .1) in
+    let f = passes _ _ refl (d .1) in
+    cond-by (λ (l : List Refusal). firstOf l ≡ 25 → ⊥) (isOwn m r i) (λ o. not-first 25 [] refl) (λ o. not-first 25 _ refl) (f .1)
+
+replica-numbers : (m : Memory) → isStation m ≡ false → (c : Call) → refusalOf m c ≡ 25 → ⊥
+unfolding refusalOf beginRefusal readRefusal askRefusal withdrawRefusal sendRefusal deliverRefusal workRefusal loadRefusal
+replica-numbers m h begin e = not-first 25 _ refl e
+replica-numbers m h (read t i) e = not-first 25 _ refl e
+replica-numbers m h (write t i v) e = write-numbers m (rowNo m t) i (rw h at e)
+replica-numbers m h (ask t) e = not-first 25 _ refl e
+replica-numbers m h (withdraw t) e = not-first 25 _ refl e
+replica-numbers m h report e = omega arith
+replica-numbers m h (send b) e = not-first 25 _ refl (rw h at e)
+replica-numbers m h (deliver b) e = not-first 25 _ refl e
+replica-numbers m h work e = not-first 25 _ refl e
+replica-numbers m h (load l) e = not-first 25 _ refl e
+
+-- ---- a number that is lent
+
+-- what a make that is not refused was lent
+make-passed : (m : Memory) (n own : ℕ) (values : List ℤ) → makeRefusal m n own values ≡ 0 → (n ≤ 6) × (own < n)
+unfolding makeRefusal
+make-passed m n own values e =
+    let a = passes _ _ refl e in
+    let b = passes _ _ refl (a .1) in
+    let s = neither (not (within 2 6 n)) (leb n own) (b .0) in
+    (is-within 2 6 n (not-false _ (s .0)) .below, leb-false n own (s .1))
+
+made-numbered : (m : Memory) (n own : ℕ) (values : List ℤ) → makeRefusal m n own values ≡ 0 → isStation (makeStep m n own values .memory) ≡ false
+unfolding makeStep
+made-numbered m n own values z =
+    unless-by (λ (o : Outcome). isStation (o .memory) ≡ false) (makeRefusal m n own values) m
+    (λ e. let p = make-passed m n own values e in numbered (madeMemory n own values) n own (made-own n own values) (p .1) (p .0)) (λ e. absurd (e z))
+
+restarted-numbered : (m : Memory) (n own : ℕ) (values : List ℤ) (journal block : List ℕ) → restartRefusal m n own values block ≡ 0 → isStation (restartStep m n own values journal block .memory) ≡ false
+restarted-numbered m n own values journal block z =
+    restart-by (λ (o : Outcome). isStation (o .memory) ≡ false) m n own values journal block
+    (λ e. let p = restart-passed m n own values block e in numbered (restartedMemory n own values (blocksIn n journal)) n own (restarted-own n own values (blocksIn n journal)) (p .among) (p .most)) (λ e. absurd (e z))
+
+-- ---- a list
+
+restart-numbers : (m : Memory) (n own : ℕ) (values : List ℤ) (block : List ℕ) → restartRefusal m n own values block ≡ 25 → ⊥
+unfolding restartRefusal
+restart-numbers m n own values block e = not-first 25 _ refl e
+
+any-numbers : (m : Memory) → isStation m ≡ false → (c : AnyCall) → anyStep m c .answer ≡ refused 25 → ⊥
+any-numbers m h (call c) e = replica-numbers m h c (sym (refusals .number m c) ∙ ap numberOf e)
+any-numbers m h (restart n own values journal block) e = restart-numbers m n own values block (sym (restarts .number m n own values journal block) ∙ ap numberOf e)
+
+pub replicas-numbered : Numbered
+replicas-numbered = record {
+  makes = made-numbered;
+  restarts = restarted-numbered;
+  stays = λ n own values l h o v cs.
+      let R = all-reached (madeMemory n own values) (made-reached n own values l h o v) cs in
+      (R .replica, R .shape .ranges .own (R .replica));
+  never-25 = λ n own values l h o v cs c.
+      any-numbers (afterAll (madeMemory n own values) cs) (all-reached (madeMemory n own values) (made-reached n own values l h o v) cs .replica) c;
+}

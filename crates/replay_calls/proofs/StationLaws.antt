@@ -1,0 +1,83 @@
+-- What the calls that differ at a station show. Assumes nothing.
+use Prim.Native.Nat.{ℕ}
+use mathlib.Core.Path.{_≡_, refl, sym, ap, _∙_}
+use mathlib.Core.Bool.{Bool, true, false, cond}
+use mathlib.Core.List.{List, []}
+use native.Mathlib.Omega.{arith}
+use borrow.Author.Tests.{eq-eqb}
+use lib.Dec.{eqb}
+use lib.IntN.{ℤ}
+use Rattle.memory.specs.Memory.{Memory, noNumber, numberless}
+use Rattle.engine.specs.Calls.{numberOf, Outcome, outcome, unlessStation}
+use Rattle.engine.specs.Calls.Answer.{refused, made}
+use Rattle.engine.specs.Make.{madeMemory, makeRefusal, makeStep}
+use Rattle.engine.specs.Station.{stationStep}
+use Rattle.engine.proofs.Stations.{stations}
+use Rattle.replay_journal.specs.declared.Change.the-variants.{Stays, Begins}
+use Rattle.replay_calls.specs.declared.Played.{Played}
+use Rattle.replay_calls.specs.declared.Replica.{Replica}
+use Rattle.replay_calls.specs.Effects.{memoryOf, withoutNumber, withCounts, Effect, effect, Plays}
+use Rattle.replay_calls.proofs.EffectLaws.{plays-bare}
+
+-- ---- 25 at a station
+
+module _ (size : ℕ) (replica : Replica) {p : Played} (lent : List ℕ) (o : Outcome) where
+  pub station-refuses : numberless (replica .counts) ≡ true
+      → p ≡ record { replica = replica; number = 25; count = 0; numbers = p .numbers; shown = 0; values = p .values; change = Stays }
+      → Plays size replica p lent (effect lent (unlessStation (memoryOf size replica) o))
+  station-refuses e is = rw e (plays-bare is refl refl)
+
+  pub replica-does : {left : List ℕ} → numberless (replica .counts) ≡ false → Plays size replica p left (effect lent o)
+      → Plays size replica p left (effect lent (unlessStation (memoryOf size replica) o))
+  replica-does e h = rw e h
+
+-- ---- its make: a replica's with number 0, and then without it
+
+abbrev unnumbered : Memory → Memory
+unnumbered m = record { turn = m .turn; counts = withoutNumber (m .counts); txns = m .txns; store = m .store; blocks = m .blocks }
+
+-- by whether the refusal is 0
+kept-either : (b : Bool) (k : ℕ) (m x y : Memory) → (numberOf (cond b (outcome made x) (outcome (refused k) m) .answer) ≡ 0 → ⊥)
+    → cond b (outcome made x) (outcome (refused k) m) ≡ cond b (outcome made y) (outcome (refused k) m)
+kept-either true k m x y h = absurd (h refl)
+kept-either false k m x y h = refl
+
+made-either : (b : Bool) (k : ℕ) (m x : Memory) (lent : List ℕ) → eqb k 0 ≡ b → numberOf (cond b (outcome made x) (outcome (refused k) m) .answer) ≡ 0
+    → record { number = 0; numbers = []; values = []; block = lent; memory = unnumbered (cond b (outcome made x) (outcome (refused k) m) .memory); change = Begins 0 }
+    ≡ effect lent (cond b (outcome made (unnumbered x)) (outcome (refused k) m))
+made-either true k m x lent e h = refl
+made-either false k m x lent e h =
+    let z : _≡_ {A = ℕ} 0 1 = cc (eq-eqb k 0 h) in
+    absurd (omega arith)
+
+module _ (m : Memory) (n : ℕ) (values : List ℤ) where
+  kept-same : (numberOf (makeStep m n 0 values .answer) ≡ 0 → ⊥) → makeStep m n 0 values ≡ stationStep m n values
+  unfolding makeStep stationStep
+  kept-same h = rw (stations .make-refusal m n values) (kept-either (eqb (makeRefusal m n 0 values) 0) _ m _ _ h)
+
+  made-same : (lent : List ℕ) → numberOf (makeStep m n 0 values .answer) ≡ 0
+      → record { number = 0; numbers = []; values = []; block = lent; memory = unnumbered (makeStep m n 0 values .memory); change = Begins 0 } ≡ effect lent (stationStep m n values)
+  unfolding makeStep stationStep madeMemory
+  made-same lent h = rw (stations .make-refusal m n values) (made-either (eqb (makeRefusal m n 0 values) 0) _ m (madeMemory n 0 values) lent refl h)
+
+module _ (size : ℕ) (replica : Replica) (n : ℕ) (values : List ℤ) {p : Played}
+    (h : (lent : List ℕ) → Plays size replica p lent (effect lent (makeStep (memoryOf size replica) n 0 values))) where
+  pub station-kept : (p .number ≡ 0 → ⊥) → (lent : List ℕ) → Plays size replica p lent (effect lent (stationStep (memoryOf size replica) n values))
+  station-kept z lent = rw (kept-same (memoryOf size replica) n values (λ e. z (ap (λ (x : Effect). x .number) (h lent .is) ∙ e))) at (h lent)
+
+  pub station-made : {q : Played} → p .number ≡ 0
+      → q ≡ record {
+        replica = withCounts (p .replica) (withoutNumber (p .replica .counts));
+        number = 0;
+        count = 0;
+        numbers = q .numbers;
+        shown = 0;
+        values = q .values;
+        change = Begins 0;
+      }
+      → (lent : List ℕ) → Plays size replica q lent (effect lent (stationStep (memoryOf size replica) n values))
+  station-made z is lent =
+      plays-bare is
+      (ap (λ (x : Effect). record { number = 0; numbers = []; values = []; block = lent; memory = unnumbered (x .memory); change = Begins 0 }) (h lent .is)
+      ∙ made-same (memoryOf size replica) n values lent (sym (ap (λ (x : Effect). x .number) (h lent .is)) ∙ z))
+      (h lent .rest)

@@ -1,0 +1,28 @@
+-- What each call says by value (`On`), what it says of the lent parts (`Did`), and the way from the one to the other. Written by `scripts/walks`. Assumes nothing.
+use Prim.Native.Nat.{ℕ}
+use mathlib.Core.Path.{_≡_, refl}
+use mathlib.Core.List.{List}
+use lib.IntN.{ℤ}
+use lib.ListN.{length, replicate}
+use Rattle.memory.specs.declared.Counts.{Counts}
+use Rattle.memory.specs.declared.Turn.{Turn}
+use Rattle.memory.specs.declared.Txn.{Txn}
+use Rattle.memory.specs.Memory.{Memory, noNumber}
+use Rattle.memory.specs.Rows.{closed}
+use Rattle.engine.specs.Make.{turnZero, countsFor}
+use Rattle.engine.specs.Station.{stationStep}
+use Rattle.call_reply.specs.Parts.{allParts}
+use Rattle.call_reply.specs.Replies.{number, Gives}
+use Rattle.call_reply.specs.declared.Made.{Made}
+use Rattle.call_reply.specs.Called.{called}
+use Rattle.call_make.specs.Made.{ifMade}
+use Rattle.call_reply.proofs.CalledLaws.{called-other}
+
+abbrev pub StationOn : ℕ → List ℤ → List ℕ → List ℕ → List ℤ → List ℤ → List ℤ → List ℕ → List ℕ → List ℕ → List ℕ → Made → List ℕ → List ℕ → List ℤ → List ℤ → List ℤ → List ℕ → List ℕ → List ℕ → List ℕ → Type 0
+StationOn size start queue items writes snapshots values stamps classes places outbox r queue′ items′ writes′ snapshots′ values′ stamps′ classes′ places′ outbox′ = ((turn : Turn) (counts : Counts) (table : List Txn) → Gives number (stationStep (allParts turn counts table queue items writes snapshots values stamps classes places outbox) size start) (r .number) (allParts (ifMade (r .number) (r .turn) turn) (ifMade (r .number) (r .counts) counts) (ifMade (r .number) (replicate 6 closed) table) queue′ items′ writes′ snapshots′ values′ stamps′ classes′ places′ outbox′)) × (r .turn ≡ turnZero) × (r .counts ≡ ifMade (r .number) (countsFor size noNumber) (countsFor 0 0))
+
+abbrev pub StationDid : List Txn → Turn → Counts → ℕ → List ℤ → List ℕ → List ℕ → List ℤ → List ℤ → List ℤ → List ℕ → List ℕ → List ℕ → List ℕ → ℕ → List Txn → Turn → Counts → List ℕ → List ℕ → List ℤ → List ℤ → List ℤ → List ℕ → List ℕ → List ℕ → List ℕ → Type 0
+StationDid table turn counts size start queue items writes snapshots values stamps classes places outbox r table′ turn′ counts′ queue′ items′ writes′ snapshots′ values′ stamps′ classes′ places′ outbox′ = Gives number (called (λ (x : Memory). stationStep x size start) (allParts turn counts table queue items writes snapshots values stamps classes places outbox)) (r) (allParts turn′ counts′ table′ queue′ items′ writes′ snapshots′ values′ stamps′ classes′ places′ outbox′)
+
+pub station-not : (table : List Txn) (turn : Turn) (counts : Counts) (size : ℕ) (start : List ℤ) (queue : List ℕ) (items : List ℕ) (writes : List ℤ) (snapshots : List ℤ) (values : List ℤ) (stamps : List ℕ) (classes : List ℕ) (places : List ℕ) (outbox : List ℕ) → (length table ≡ 6 → ⊥) → StationDid table turn counts size start queue items writes snapshots values stamps classes places outbox (1) table turn counts queue items writes snapshots values stamps classes places outbox
+station-not table turn counts size start queue items writes snapshots values stamps classes places outbox other = rw (called-other (λ (x : Memory). stationStep x size start) (allParts turn counts table queue items writes snapshots values stamps classes places outbox) other) (refl, refl)
