@@ -35,7 +35,5 @@ pub mod Theorem
 pub mod JournalLength
 pub mod Journals
 pub mod Tickets
-pub mod HandedBlocks
-pub mod Progress
 -- what holds with no premise
 pub mod Handed

@@ -4,7 +4,6 @@ pub mod Group
 pub mod Statement
 pub mod Journals
 pub mod Tickets
-pub mod Progress
 -- what holds with no premise
 pub mod Handed
 pub mod SixRows

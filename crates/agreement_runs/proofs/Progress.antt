@@ -27,7 +27,7 @@ use Rattle.engine.proofs.Tests.{same-by, clash}
 use Rattle.protocol.specs.Lists.{Mem, any}
 use Rattle.protocol.proofs.ListLaws.{any-false}
 use Rattle.agreement.specs.Group.{GroupCall, call, restart, messageIn, heard, CallAt, fresh, run, Comes, Calls}
-use Rattle.agreement.specs.Progress.{giving, Given, AllGiven}
+use Rattle.agreement_progress.specs.Progress.{giving, Given, AllGiven}
 use Rattle.agreement_runs.specs.Worked.{at, sending}
 use Rattle.agreement_runs.specs.Progress.{slotZero, given, ungiven, early, emptied, triedOn, tried, after, WorkedProgress}
 use Rattle.agreement_runs.proofs.Worked.{outage, allowed, premise-met, calls-met}
@@ -79,7 +79,7 @@ to-second = record {
 }
 
 all-given : AllGiven 2 zeros given
-all-given k h b m =
+all-given k h b m ahead =
     subst (Given 2 zeros given k) (sym (only b (subst (Mem b) (given-computed .0) m)))
     (same-by k 0 (λ e. subst (λ (i : ℕ). Given 2 zeros given i slotZero) (sym e) to-first)
     (λ d. let e : k ≡ 1 = omega (arith, d) in subst (λ (i : ℕ). Given 2 zeros given i slotZero) (sym e) to-second))

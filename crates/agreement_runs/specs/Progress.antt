@@ -10,7 +10,7 @@ use Rattle.engine.specs.Step.{step}
 use Rattle.engine.specs.Step.Call.{send, deliver, work}
 use Rattle.engine.specs.Worked.{zeros, nextBlock}
 use Rattle.agreement.specs.Group.{Group, CallAt, fresh, run, Calls, Premise}
-use Rattle.agreement.specs.Progress.{AllGiven, SlotsLeft}
+use Rattle.agreement_progress.specs.Progress.{AllGiven, SlotsLeft}
 use Rattle.agreement_runs.specs.Worked.{at, sending, restarting}
 
 abbrev pub slotZero : List ℕ

@@ -47,14 +47,9 @@ pub mod Histories
 pub mod Worked
 pub mod Restarts
 pub mod Tickets
--- with restarts among the calls: 22 is never met; how long a change may wait; a block that has come
+-- with restarts among the calls: 22 is never met
 pub mod Reached
 pub mod Unmet
-pub mod Traced
-pub mod Due
-pub mod Waiting
-pub mod Ended
-pub mod Come
 -- a station; a replica is none; a write with no table of classes
 pub mod Stations
 pub mod Numbered

@@ -1,15 +1,16 @@
--- The places: those of two slots of one window lie apart, and what a store at one leaves at another. Assumes nothing.
-use Prim.Native.Nat.{ℕ, _+_, _*_, _-_, _%_, _/_, _≤_, _<_}
+-- Slots and places: one of n successive slots is own; the places of two slots of one window lie apart, and what a store at one leaves at another. Assumes nothing.
+use Prim.Native.Nat.{ℕ, suc, _+_, _*_, _-_, _%_, _/_, _≤_, _<_}
 use mathlib.Core.Path.{_≡_, sym, ap, _∙_}
 use mathlib.Core.Logic.{_⊎_, inl, inr}
 use mathlib.Core.Bool.{true}
 use mathlib.Core.List.{List, _++_, append-assoc}
-use native.Mathlib.Nat.{mod-lt, add-mod-right, div-add-mod, mul-le-mul-left, mul-suc, add-zero}
+use native.Mathlib.Nat.{mod-lt, add-mod-right, div-add-mod, mul-le-mul-left, mul-suc, mul-add-mod-self-left, mod-eq-of-lt, add-zero}
 use native.Mathlib.Omega.{arith}
 use lib.Dec.{eqb}
 use lib.ListN.{length, getD, take, drop, set}
 use lib.Seq.{slice, paste, take-take, take-append-le, drop-drop, drop-at, take-all, take-paste, drop-paste, length-take-le, take-set-le, drop-set-lt, getD-set-same}
 use borrow.Author.Tests.{eq-eqb}
+use Rattle.block.specs.Message.{ownerOf}
 use Rattle.block.proofs.ListLaws.{part-take, getD-slice}
 use Rattle.memory.specs.Turns.{placeStart, blockIn, isEmpty, emptied}
 use Rattle.engine.proofs.Tests.{less-by}
@@ -24,6 +25,18 @@ next-round n a b e h =
     less-by (a / n) (b / n)
     (λ l. let u = mul-le-mul-left n l in let v = mul-suc n (a / n) in omega arith)
     (λ l. let u = mul-le-mul-left n l in omega arith)
+
+-- among n successive slots one is own
+pub own-slot : (n own t : ℕ) → own < n → (s : ℕ) × (t < s) × (s ≤ t + n) × (ownerOf n s ≡ own)
+unfolding ownerOf
+own-slot n own t h =
+    let a = suc t % n in
+    let q = suc t / n in
+    let d = div-add-mod (suc t) n in
+    let l : suc t % n < n = mod-lt (suc t) {m = n} (omega arith) in
+    less-by own a
+    (λ u. let e = mul-suc n q in (n * suc q + own, omega arith, omega arith, mul-add-mod-self-left n (suc q) own ∙ mod-eq-of-lt h))
+    (λ u. (n * q + own, omega arith, omega arith, mul-add-mod-self-left n q own ∙ mod-eq-of-lt h))
 
 module _ (n : ℕ) where
   place-apart : (t a b : ℕ) → t ≤ a → a < t + n → t ≤ b → b < t + n → (a ≡ b → ⊥)

@@ -15,7 +15,6 @@ pub mod Claims
 pub mod Sent
 pub mod History
 pub mod Unmet
-pub mod Waiting
 pub mod Station
 pub mod Restarts
 pub mod Tickets

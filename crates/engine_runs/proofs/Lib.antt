@@ -1,5 +1,4 @@
--- The cases, the journals, a station and a wait computed.
+-- The cases, the journals and a station computed.
 pub mod Cases
 pub mod Journals
 pub mod Stations
-pub mod Waits

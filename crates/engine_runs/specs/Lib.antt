@@ -1,5 +1,4 @@
--- Document 01's marked cases; document 02's Req 01, Req 05 and Req 06, worked.
+-- Document 01's marked cases; document 02's Req 01 and Req 05, worked.
 pub mod Cases
 pub mod Journals
 pub mod Stations
-pub mod Waits

@@ -20,9 +20,9 @@ use Rattle.engine.specs.Moves.{waiting, writesetOf, messageFor, sendRefusal, se
 use Rattle.engine.specs.Step.{step, after}
 use Rattle.engine.specs.Step.Call.{ask}
 use Rattle.engine.specs.History.{afterAll}
-use Rattle.engine.specs.Waiting.{openAfter}
+use Rattle.engine_waiting.specs.Waiting.{openAfter}
 use Rattle.engine.proofs.Tests.{clash}
-use Rattle.engine_runs.specs.Waits.{toAsk, justAsked, toTwo, WorkedWait}
+use Rattle.engine_waiting.specs.Worked.{toAsk, justAsked, toTwo, WorkedWait}
 
 computed : (toAsk .turn .slot ≡ 0) × (step toAsk (ask 1) .answer ≡ queued) × (afterAll justAsked toTwo .turn .slot ≡ 2) × (openAfter 1 justAsked toTwo ≡ true)
 unfolding bytesOf numberFrom valueBytes valueOf word sumTo weightedTo firstCheck secondCheck checkBytes checkMatches ownerOf within kindFits entriesFit recordFits recordsFit ticketAbsent ticketsDiffer valid entryBytes entriesBytes recordBytes recordsBytes headerFor headerBytes bodyBytes blockOf entryOf entriesOf recordOf recordsOf messageOf allZero entriesPadded recordPadded recordsPadded padded wellFormed firstOf headerOf recordAt entryAt entriesFrom bump openCount rowFrom rowOf freeRow indexFrom has holderFrom countBelow placeStart madeMemory placesFit partsFit makeRefusal makeStep beginRefusal beginAt beginRow readRefusal valueFor readRow writeRefusal rewriteAt insertWrite staleAt writeRow askRefusal readOnlyAt queueAt askRow withdrawRefusal withdrawAt withdrawRow waiting writesetOf messageFor sendRefusal sendNow sendStep sameBytes deliverRefusal deliverNow deliverStep entriesFor applied stamped shares afterAborts insertRising hitTickets without workRefusal passNext commitWriteset workStep hasClass classFrom classToCome mustWait areClasses loadRefusal loadStep step after afterAll openAfter

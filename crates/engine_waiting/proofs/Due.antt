@@ -10,21 +10,21 @@ use Rattle.block.specs.Message.{ownerOf}
 use Rattle.memory.specs.Memory.{Memory}
 use Rattle.memory.specs.Rows.{rowAt}
 use Rattle.memory.specs.Turns.{markApplying, advance}
 use Rattle.engine.specs.Calls.{Outcome}
 use Rattle.engine.specs.Moves.{sentAlready, workRefusal, sendNow}
 use Rattle.engine.specs.Step.{Call, step}
 use Rattle.engine.specs.Step.Call.{begin, read, write, ask, withdraw, report, send, deliver, work, load}
 use Rattle.engine.specs.Frames.{WorkFrame}
 use Rattle.engine.specs.Shape.{Shape}
 use Rattle.engine.specs.Sent.{SentShape}
 use Rattle.engine.proofs.Tests.{same-by, clash}
 use Rattle.engine.proofs.RowLaws.{sent-row}
 use Rattle.engine.proofs.Steps.{send-by, work-by}
 use Rattle.engine.proofs.Frames.{frames}
 use Rattle.engine.proofs.Shaping.{bumps}
 use Rattle.engine.proofs.ShapeTurn.{working}
 use Rattle.engine.proofs.Sent.{sent-shapes}
-use Rattle.engine.proofs.Traced.{Came, Traced, traced}
+use Rattle.engine_waiting.proofs.Traced.{Came, Traced, traced}
 
 -- ---- due by an own slot
 

@@ -25,25 +25,25 @@ use Rattle.engine.proofs.Tests.{cond-by, bool-by, same-by, less-by}
 use Rattle.engine.proofs.BlockFacts.{taken-block}
 use Rattle.engine.proofs.Steps.{restart-by}
 use Rattle.engine.proofs.Refusals.{refusals}
-use Rattle.engine.proofs.Waiting.{own-slot}
-use Rattle.engine.proofs.Come.{HasCome, come-each, bytes-same, Givable, given-number, come-given, works, sends}
+use Rattle.engine.proofs.PlaceLaws.{own-slot}
+use Rattle.agreement_progress.proofs.Come.{HasCome, come-each, bytes-same, Givable, given-number, come-given, works, sends}
 use Rattle.protocol.specs.Lists.{Mem}
 use Rattle.protocol.specs.Writesets.{Message}
 use Rattle.protocol.specs.Journal.{journal}
 use Rattle.protocol.specs.Observer.{Handout, handoutMessage, noHandout}
 use Rattle.protocol.proofs.ListLaws.{update-by, update-same, mem-map, mem-getD, getD-map-in}
 use Rattle.protocol.proofs.SequenceLaws.{mem-at}
 use Rattle.agreement.specs.Group.{messageIn, GroupCall, call, restart, performed, Group, CallAt, fresh, did, next, run, Comes, MayBeAt, Calls, Premise}
 use Rattle.agreement.specs.Journals.{blocksAt}
-use Rattle.agreement.specs.Progress.{giving, Given, AllGiven, SlotsLeft, CanSend, CanWork, ProgressTheorem, HandedAnswers}
+use Rattle.agreement_progress.specs.Progress.{giving, Given, AllGiven, SlotsLeft, CanSend, CanWork, ProgressTheorem, HandedAnswers}
 use Rattle.agreement.proofs.View.{Sound}
 use Rattle.agreement.proofs.DeliverStep.{slot-said}
 use Rattle.agreement.proofs.Replicas.{Standing, as-replica, as-station, SoundAt}
 use Rattle.agreement.proofs.Runs.{run-on, calls-part, premise-part, own-is, kept-run, fresh-kept}
 use Rattle.agreement.proofs.Theorem.{owes, InvAfter, inv-after}
 use Rattle.agreement.proofs.JournalLength.{FilledAt, filled-after}
 use Rattle.agreement.proofs.Journals.{journals}
-use Rattle.agreement.proofs.HandedBlocks.{GoodBlock, NewBlock, SentLast, Hands, hands}
+use Rattle.agreement_progress.proofs.HandedBlocks.{GoodBlock, NewBlock, SentLast, Hands, hands}
 
 -- ---- lists of calls, call by call
 
@@ -309,7 +309,7 @@ module _ (n : ℕ) (start : List ℤ) (least : 2 ≤ n) (most : n ≤ 6) (long :
   behind given k h l =
       let b = found n start least most long cs f p (now k .turn .slot) l in
       let R = held n start least most long cs f p k h in
-      (k, h, inr (works (now k) (R .sound .sound .shape) (R .sent) (waits (b .0) (b .2) (come-all n start least most long cs f p k h (b .0) (given k h (b .0) (b .1))))))
+      (k, h, inr (works (now k) (R .sound .sound .shape) (R .sent) (waits (b .0) (b .2) (come-all n start least most long cs f p k h (b .0) (given k h (b .0) (b .1) (let e = b .2 in omega arith))))))
     where
       waits : (b : List ℕ) → headerOf b .slot ≡ now k .turn .slot → HasCome (headerOf b .slot) (now k) → nothingWaits (now k) ≡ false
       waits b e (inl q) = absurd (let z : ⊥ = omega arith in z)

@@ -10,7 +10,7 @@ use Rattle.engine.specs.Step.{step, after}
 use Rattle.engine.specs.Step.Call.{begin, write, ask, send, deliver, work}
 use Rattle.engine.specs.History.{AnyCall, afterAll}
 use Rattle.engine.specs.History.AnyCall.{call}
-use Rattle.engine.specs.Waiting.{openAfter, EndsBy}
+use Rattle.engine_waiting.specs.Waiting.{openAfter, EndsBy}
 use Rattle.engine.specs.Worked.{fresh, nextBlock}
 
 -- sent for slot 0, then one write, not asked yet

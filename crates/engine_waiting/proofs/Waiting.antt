@@ -1,9 +1,8 @@
 -- How long a change may wait. Assumes nothing.
-use Prim.Native.Nat.{ℕ, suc, _+_, _*_, _-_, _/_, _%_, _≤_, _<_}
+use Prim.Native.Nat.{ℕ, _+_, _≤_, _<_}
 use mathlib.Core.Path.{_≡_, sym, ap, _∙_}
 use mathlib.Core.Bool.{true, false, not}
 use mathlib.Core.List.{List, [], _∷_}
-use native.Mathlib.Nat.{div-add-mod, mod-lt, mul-suc, mul-add-mod-self-left, mod-eq-of-lt}
 use native.Mathlib.Omega.{arith}
 use lib.Dec.{leb}
 use lib.ListN.{set}
@@ -14,24 +13,25 @@ use Rattle.block.proofs.BoolLaws.{both, not-so}
 use Rattle.memory.specs.declared.Txn.{Txn}
 use Rattle.memory.specs.Memory.{Memory}
 use Rattle.memory.specs.Rows.{closed, rowAt}
 use Rattle.engine.specs.Calls.{Answer, Outcome, numberOf}
 use Rattle.engine.specs.Calls.Answer.{queued}
 use Rattle.engine.specs.Make.{madeMemory}
 use Rattle.engine.specs.Client.{rowNo, rowIn, readOnlyAt, queueAt}
 use Rattle.engine.specs.Step.{Call, step}
 use Rattle.engine.specs.Step.Call.{ask}
 use Rattle.engine.specs.Restart.{restartRefusal}
 use Rattle.engine.specs.Shape.{Shape}
 use Rattle.engine.specs.History.{noCalls, counted, AnyCall, anyStep, afterAll}
 use Rattle.engine.specs.History.AnyCall.{call, restart}
-use Rattle.engine.specs.Waiting.{isOpenAs, endsAll, openAfter, EndsBy, Waiting}
+use Rattle.engine_waiting.specs.Waiting.{isOpenAs, endsAll, openAfter, EndsBy, Waiting}
 use Rattle.engine.proofs.Tests.{same-by, less-by, clash}
+use Rattle.engine.proofs.PlaceLaws.{own-slot}
 use Rattle.engine.proofs.RowLaws.{row-found}
 use Rattle.engine.proofs.Steps.{ask-by, restart-by}
 use Rattle.engine.proofs.Passed.{RowPassed, ask-passed}
 use Rattle.engine.proofs.Shapes.{shapes}
 use Rattle.engine.proofs.Reached.{Reached, made-reached, any-reached, all-reached}
-use Rattle.engine.proofs.Due.{Due, due-each}
+use Rattle.engine_waiting.proofs.Due.{Due, due-each}
 
 -- ---- lists of calls
 
@@ -94,20 +94,6 @@ module _ (m : Memory) (R : Reached m) (ticket s : ℕ) (early : m .turn .slot < 
   asked-due =
       ask-by After m ticket (λ e. empty-ends) (λ e d. joins (ask-passed m ticket e)) (λ e T q. absurd (e (ap numberOf q)))
       (shapes .each m (R .shape) (ask ticket))
-
--- ---- the next own slot
-
--- among n successive slots one is own
-pub own-slot : (n own t : ℕ) → own < n → (s : ℕ) × (t < s) × (s ≤ t + n) × (ownerOf n s ≡ own)
-unfolding ownerOf
-own-slot n own t h =
-    let a = suc t % n in
-    let q = suc t / n in
-    let d = div-add-mod (suc t) n in
-    let l : suc t % n < n = mod-lt (suc t) {m = n} (omega arith) in
-    less-by own a
-    (λ u. let e = mul-suc n q in (n * suc q + own, omega arith, omega arith, mul-add-mod-self-left n (suc q) own ∙ mod-eq-of-lt h))
-    (λ u. (n * q + own, omega arith, omega arith, mul-add-mod-self-left n q own ∙ mod-eq-of-lt h))
 
 -- ---- the bound
 

@@ -10,22 +10,22 @@ use Rattle.block.specs.Answers.{firstOf}
 use Rattle.block.proofs.BoolLaws.{both, joined, not-so}
 use Rattle.memory.specs.Memory.{Memory}
 use Rattle.memory.specs.Rows.{openCount, rowAt}
 use Rattle.engine.specs.Calls.{Outcome}
 use Rattle.engine.specs.Calls.Answer.{refused}
 use Rattle.engine.specs.Make.{madeMemory}
 use Rattle.engine.specs.Client.{rowNo, withdrawRefusal, withdrawRow}
 use Rattle.engine.specs.Step.{Call, step}
 use Rattle.engine.specs.Step.Call.{withdraw}
 use Rattle.engine.specs.Restart.{restartRefusal, restartedMemory}
 use Rattle.engine.specs.History.{AnyCall, anyStep, afterAll}
 use Rattle.engine.specs.History.AnyCall.{call, restart}
-use Rattle.engine.specs.Waiting.{isOpenAs, endsAll, openAfter, Ended}
+use Rattle.engine_waiting.specs.Waiting.{isOpenAs, endsAll, openAfter, Ended}
 use Rattle.engine.proofs.Tests.{bool-by, same-by, clash}
 use Rattle.engine.proofs.RowLaws.{row-found, row-is}
 use Rattle.engine.proofs.Steps.{restart-by}
 use Rattle.engine.proofs.Reached.{Reached, made-reached, any-reached, all-reached}
-use Rattle.engine.proofs.Traced.{traced}
-use Rattle.engine.proofs.Waiting.{kept-by, along, open-last, row-below}
+use Rattle.engine_waiting.proofs.Traced.{traced}
+use Rattle.engine_waiting.proofs.Waiting.{kept-by, along, open-last, row-below}
 
 -- ---- what has ended stays so
 
