@@ -50,7 +50,7 @@ enum stemline_number {
     STEMLINE_ALL_OPEN = 5,
     STEMLINE_TICKETS_SPENT = 6,
     STEMLINE_APPLYING = 7,
-    STEMLINE_LOCKED = 8,
+    STEMLINE_LOCKED = 8, /* of an item that is not stale: STEMLINE_STALE is before it */
     STEMLINE_STALE = 9,
     STEMLINE_WRITESET_FULL = 10,
     STEMLINE_NOT_OUR_TURN = 11,
@@ -64,7 +64,7 @@ enum stemline_number {
     STEMLINE_NOT_SENT = 19,
     STEMLINE_SLOT_TAKEN = 20,
     STEMLINE_NOTHING_WAITS = 21,
-    STEMLINE_NOT_OPEN_AS_SENT = 22,
+    /* 22 was a work's, and is free for good. */
     STEMLINE_LOAD_WHILE_APPLYING = 23,
     STEMLINE_STATION_ONLY_READS = 25
 };

@@ -306,7 +306,7 @@ calls! {
         item: u32
     ) -> ReadReply;
 
-    /// Puts an item and its value into a writeset. Refused by 25, 1, 2, 3, 4, 7, 8, 9, 10.
+    /// Puts an item and its value into a writeset. Refused by 25, 1, 2, 3, 4, 7, 9, 8, 10.
     fn write = stemline_write(
         table: mut [Txn], turn: &Turn, counts: &mut Counts, ticket: u32, items: mut [u8],
         writes: mut [i32], stamps: ref [u32], classes: ref [u8], places: ref [u8], item: u32,
@@ -336,7 +336,7 @@ calls! {
     ) -> u8;
 
     /// Takes one step at the block of the turn. Where the turn leaves another's slot it fills the lent
-    /// block, which is otherwise not touched. Refused by 1, 21, 22.
+    /// block, which is otherwise not touched. Refused by 1, 21.
     fn work = stemline_work(
         table: mut [Txn], turn: &mut Turn, counts: &mut Counts, queue: mut [u32], items: ref [u8],
         values: mut [i32], stamps: mut [u32], places: mut [u8], block: mut [u8]
