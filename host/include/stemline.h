@@ -218,7 +218,10 @@ static inline stemline_read_reply stemline_replica_read(
 /* Puts the item with its value into the writeset and locks it. While a block of
  * another is applied, 7 if an item of the same class is still to come in it: see
  * stemline_replica_load.
- * Refused by 25, 1, 2, 3, 4, 7 and, unless the transaction holds the item, 8, 9, 10. */
+ * Refused by 25, 1, 2, 3, 4, 7 and, unless the transaction holds the item, 9, 8, 10.
+ * 9 is before 8: an item that changed since the transaction began is not waited for,
+ * whoever holds it; the transaction is aborted. After 8 it is open, and the write is
+ * to be tried again when the other has ended: 9, if the item has changed by then. */
 static inline uint8_t stemline_replica_write(
     stemline_replica *r, uint32_t ticket, uint32_t item, int32_t value) {
     return stemline_write(

@@ -50,7 +50,7 @@ enum stemline_number {
     STEMLINE_ALL_OPEN = 5,
     STEMLINE_TICKETS_SPENT = 6,
     STEMLINE_APPLYING = 7,
-    STEMLINE_LOCKED = 8,
+    STEMLINE_LOCKED = 8, /* of an item that is not stale: STEMLINE_STALE is before it */
     STEMLINE_STALE = 9,
     STEMLINE_WRITESET_FULL = 10,
     STEMLINE_NOT_OUR_TURN = 11,

@@ -52,33 +52,33 @@ module _ (S : Setup ℤ) (b : Store ℤ) (k : Rattle.protocol.specs.Replica.Tra
   unfolding writeStep writeFound
   model-again h = rw (lt-leb (S .items) i low, found, eq-eqb (u .stage) 0 active, h)
 
-  module _ (none : has i (u .writes) ≡ false) (free : any (λ o. not (eqb (o .ticket) t) && has i (o .writes)) (k .txns) ≡ false) where
+  module _ (none : has i (u .writes) ≡ false) where
     model-stale : ltb (u .snapshot) (b .stamps i) ≡ true
         → writeStep S b k t i v ≡ answered (transactions (k .tickets) (without t (k .txns)) (k .queue)) (Event.refused 9)
     unfolding writeStep writeFound
-    model-stale h = rw (lt-leb (S .items) i low, found, eq-eqb (u .stage) 0 active, none, free, h)
+    model-stale h = rw (lt-leb (S .items) i low, found, eq-eqb (u .stage) 0 active, none, h)
 
-    model-new : ltb (u .snapshot) (b .stamps i) ≡ false → length (u .writes) < 8 → writeStep S b k t i v ≡ written
+    model-new : ltb (u .snapshot) (b .stamps i) ≡ false → any (λ o. not (eqb (o .ticket) t) && has i (o .writes)) (k .txns) ≡ false → length (u .writes) < 8 → writeStep S b k t i v ≡ written
     unfolding writeStep writeFound
-    model-new h w = rw (lt-leb (S .items) i low, found, eq-eqb (u .stage) 0 active, none, free, h, lt-leb 8 (length (u .writes)) w)
+    model-new h free w = rw (lt-leb (S .items) i low, found, eq-eqb (u .stage) 0 active, none, h, free, lt-leb 8 (length (u .writes)) w)
 
 -- ---- the engine's tests
 
 -- the last three refusals, where the item is not the transaction's own
 abbrev lastThree : Bool → Bool → Bool → Bool → ℕ
-lastThree own held stale full = firstOf (cond own [] (refuse 8 held ∷ refuse 9 stale ∷ refuse 10 full ∷ []))
+lastThree own stale held full = firstOf (cond own [] (refuse 9 stale ∷ refuse 8 held ∷ refuse 10 full ∷ []))
 
-last-nine : (own held stale full : Bool) → lastThree own held stale full ≡ 9 → (own ≡ false) × (held ≡ false) × (stale ≡ true)
+last-nine : (own stale held full : Bool) → lastThree own stale held full ≡ 9 → (own ≡ false) × (stale ≡ true)
 unfolding firstOf
-last-nine true h s f e = absurd (omega arith)
-last-nine false true s f e = absurd (omega arith)
-last-nine false false true f e = (refl, refl, refl)
+last-nine true s h f e = absurd (omega arith)
+last-nine false true h f e = (refl, refl)
+last-nine false false true f e = absurd (omega arith)
 last-nine false false false true e = absurd (omega arith)
 last-nine false false false false e = absurd (omega arith)
 
-last-none : (held stale full : Bool) → lastThree false held stale full ≡ 0 → (held ≡ false) × (stale ≡ false) × (full ≡ false)
+last-none : (stale held full : Bool) → lastThree false stale held full ≡ 0 → (stale ≡ false) × (held ≡ false) × (full ≡ false)
 unfolding firstOf
-last-none true s f e = absurd (omega arith)
+last-none true h f e = absurd (omega arith)
 last-none false true f e = absurd (omega arith)
 last-none false false true e = absurd (omega arith)
 last-none false false false e = (refl, refl, refl)
@@ -88,7 +88,7 @@ record Reached (m : Memory) (t i n : ℕ) : Type 0 where
   item : i < 128
   row : rowNo m t < 6
   active : rowIn m (rowNo m t) .stage ≡ 0
-  rest : lastThree (isOwn m (rowNo m t) i) (heldByOther m (rowNo m t) i) (isStale m (rowNo m t) i) (isFull m (rowNo m t)) ≡ n
+  rest : lastThree (isOwn m (rowNo m t) i) (isStale m (rowNo m t) i) (heldByOther m (rowNo m t) i) (isFull m (rowNo m t)) ≡ n
 
 reached : (m : Memory) (t i n : ℕ) → ((j : ℕ) → j < 7 → j + 1 ≡ n → ⊥) → writeRefusal m (rowNo m t) i ≡ n → Reached m t i n
 unfolding writeRefusal
@@ -313,7 +313,7 @@ module _ (n : ℕ) (start : List ℤ) {over : ℕ} (m : Memory) (S : Shape over 
       let f = row-found t (m .txns .table) (S .lengths .table) (q .row) in
       owes-by n start m t i v (refused 9) (withTable (m .txns) (set (m .txns .table) own closed)) _ (without t (openTxns (m .txns))) (Event.refused 9)
       (model-stale (setup n start) (storeOf m) (view m .transactions) t i v (txnOf (m .txns) own (row m own)) (q .item) (find-row m S t (q .row)) (q .active)
-      (has-found m S own (q .row) i ∙ p .0) (unheld m S t i (q .row) (p .1)) (p .2))
+      (has-found m S own (q .row) i ∙ p .0) (p .1))
       refl refl (row-closed m S own (q .row) (f .live) t (f .is))
 
   again-owes : writeRefusal m (rowNo m t) i ≡ 0 → isOwn m (rowNo m t) i ≡ true → Owed n start m (write t i v) (rewriteAt m (rowNo m t) (ownIndex m (rowNo m t) i) v)
@@ -330,12 +330,12 @@ module _ (n : ℕ) (start : List ℤ) {over : ℕ} (m : Memory) (S : Shape over 
   unfolding txnOf heard insertWrite
   new-owes e o =
       let q = reached m t i 0 (λ j u. omega arith) e in
-      let p = last-none (heldByOther m (rowNo m t) i) (isStale m (rowNo m t) i) (isFull m (rowNo m t)) (rw o at (q .rest)) in
+      let p = last-none (isStale m (rowNo m t) i) (heldByOther m (rowNo m t) i) (isFull m (rowNo m t)) (rw o at (q .rest)) in
       let a = ltb-false (ownIndex m (rowNo m t) i) (writeCount (rowIn m (rowNo m t))) o in
       let b : writeCount (rowIn m (rowNo m t)) < 8 = omega (arith, eqb-false (writeCount (rowIn m (rowNo m t))) 8 (p .2)) in
       owes-by n start m t i v wrote (grown m S t i v (q .row) a b) (m .counts .aborted) (map (withWrite t i v) (openTxns (m .txns))) (Event.wrote t i v)
       (model-new (setup n start) (storeOf m) (view m .transactions) t i v (txnOf (m .txns) own (row m own)) (q .item) (find-row m S t (q .row)) (q .active)
-      (has-found m S own (q .row) i ∙ o) (unheld m S t i (q .row) (p .0)) (p .1) (rw (length-row m S own (q .row)) b))
+      (has-found m S own (q .row) i ∙ o) (p .0) (unheld m S t i (q .row) (p .1)) (rw (length-row m S own (q .row)) b))
       refl refl (row-changed m S own (q .row) (grown m S t i v (q .row) a b) (longer m S t i v (q .row) a b) (withWrite t i v) (new m S t i v (q .row) a b))
 
 pub write-owes : (n : ℕ) (start : List ℤ) (m : Memory) → Sound n m → (t i : ℕ) (v : ℤ) → Owed n start m (write t i v) (step m (write t i v))

@@ -25,15 +25,15 @@ use Rattle.call_write.specs.Parts.{Inserted, inserted, insertIn, writeAc
 
 -- the last three refusals, where the item is not the transaction's own
 lastThree : Bool → Bool → Bool → Bool → ℕ
-lastThree own held stale full = firstOf (cond own [] (refuse 8 held ∷ refuse 9 stale ∷ refuse 10 full ∷ []))
+lastThree own stale held full = firstOf (cond own [] (refuse 9 stale ∷ refuse 8 held ∷ refuse 10 full ∷ []))
 
 -- by the numbers or by the tests: the same outcome
-by-cases : (m : Memory) (own held stale full : Bool) (rewritten ended added : Outcome)
-    → cond (eqb (lastThree own held stale full) 9) ended (unless (lastThree own held stale full) m (cond own rewritten added))
-    ≡ cond own rewritten (cond held (outcome (refused 8) m) (cond stale ended (cond full (outcome (refused 10) m) added)))
+by-cases : (m : Memory) (own stale held full : Bool) (rewritten ended added : Outcome)
+    → cond (eqb (lastThree own stale held full) 9) ended (unless (lastThree own stale held full) m (cond own rewritten added))
+    ≡ cond own rewritten (cond stale ended (cond held (outcome (refused 8) m) (cond full (outcome (refused 10) m) added)))
 unfolding lastThree firstOf
-by-cases m true h s f a b c = refl
-by-cases m false true s f a b c = refl
+by-cases m true s h f a b c = refl
+by-cases m false true h f a b c = refl
 by-cases m false false true f a b c = refl
 by-cases m false false false true a b c = refl
 by-cases m false false false false a b c = refl
@@ -45,7 +45,7 @@ module _ (m : Memory) (r item : ℕ) (value : ℤ) (lengths : writeLent m ≡ tr
   write-waits waits = rw (lengths, lt-leb 128 item low, lt-leb 6 r there, active, waits)
 
   module _ (free : mustWait m item ≡ false) where
-    past : writeRefusal m r item ≡ lastThree (isOwn m r item) (heldByOther m r item) (isStale m r item) (isFull m r)
+    past : writeRefusal m r item ≡ lastThree (isOwn m r item) (isStale m r item) (heldByOther m r item) (isFull m r)
     unfolding writeRefusal firstOf lastThree
     past = rw (lengths, lt-leb 128 item low, lt-leb 6 r there, active, free)
 
@@ -72,20 +72,20 @@ module _ (m : Memory) (r item : ℕ) (value : ℤ) (n k : ℕ) (count : n ≡ mi
   unfolding writeActive
   write-mine h = rw (← count, ← place, lt-ltb k n h)
 
-  module _ (new : n ≤ k) (held : Bool) (holder : held ≡ heldByOther m r item) where
-    pub write-held : held ≡ true → outcome (refused 8) m ≡ writeActive m r item value
+  module _ (new : n ≤ k) where
+    pub write-stale : rowAt (m .txns .table) r .snapshot < getD (m .store .stamps) item 0 → staleAt m r ≡ writeActive m r item value
     unfolding writeActive
-    write-held h = rw (← count, ← place, le-ltb k n new, ← holder, h)
+    write-stale h = rw (← count, ← place, le-ltb k n new, lt-ltb (rowAt (m .txns .table) r .snapshot) (getD (m .store .stamps) item 0) h)
 
-    module _ (none : held ≡ false) where
-      pub write-stale : rowAt (m .txns .table) r .snapshot < getD (m .store .stamps) item 0 → staleAt m r ≡ writeActive m r item value
+    module _ (newer : getD (m .store .stamps) item 0 ≤ rowAt (m .txns .table) r .snapshot) (held : Bool) (holder : held ≡ heldByOther m r item) where
+      pub write-held : held ≡ true → outcome (refused 8) m ≡ writeActive m r item value
       unfolding writeActive
-      write-stale h = rw (← count, ← place, le-ltb k n new, ← holder, none, lt-ltb (rowAt (m .txns .table) r .snapshot) (getD (m .store .stamps) item 0) h)
+      write-held h = rw (← count, ← place, le-ltb k n new, le-ltb (rowAt (m .txns .table) r .snapshot) (getD (m .store .stamps) item 0) newer, ← holder, h)
 
-      module _ (newer : getD (m .store .stamps) item 0 ≤ rowAt (m .txns .table) r .snapshot) where
+      module _ (none : held ≡ false) where
         pub write-full : n ≡ 8 → outcome (refused 10) m ≡ writeActive m r item value
         unfolding writeActive
-        write-full e = rw (← count, ← place, le-ltb k n new, ← holder, none, le-ltb (rowAt (m .txns .table) r .snapshot) (getD (m .store .stamps) item 0) newer, eq-eqb n 8 e)
+        write-full e = rw (← count, ← place, le-ltb k n new, le-ltb (rowAt (m .txns .table) r .snapshot) (getD (m .store .stamps) item 0) newer, ← holder, none, eq-eqb n 8 e)
 
         -- o′ is what table, items and values became
         pub write-new : (n ≡ 8 → ⊥) → (o′ : Inserted) → o′ ≡ insertIn (m .txns .table) (m .txns .items) (m .txns .writes) r item value
@@ -93,7 +93,7 @@ module _ (m : Memory) (r item : ℕ) (value : ℤ) (n k : ℕ) (count : n ≡ mi
             ≡ writeActive m r item value
         unfolding writeActive insertWrite insertIn
         write-new e o′ q =
-            rw (q, ← count, ← place, le-ltb k n new, ← holder, none, le-ltb (rowAt (m .txns .table) r .snapshot) (getD (m .store .stamps) item 0) newer, ne-eqb n 8 e)
+            rw (q, ← count, ← place, le-ltb k n new, le-ltb (rowAt (m .txns .table) r .snapshot) (getD (m .store .stamps) item 0) newer, ← holder, none, ne-eqb n 8 e)
 
 -- ---- a new item: it stands among the row's n items or behind them
 

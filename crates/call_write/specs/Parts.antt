@@ -33,6 +33,6 @@ insertIn table items writes r item value =
 unfoldable pub writeActive : Memory → ℕ → ℕ → ℤ → Outcome
 writeActive m r item value =
     cond (isOwn m r item) (rewriteAt m r (ownIndex m r item) value)
-    (cond (heldByOther m r item) (outcome (refused 8) m)
     (cond (isStale m r item) (staleAt m r)
+    (cond (heldByOther m r item) (outcome (refused 8) m)
     (cond (isFull m r) (outcome (refused 10) m) (insertWrite m r (rowIn m r) item value))))

@@ -85,7 +85,7 @@ fn held(rows: [Txn; 6], items: &[u8], at: usize, item: u8) -> bool
     false
 }
 
-// A write by the active transaction of a row.
+// A write by the active transaction of a row. The holder is not searched for where the item is stale.
 fn write_at(
     at: usize,
     rows: [Txn; 6],
@@ -111,11 +111,11 @@ fn write_at(
         writes[from + k] = value;
         return changed(0, t, counts);
     }
-    if held(rows, &*items, at, item) {
-        return changed(8, t, counts);
-    }
     if t.snapshot < stamps[item as usize] {
         return stale(counts);
+    }
+    if held(rows, &*items, at, item) {
+        return changed(8, t, counts);
     }
     if n == 8 {
         return changed(10, t, counts);

@@ -50,7 +50,8 @@ pub mod Tickets
 -- with restarts among the calls: 22 is never met
 pub mod Reached
 pub mod Unmet
--- a station; a replica is none; a write with no table of classes
+-- a station; a replica is none; a write with no table of classes, and the lock before staleness
 pub mod Stations
 pub mod Numbered
 pub mod OneClass
+pub mod Staleness

@@ -1,4 +1,4 @@
--- With no table of classes loaded a write is what it was. Assumes nothing.
+-- With no table of classes loaded a write is that of an engine without classes. Assumes nothing.
 use Prim.Native.Nat.{ℕ, zero, suc, _-_, _≤_, _<_, min}
 use mathlib.Core.Path.{_≡_, refl, sym, ap, _∙_}
 use mathlib.Core.Bool.{Bool, true, false, not, _&&_}
@@ -21,7 +21,7 @@ use Rattle.engine.specs.Restart.{blocksIn, Replayed, commitAll, commitBl
 use Rattle.engine.specs.Step.{Call, step, after}
 use Rattle.engine.specs.Step.Call.{begin, read, write, ask, withdraw, report, send, deliver, work, load}
 use Rattle.engine.specs.Shape.{Shape}
-use Rattle.engine.specs.OneClass.{formerRefusal, formerWrite, Unloaded, isLoad, noLoads, OneClass}
+use Rattle.engine.specs.OneClass.{unclassedRefusal, unclassedWrite, Unloaded, isLoad, noLoads, OneClass}
 use Rattle.engine.proofs.Tests.{bool-by, clash}
 use Rattle.engine.proofs.Steps.{writes-so, load-by}
 use Rattle.engine.proofs.Reports.{made-own, restarted-own}
@@ -71,12 +71,12 @@ module _ {over : ℕ} (m : Memory) (S : Shape over m) (none : Unloaded m) where
       (λ e. rw (e, class-zero item, to-come e) refl)
       (λ e. rw e refl)
 
-  refusal-same : (r item : ℕ) → writeRefusal m r item ≡ formerRefusal m r item
-  unfolding writeRefusal formerRefusal
+  refusal-same : (r item : ℕ) → writeRefusal m r item ≡ unclassedRefusal m r item
+  unfolding writeRefusal unclassedRefusal
   refusal-same r item =
       rw (waits-same item, eq-eqb (length (m .store .classes)) 128 (S .lengths .classes), eq-eqb _ _ (S .lengths .places), eq-eqb (length (m .store .stamps)) 128 (S .lengths .stamps)) refl
 
-  write-same : isStation m ≡ false → (ticket item : ℕ) (value : ℤ) → step m (write ticket item value) ≡ formerWrite m ticket item value
+  write-same : isStation m ≡ false → (ticket item : ℕ) (value : ℤ) → step m (write ticket item value) ≡ unclassedWrite m ticket item value
   unfolding writeRow
   write-same h ticket item value = writes-so m h ticket item value ∙ ap (λ (n : ℕ). writeUnless n m (rowNo m ticket) item value) (refusal-same (rowNo m ticket) item)
 

@@ -79,7 +79,7 @@ write-passed m t i e =
       writes = eqb-true _ _ (k .right);
       item = leb-false 128 i (b .0);
       own = row-passed m t (c .0) (d .0);
-      unheld = λ o. passes _ _ refl (rw o at (f .1)) .0;
+      unheld = λ o. passes _ _ refl (passes _ _ refl (rw o at (f .1)) .1) .0;
       room = λ o. let g = passes _ _ refl (rw o at (f .1)) in
           let h = passes _ _ refl (g .1) in
           let j = passes _ _ refl (h .1) in

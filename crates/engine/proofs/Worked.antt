@@ -25,6 +25,7 @@ right-answers = record {
   own = refl;
   early = refl;
   classes = refl;
+  stale-first = refl;
   station = refl;
   station-calls = refl;
 }

@@ -133,7 +133,7 @@ readStep m ticket item = readRow m (rowNo m ticket) item
 abbrev pub writeLent : Memory → Bool
 writeLent m = writesLent m && (eqb (length (m .store .stamps)) 128 && (eqb (length (m .store .classes)) 128 && placesLent m))
 
--- an item that the transaction holds already is accepted before 8, 9 and 10 are looked at
+-- an item that the transaction holds already is accepted before 9, 8 and 10 are looked at; 9 stands before 8 (document 02, Req 07)
 unfoldable pub writeRefusal : Memory → ℕ → ℕ → ℕ
 writeRefusal m r item =
     firstOf
@@ -143,8 +143,8 @@ writeRefusal m r item =
     ∷ refuse 4 (notActive m r)
     ∷ refuse 7 (mustWait m item)
     ∷ cond (isOwn m r item) []
-    (refuse 8 (heldByOther m r item)
-    ∷ refuse 9 (isStale m r item)
+    (refuse 9 (isStale m r item)
+    ∷ refuse 8 (heldByOther m r item)
     ∷ refuse 10 (isFull m r)
     ∷ []))
 

@@ -11,6 +11,7 @@ pub mod Worked
 pub mod Frames
 pub mod Shape
 pub mod OneClass
+pub mod Staleness
 pub mod Claims
 pub mod Sent
 pub mod History

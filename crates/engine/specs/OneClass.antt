@@ -1,4 +1,5 @@
--- With no table of classes loaded a write is what it was before document 02's Req 02, on every memory that calls lead to.
+-- With no table of classes loaded a write is that of an engine without classes, on every memory that calls lead to: what it was before document 02's Req 02, but for the order of 9 and 8,
+-- which is today's here (`Staleness.antt` has the order of before).
 use Prim.Native.Nat.{ℕ, _≤_, _<_}
 use mathlib.Core.Path.{_≡_}
 use mathlib.Core.Bool.{Bool, true, false, cond, not, _&&_}
@@ -18,9 +19,9 @@ use Rattle.engine.specs.Step.{Call, step, after}
 use Rattle.engine.specs.Step.Call.{begin, read, write, ask, withdraw, report, send, deliver, work, load}
 use Rattle.engine.specs.Shape.{Shape}
 
--- the refusals of a write as they were: 7 wherever the applying mark is on, and neither classes nor places lent
-unfoldable pub formerRefusal : Memory → ℕ → ℕ → ℕ
-formerRefusal m r item =
+-- the refusals of a write without classes: 7 wherever the applying mark is on, and neither classes nor places lent
+unfoldable pub unclassedRefusal : Memory → ℕ → ℕ → ℕ
+unclassedRefusal m r item =
     firstOf
     (refuse 1 (not (writesLent m && eqb (length (m .store .stamps)) 128))
     ∷ refuse 2 (itemOut item)
@@ -28,13 +29,13 @@ formerRefusal m r item =
     ∷ refuse 4 (notActive m r)
     ∷ refuse 7 (isApplying m)
     ∷ cond (isOwn m r item) []
-    (refuse 8 (heldByOther m r item)
-    ∷ refuse 9 (isStale m r item)
+    (refuse 9 (isStale m r item)
+    ∷ refuse 8 (heldByOther m r item)
     ∷ refuse 10 (isFull m r)
     ∷ []))
 
-abbrev pub formerWrite : Memory → ℕ → ℕ → ℤ → Outcome
-formerWrite m ticket item value = writeUnless (formerRefusal m (rowNo m ticket) item) m (rowNo m ticket) item value
+abbrev pub unclassedWrite : Memory → ℕ → ℕ → ℤ → Outcome
+unclassedWrite m ticket item value = writeUnless (unclassedRefusal m (rowNo m ticket) item) m (rowNo m ticket) item value
 
 -- no table is loaded
 abbrev pub Unloaded : Memory → Type 0
@@ -59,12 +60,12 @@ noLoads (c ∷ cs) = not (isLoad c) && noLoads cs
 
 pub record OneClass : Type 0 where
   pub writes : {over : ℕ} (m : Memory) → Shape over m → isStation m ≡ false → Unloaded m → (ticket item : ℕ) (value : ℤ)
-      → step m (write ticket item value) ≡ formerWrite m ticket item value
+      → step m (write ticket item value) ≡ unclassedWrite m ticket item value
   -- an accepted load alone changes the table
   pub kept : (m : Memory) (c : Call) → (step m c .answer ≡ loaded → ⊥) → step m c .memory .store .classes ≡ m .store .classes
   -- so on any list of calls without a load, after a make or a restart
   pub made : (n own : ℕ) (values : List ℤ) → 2 ≤ n → n ≤ 6 → own < n → length values ≡ 128 → (cs : List Call) → noLoads cs ≡ true → (ticket item : ℕ) (value : ℤ)
-      → let m = after (madeMemory n own values) cs in step m (write ticket item value) ≡ formerWrite m ticket item value
+      → let m = after (madeMemory n own values) cs in step m (write ticket item value) ≡ unclassedWrite m ticket item value
   pub restarted : (n own : ℕ) (values : List ℤ) → 2 ≤ n → n ≤ 6 → own < n → length values ≡ 128 → (journal : List ℕ) (cs : List Call) → noLoads cs ≡ true
       → (ticket item : ℕ) (value : ℤ)
-      → let m = after (restartedMemory n own values (blocksIn n journal)) cs in step m (write ticket item value) ≡ formerWrite m ticket item value
+      → let m = after (restartedMemory n own values (blocksIn n journal)) cs in step m (write ticket item value) ≡ unclassedWrite m ticket item value

@@ -66,6 +66,29 @@ threeWritesets = blockOf (record {
 abbrev pub toThree : List Call
 toThree = load threeClasses ∷ begin ∷ begin ∷ write 2 40 (pos 1) ∷ deliver threeWritesets ∷ []
 
+-- a *tocommit* of replica 1 of 2, for slot 1: ticket 1 writes 50 to item 5
+abbrev pub fromOther : List ℕ
+fromOther = blockOf (record {
+  kind = 2;
+  sender = 1;
+  replicas = 2;
+  slot = 1;
+  records = record { ticket = 1; entries = record { item = 5; value = pos 50 } ∷ [] } ∷ [];
+})
+
+-- the calls by which item 5 at replica 0 of 2 is newer than ticket 1's snapshot and held by ticket 2
+abbrev pub toStaleAndHeld : List Call
+toStaleAndHeld =
+    begin
+    ∷ send (replicate 512 0)
+    ∷ deliver (nextBlock 2 0 0)
+    ∷ work
+    ∷ deliver fromOther
+    ∷ work
+    ∷ begin
+    ∷ write 2 5 (pos 7)
+    ∷ []
+
 -- two of three transactions asked in the order 2, 1 and sent; then the third meets a lock of the first, writes another item and asks
 abbrev pub sendTwo : List Call
 sendTwo =
@@ -115,6 +138,8 @@ pub record RightAnswers : Type 0 where
       ∷ work ∷ write 1 8 (pos 1) ∷ write 2 40 (pos 2) ∷ write 1 6 (pos 1)
       ∷ work ∷ write 2 40 (pos 2) ∷ load threeClasses ∷ load (replicate 128 9) ∷ load [] ∷ [])))
       ≡ 0 ∷ 0 ∷ 7 ∷ 7 ∷ 23 ∷ 0 ∷ 0 ∷ 7 ∷ 9 ∷ 0 ∷ 0 ∷ 0 ∷ 2 ∷ 1 ∷ []
+  -- document 02's Req 07: 9 before 8, and the transaction is ended
+  pub stale-first : drop 8 (numbers (fresh 2 0) (toStaleAndHeld ++ (write 1 5 (pos 8) ∷ write 1 5 (pos 8) ∷ []))) ≡ 9 ∷ 3 ∷ []
   -- document 02's Req 05: a station is made in a group of 2 to 6; a write of no item and a send lent no bytes give 25, and it takes replica 0's block
   pub station : map (λ (n : ℕ). numberOf (stationStep (fresh 6 0) n zeros .answer)) (1 ∷ 6 ∷ 7 ∷ []) ≡ 2 ∷ 0 ∷ 2 ∷ []
   pub station-calls : numbers (stationMemory 2 zeros) (write 1 128 (pos 1) ∷ send [] ∷ deliver (nextBlock 2 0 0) ∷ work ∷ []) ≡ 25 ∷ 25 ∷ 0 ∷ 0 ∷ []

@@ -1,4 +1,5 @@
--- The cases, the journals and a station computed.
+-- The cases, the journals, a stale item that is held and a station computed.
 pub mod Cases
 pub mod Journals
+pub mod Staleness
 pub mod Stations

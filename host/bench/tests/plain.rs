@@ -172,6 +172,7 @@ fn plain_and_model_give_the_same() {
     // No list of calls leads to 22, and there is no 24.
     let due: Vec<usize> = (1..26).filter(|&n| n != 22 && n != 24).collect();
     assert_eq!(seen.numbers(20), due, "{seen:?}");
+    assert!(seen.stale_and_held > 30, "{seen:?}");
     assert!(seen.restarts > 1_000, "{seen:?}");
     assert!(seen.offered_again > 100, "{seen:?}");
 }

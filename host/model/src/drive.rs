@@ -95,8 +95,8 @@ impl<S: Subject> Group<S> {
     pub fn call(&mut self, k: usize, call: &Call) -> Result<Answer, u8> {
         let answer = self.members[k].call(call);
         self.observer.feed(k, call, &answer);
+        self.seen.feed(&self.tallies[k], call, &answer);
         self.tallies[k].feed(call, &answer);
-        self.seen.feed(call, &answer);
         self.feed_delivery(k, call, &answer);
         if let Ok(Answer::Block(block)) = &answer {
             let slot = block::header(block).slot;

@@ -7,6 +7,7 @@ mod malformed;
 mod random;
 mod refusals;
 mod restarts;
+mod staleness;
 mod stations;
 mod story;
 mod worked;
@@ -24,6 +25,7 @@ pub fn calls() -> Vec<u8> {
     random::with_tables(&mut list);
     stations::all(&mut list);
     random::with_stations(&mut list);
+    staleness::all(&mut list);
     list.lines()
 }
 

@@ -306,7 +306,7 @@ calls! {
         item: u32
     ) -> ReadReply;
 
-    /// Puts an item and its value into a writeset. Refused by 25, 1, 2, 3, 4, 7, 8, 9, 10.
+    /// Puts an item and its value into a writeset. Refused by 25, 1, 2, 3, 4, 7, 9, 8, 10.
     fn write = stemline_write(
         table: mut [Txn], turn: &Turn, counts: &mut Counts, ticket: u32, items: mut [u8],
         writes: mut [i32], stamps: ref [u32], classes: ref [u8], places: ref [u8], item: u32,

@@ -25,10 +25,11 @@ pub enum Refusal {
     /// 7: an item of this class is still to come in the block of another that is applied. To be tried again
     /// after the next work.
     Applying,
-    /// 8: another open transaction has written the item.
+    /// 8: another open transaction has written the item, which is not stale ([`Refusal::Stale`] is before
+    /// this). To be tried again when that one has ended: stale, if the item has changed by then.
     Locked,
-    /// 9: the item changed since the transaction's snapshot. The only refusal that changes something: the
-    /// transaction ends as aborted.
+    /// 9: the item changed since the transaction's snapshot, whoever holds it now. The only refusal that
+    /// changes something: the transaction ends as aborted.
     Stale,
     /// 10: the transaction has written eight items, and this is another.
     WritesetFull,

@@ -117,8 +117,8 @@ impl Replica {
     }
 
     /// Puts the item with its value into the writeset and locks it. While a block of another is applied,
-    /// 7 if an item of its class is still to come (see [`Replica::load`]). Refused by 25, 1, 2, 3, 4, 7, 8,
-    /// 9, 10.
+    /// 7 if an item of its class is still to come (see [`Replica::load`]). Refused by 25, 1, 2, 3, 4, 7 and,
+    /// unless the transaction holds the item, 9, 8, 10.
     #[inline]
     pub fn write(&mut self, ticket: u32, item: u32, value: i32) -> Result<(), Refusal> {
         let m = &mut *self.memory;

@@ -61,47 +61,49 @@ returns c = λ m table here same.
     rw (c .changed .ensures, same-row table (a .at) (a .t) here, toZ-ofZ (s .fits .value))
     (gives number (write-mine _ (a .at) (a .item) (a .value) (w .write-count .result) (i .index-of .result) (rw here at (w .write-count .ensures)) (i .index-of .ensures) (c .before .if1 .taken)))
 
+mul-if2 : tie.Need-mul-if2
+mul-if2 c = search needs
+
+shared-slice-read-if2 : tie.Need-shared-slice-read-if2
+shared-slice-read-if2 c = search needs
+
+stale-requires : tie.Need-stale-requires
+stale-requires c κs = search needs
+
+same-length-3 : tie.Need-same-length-3
+same-length-3 c = search needs
+
+returns-2 : tie.Need-returns-2
+unfolding staleAt
+returns-2 c = λ m table here same.
+    let q = c .before .before .before .before in
+    let i = q .before in
+    let w = i .before .before .before in
+    let s = w .before .before .before in
+    let a = s .args in
+    rw (c .stale .ensures)
+    (gives number (write-stale _ (a .at) (a .item) (a .value) (w .write-count .result) (i .index-of .result) (rw here at (w .write-count .ensures)) (i .index-of .ensures) (q .if1 .left) (rw here at (c .before .if2 .taken))))
+
 held-requires : tie.Need-held-requires
 held-requires c κs = search needs
 
 changed-requires-2 : tie.Need-changed-requires-2
 changed-requires-2 c κs = search needs
 
-same-length-3 : tie.Need-same-length-3
-same-length-3 c = search needs
-
-returns-2 : tie.Need-returns-2
-returns-2 c = λ m table here same.
-    let h = c .before .before in
-    let i = h .before .before .before in
-    let w = i .before .before .before in
-    let s = w .before .before .before in
-    let a = s .args in
-    rw (c .changed2 .ensures, same-row table (a .at) (a .t) here)
-    (gives number (write-held _ (a .at) (a .item) (a .value) (w .write-count .result) (i .index-of .result) (rw here at (w .write-count .ensures)) (i .index-of .ensures) (h .before .before .if1 .left) (h .held .result) (h .held .ensures ∙ sym same) (c .before .if2 .taken)))
-
-mul-if3 : tie.Need-mul-if3
-mul-if3 c = search needs
-
-shared-slice-read-if3 : tie.Need-shared-slice-read-if3
-shared-slice-read-if3 c = search needs
-
-stale-requires : tie.Need-stale-requires
-stale-requires c κs = search needs
-
 same-length-4 : tie.Need-same-length-4
 same-length-4 c = search needs
 
 returns-3 : tie.Need-returns-3
-unfolding staleAt
 returns-3 c = λ m table here same.
-    let h = c .before .before .before .before .before in
-    let i = h .before .before .before in
+    let h = c .before .before in
+    let f = h .before .before in
+    let q = f .before .before .before in
+    let i = q .before in
     let w = i .before .before .before in
     let s = w .before .before .before in
     let a = s .args in
-    rw (c .stale .ensures)
-    (gives number (write-stale _ (a .at) (a .item) (a .value) (w .write-count .result) (i .index-of .result) (rw here at (w .write-count .ensures)) (i .index-of .ensures) (h .before .before .if1 .left) (h .held .result) (h .held .ensures ∙ sym same) (c .before .before .before .before .if2 .left) (rw here at (c .before .if3 .taken))))
+    rw (c .changed2 .ensures, same-row table (a .at) (a .t) here)
+    (gives number (write-held _ (a .at) (a .item) (a .value) (w .write-count .result) (i .index-of .result) (rw here at (w .write-count .ensures)) (i .index-of .ensures) (q .if1 .left) (rw here at (f .if2 .left)) (h .held .result) (h .held .ensures ∙ sym same) (c .before .if3 .taken)))
 
 changed-requires-3 : tie.Need-changed-requires-3
 changed-requires-3 c κs = search needs
@@ -111,13 +113,15 @@ same-length-5 c = search needs
 
 returns-4 : tie.Need-returns-4
 returns-4 c = λ m table here same.
-    let h = c .before .before .before .before .before .before in
-    let i = h .before .before .before in
+    let h = c .before .before .before in
+    let f = h .before .before in
+    let q = f .before .before .before in
+    let i = q .before in
     let w = i .before .before .before in
     let s = w .before .before .before in
     let a = s .args in
     rw (c .changed3 .ensures, same-row table (a .at) (a .t) here)
-    (gives number (write-full _ (a .at) (a .item) (a .value) (w .write-count .result) (i .index-of .result) (rw here at (w .write-count .ensures)) (i .index-of .ensures) (h .before .before .if1 .left) (h .held .result) (h .held .ensures ∙ sym same) (c .before .before .before .before .before .if2 .left) (rw here at (c .before .before .if3 .left)) (c .before .if4 .taken)))
+    (gives number (write-full _ (a .at) (a .item) (a .value) (w .write-count .result) (i .index-of .result) (rw here at (w .write-count .ensures)) (i .index-of .ensures) (q .if1 .left) (rw here at (f .if2 .left)) (h .held .result) (h .held .ensures ∙ sym same) (c .before .before .if3 .left) (c .before .if4 .taken)))
 
 insert-requires : tie.Need-insert-requires
 insert-requires c κs = search needs
@@ -134,15 +138,17 @@ same-length-7 c = search needs
 returns-5 : tie.Need-returns-5
 returns-5 c = λ m table here same.
     let n = c .before .before .before .before in
-    let f = n .before .before .before in
-    let h = f .before .before .before .before .before in
-    let i = h .before .before .before in
+    let g = n .before .before .before in
+    let h = g .before .before in
+    let f = h .before .before in
+    let q = f .before .before .before in
+    let i = q .before in
     let w = i .before .before .before in
     let s = w .before .before .before in
     let a = s .args in
     rw (c .changed4 .ensures)
     (gives number
-    (write-new _ (a .at) (a .item) (a .value) (w .write-count .result) (i .index-of .result) (rw here at (w .write-count .ensures)) (i .index-of .ensures) (h .before .before .if1 .left) (h .held .result) (h .held .ensures ∙ sym same) (f .before .before .before .before .if2 .left) (rw here at (f .before .if3 .left)) (f .if4 .left)
+    (write-new _ (a .at) (a .item) (a .value) (w .write-count .result) (i .index-of .result) (rw here at (w .write-count .ensures)) (i .index-of .ensures) (q .if1 .left) (rw here at (f .if2 .left)) (h .held .result) (h .held .ensures ∙ sym same) (g .before .if3 .left) (g .if4 .left)
     (inserted (set table (a .at) (n .insert .result)) (n .insert .last .1 .0) (n .insert .last .1 .1 .0)) (rw (toZ-ofZ (s .fits .value)) at (n .insert .ensures table here))))
 
 pub write-at-spec : {M : Type 1} → statement M
@@ -163,13 +169,13 @@ write-at-spec =
     same-length
     same-length-2
     returns
-    held-requires
-    changed-requires-2
+    mul-if2
+    shared-slice-read-if2
+    stale-requires
     same-length-3
     returns-2
-    mul-if3
-    shared-slice-read-if3
-    stale-requires
+    held-requires
+    changed-requires-2
     same-length-4
     returns-3
     changed-requires-3

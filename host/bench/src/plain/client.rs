@@ -51,16 +51,16 @@ impl Replica {
             row.writes[at] = value;
             return Ok(());
         }
-        // A free row has no items, and the transaction's own row has not this one.
-        if self.rows.iter().any(|other| other.items().contains(&item)) {
-            return Err(LOCKED);
-        }
-        let row = &mut self.rows[r];
         if self.stamps[usize::from(item)] > row.snapshot {
             row.end();
             self.aborted += 1;
             return Err(STALE);
         }
+        // A free row has no items, and the transaction's own row has not this one.
+        if self.rows.iter().any(|other| other.items().contains(&item)) {
+            return Err(LOCKED);
+        }
+        let row = &mut self.rows[r];
         if row.count == ENTRIES {
             return Err(WRITESET_FULL);
         }

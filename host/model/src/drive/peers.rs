@@ -54,8 +54,8 @@ impl Peers {
 
     /// Takes in the answer to a call.
     pub fn feed(&mut self, call: &Call, answer: &Result<Answer, u8>) {
+        self.seen.feed(&self.tally, call, answer);
         self.tally.feed(call, answer);
-        self.seen.feed(call, answer);
         self.keep(call, answer);
     }
 

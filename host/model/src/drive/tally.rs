@@ -35,6 +35,8 @@ pub struct Tally {
     pub report: Report,
     /// The tickets open.
     pub open: Vec<u32>,
+    /// Ticket and item of their writes.
+    locks: Vec<(u32, u32)>,
 }
 
 impl Tally {
@@ -52,12 +54,22 @@ impl Tally {
             own: None,
             report,
             open: Vec::new(),
+            locks: Vec::new(),
         }
     }
 
     /// Whether it is a station's.
     pub fn is_station(&self) -> bool {
         self.own.is_none()
+    }
+
+    /// Whether a call, which is not taken in yet, writes an item that another transaction holds.
+    pub fn is_held(&self, call: &Call) -> bool {
+        let Call::Write { ticket, item, .. } = call else {
+            return false;
+        };
+        let mut locks = self.locks.iter();
+        locks.any(|(other, held)| held == item && other != ticket)
     }
 
     /// Takes in a call and its answer.
@@ -76,6 +88,7 @@ impl Tally {
                 report.withdrawn += 1;
                 self.close(*ticket);
             }
+            (Call::Write { ticket, item, .. }, Ok(_)) => self.locks.push((*ticket, *item)),
             (Call::Write { ticket, .. }, Err(9)) => {
                 report.aborted += 1;
                 self.close(*ticket);
@@ -114,6 +127,7 @@ impl Tally {
         }
         let tickets = own.iter().copied().max().unwrap_or(0);
         self.open.clear();
+        self.locks.clear();
         self.report = Report {
             turn: blocks.len() as u32,
             commits,
@@ -126,6 +140,7 @@ impl Tally {
 
     fn close(&mut self, ticket: u32) {
         self.open.retain(|&open| open != ticket);
+        self.locks.retain(|&(open, _)| open != ticket);
     }
 }
 
@@ -142,6 +157,8 @@ pub struct Seen {
     pub aborted: u64,
     /// Transactions aborted by a write.
     pub stale: u64,
+    /// Of these, by a write of an item that another held.
+    pub stale_and_held: u64,
     /// Transactions that ended with nothing written.
     pub read_only: u64,
     /// Transactions withdrawn.
@@ -163,9 +180,10 @@ pub struct Seen {
 }
 
 impl Seen {
-    /// Takes in a call and its answer.
-    pub fn feed(&mut self, call: &Call, answer: &Result<Answer, u8>) {
+    /// Takes in a call and its answer, and what the calls before amount to.
+    pub fn feed(&mut self, before: &Tally, call: &Call, answer: &Result<Answer, u8>) {
         self.calls += 1;
+        self.stale_and_held += u64::from(*answer == Err(9) && before.is_held(call));
         match (call, answer) {
             (_, Err(number)) => {
                 self.refused[usize::from(*number)] += 1;
@@ -194,6 +212,7 @@ impl Seen {
         self.commits += other.commits;
         self.aborted += other.aborted;
         self.stale += other.stale;
+        self.stale_and_held += other.stale_and_held;
         self.read_only += other.read_only;
         self.withdrawn += other.withdrawn;
         self.delivered += other.delivered;

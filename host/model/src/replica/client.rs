@@ -39,7 +39,7 @@ impl Replica {
     }
 
     /// Puts the item with its value into the writeset. Refused by 25, 2, 3, 4, 7 and, if the
-    /// transaction does not hold the item already, by 8, 9, 10.
+    /// transaction does not hold the item already, by 9, 8, 10 (document 02, Req 07).
     pub fn write(&mut self, ticket: u32, item: u32, value: i32) -> Result<(), u8> {
         if self.is_station() {
             return Err(STATION_ONLY_READS);
@@ -53,16 +53,17 @@ impl Replica {
             *held = value;
             return Ok(());
         }
+        // Whoever holds the item, waiting for it would be in vain.
+        if self.stamps[usize::from(item)] > self.open[at].snapshot {
+            self.open.remove(at);
+            self.aborted += 1;
+            return Err(STALE);
+        }
         // The transaction does not hold the item, so whoever does is another.
         if self.open.iter().any(|t| t.writes.contains_key(&item)) {
             return Err(LOCKED);
         }
         let transaction = &mut self.open[at];
-        if self.stamps[usize::from(item)] > transaction.snapshot {
-            self.open.remove(at);
-            self.aborted += 1;
-            return Err(STALE);
-        }
         if transaction.writes.len() == ENTRIES {
             return Err(WRITESET_FULL);
         }

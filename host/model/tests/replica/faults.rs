@@ -10,7 +10,7 @@ use crate::single::Pair;
 
 /// Each fault, and whether demand 3 forbids it. Where not, only the contracts of the calls do:
 /// what a write answers, what a report counts, when a number may be returned.
-pub const FAULTS: [(Fault, bool); 15] = [
+pub const FAULTS: [(Fault, bool); 16] = [
     (Fault::ArrivalOrder, true),
     (Fault::SparesAsked, true),
     (Fault::StaleAtAsk, false),
@@ -26,6 +26,7 @@ pub const FAULTS: [(Fault, bool); 15] = [
     (Fault::AppliedToo, false),
     (Fault::HeldFirst, false),
     (Fault::AbortsByClass, true),
+    (Fault::LockFirst, false),
 ];
 
 const STYLE: Style = Style::new(6, 50, 15);

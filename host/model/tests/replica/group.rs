@@ -87,7 +87,7 @@ fn no_violation() {
     assert!(seen.calls > 400_000, "{seen:?}");
     assert!(seen.commits > 10_000, "{seen:?}");
     assert!(seen.aborted > 1_000, "{seen:?}");
-    assert!(seen.stale > 200, "{seen:?}");
+    assert!(seen.stale > 200 && seen.stale_and_held > 10, "{seen:?}");
     assert!(seen.read_only > 200 && seen.withdrawn > 200, "{seen:?}");
     assert!(seen.sent[0] > 100 && seen.sent[6] > 10, "{seen:?}");
     assert!(seen.sent.iter().all(|&blocks| blocks > 10), "{seen:?}");

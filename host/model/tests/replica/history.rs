@@ -9,8 +9,8 @@ use model::drive::Subject;
 use model::replica::{Report, Work, ITEMS};
 use model::trace::{Answer, Call};
 
-/// What a replica by history does wrong: the list of document 01's "Misdrawn replicas"; and what is wrong
-/// about conflict classes.
+/// What a replica by history does wrong: the list of document 01's "Misdrawn replicas"; what is wrong
+/// about conflict classes; and the order of a write's refusals before document 02's Req 07.
 #[derive(Clone, Copy, Debug, PartialEq, Eq)]
 pub enum Fault {
     None,
@@ -44,6 +44,8 @@ pub enum Fault {
     HeldFirst,
     /// A remote writeset aborts whoever has written an item of one of its classes.
     AbortsByClass,
+    /// A write looks for the holder of the item before it looks at staleness.
+    LockFirst,
 }
 
 pub struct Historical {
@@ -252,13 +254,17 @@ impl Historical {
             _ => false,
         };
         let holds = |t: &Begun| locks(t) && t.last_write(item).is_some();
-        if !own && self.begun.iter().any(holds) {
+        let held = !own && self.begun.iter().any(holds);
+        if held && self.fault == Fault::LockFirst {
             return Err(8);
         }
         let stale = self.stamp(item) > self.begun[at].snapshot;
         if !own && stale && self.fault != Fault::StaleAtAsk {
             self.begun[at].state = State::Aborted;
             return Err(9);
+        }
+        if held {
+            return Err(8);
         }
         if !own && self.begun[at].record().entries.len() == 8 {
             return Err(10);

@@ -14,6 +14,7 @@ mod restart_faults;
 mod restarts;
 mod scenes;
 mod single;
+mod staleness;
 mod station_faults;
 mod stations;
 mod story;

@@ -70,7 +70,7 @@ fn write_order_while_applying() {
     assert_eq!(replica, before);
 }
 
-/// 8 before 9 before 10, and none of them for an item that is held already.
+/// 9 before 8 before 10, and none of them for an item that is held already.
 #[test]
 fn write_order() {
     let (mut replica, [full, stale, holder, _]) = applying();
@@ -81,15 +81,18 @@ fn write_order() {
     // One that began later holds an item that is newer than the others' snapshots.
     let later = replica.begin().unwrap();
     replica.write(later, 50, 2).unwrap();
-    let before = replica.clone();
-    assert_eq!(replica.write(stale, 50, 0), Err(8), "also 9");
-    assert_eq!(replica.write(full, 50, 0), Err(8), "also 9 and 10");
-    assert_eq!(replica, before);
     assert_eq!(replica.write(full, 20, 0), Ok(()), "a ninth write");
-    assert_eq!(replica.write(full, 51, 0), Err(9), "also 10");
-    assert_eq!(replica.write(full, 51, 0), Err(3));
+    let mut other = replica.clone();
+    assert_eq!(other.write(full, 51, 0), Err(9), "also 10");
+    assert_eq!(replica.write(full, 50, 0), Err(9), "also 8 and 10");
+    assert_eq!(replica.write(full, 20, 0), Err(3));
+    assert_eq!(replica.write(stale, 50, 0), Err(9), "also 8");
+    assert_eq!(replica.write(stale, 50, 0), Err(3));
     assert_eq!(replica.write(holder, 30, 0), Ok(()));
     assert_eq!(replica.write(holder, 51, 0), Err(9));
+    // What ended so has freed its items; what it met has not.
+    assert_eq!(replica.write(later, 20, 0), Ok(()));
+    assert_eq!(replica.read(later, 50), Ok(2));
 }
 
 /// 1, 13, 11, 12 in this order. 11 and 12 exclude each other, as do 13 and 12.

@@ -102,6 +102,7 @@ fn both_give_the_same() {
     assert_eq!(seen.calls, 200_000);
     assert!(seen.commits > 10_000, "{seen:?}");
     assert!(seen.aborted > 1_000 && seen.stale > 500, "{seen:?}");
+    assert!(seen.stale_and_held > 20, "{seen:?}");
     assert!(seen.read_only > 300 && seen.withdrawn > 300, "{seen:?}");
     assert!(seen.sent.iter().all(|&blocks| blocks > 10), "{seen:?}");
     let due: Vec<usize> = (1..24).filter(|n| ![6, 13, 22].contains(n)).collect();

@@ -2,7 +2,7 @@
 //! the last slot, and an own writeset whose transaction is not open as sent.
 
 use model::block::MAX_TICKET;
-use model::drive::{start_values, Seen, Subject};
+use model::drive::{start_values, Seen, Subject, Tally};
 use model::replica::{self as second, Stage, SLOTS};
 use model::samples::block_of;
 use model::trace::{Answer, Call};
@@ -151,7 +151,7 @@ pub fn own_writesets_not_open_as_sent() -> Seen {
             for _ in 0..2 {
                 let answer = both.call(&Call::Work);
                 assert_eq!(answer, Err(22), "{stage:?} {done}");
-                seen.feed(&Call::Work, &answer);
+                seen.feed(&Tally::new(0, both.report()), &Call::Work, &answer);
             }
         }
     }

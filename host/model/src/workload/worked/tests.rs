@@ -2,13 +2,14 @@
 
 use super::*;
 use crate::replay::Replay;
-use crate::workload::{classes, restarts, stations};
+use crate::workload::{classes, restarts, staleness, stations};
 
 /// All of them.
 fn lists() -> impl Iterator<Item = (&'static str, &'static str)> {
     let (first, second) = (restarts::worked::LISTS, classes::worked::LISTS);
     let lists = first.into_iter().chain(second);
-    lists.chain(stations::worked::LISTS)
+    let lists = lists.chain(stations::worked::LISTS);
+    lists.chain(staleness::LISTS)
 }
 
 /// Whether an answer is of a pattern.
