@@ -101,7 +101,6 @@ static inline const char *stemline_words(int number) {
         return "the block names this replica as its sender, which did not send it for its present turn";
     case STEMLINE_SLOT_TAKEN: return "a block for this slot waits already";
     case STEMLINE_NOTHING_WAITS: return "no block waits for the turn";
-    case STEMLINE_NOT_OPEN_AS_SENT: return "an own writeset whose transaction is not open as sent";
     case STEMLINE_LOAD_WHILE_APPLYING: return "classes are loaded while a block of another replica is being applied";
     case STEMLINE_STATION_ONLY_READS: return "a station neither writes nor sends";
     default: return "refused by an unknown number";
@@ -134,7 +133,6 @@ typedef struct stemline_replica {
 
 typedef struct stemline_take_reply {
     uint8_t number;  /* the deliver's: a take is refused where its deliver is */
-    uint8_t refused; /* the number, other than 21, of a work that ended the steps; 0 where none did */
     uint8_t count;   /* how many of steps count */
     stemline_work_reply steps[STEMLINE_STEPS]; /* zeros behind */
     uint8_t append_count; /* how many blocks of append count */
@@ -278,7 +276,7 @@ static inline uint8_t stemline_replica_deliver(
 /* Takes one step at the block of the turn: commits its next writeset, or passes
  * over a block without records. Where the turn leaves another's slot, the block
  * that stood there is written to block and append is true: it goes to the journal.
- * Else block stays as it is. Refused by 1, 21, 22. */
+ * Else block stays as it is. Refused by 1, 21. */
 static inline stemline_work_reply stemline_replica_work(
     stemline_replica *r, uint8_t block[STEMLINE_BLOCK]) {
     return stemline_work(
@@ -307,10 +305,8 @@ static inline uint8_t stemline_replica_load(
  * Refused by 1, 14, 15, 16, 17, 18, 19, 20, as the deliver is: nothing is worked,
  * and what waits already goes on waiting. So it is with a block that comes a
  * second time (17 or 20), which a host may pass over.
- * A work that is refused by any other number than 21 ends the steps: refused has
- * its number, and the steps before it are done. Only altered memory leads to that,
- * or to more than STEMLINE_STEPS steps, of which the rest is left to the next
- * take. */
+ * Only altered memory leads to more than STEMLINE_STEPS steps, of which the rest is
+ * left to the next take. */
 static inline stemline_take_reply stemline_replica_take(
     stemline_replica *r, const uint8_t *bytes, size_t length) {
     stemline_take_reply reply;
@@ -321,8 +317,7 @@ static inline stemline_take_reply stemline_replica_take(
            && reply.append_count < STEMLINE_REPLICAS) {
         stemline_work_reply work = stemline_replica_work(r, reply.append[reply.append_count]);
         if (work.number != STEMLINE_ACCEPTED) {
-            reply.refused = work.number == STEMLINE_NOTHING_WAITS ? 0 : work.number;
-            break;
+            break; /* 21: behind a deliver no work of this struct is refused by another */
         }
         reply.steps[reply.count++] = work;
         reply.append_count = (uint8_t)(reply.append_count + work.append);

@@ -64,7 +64,7 @@ enum stemline_number {
     STEMLINE_NOT_SENT = 19,
     STEMLINE_SLOT_TAKEN = 20,
     STEMLINE_NOTHING_WAITS = 21,
-    STEMLINE_NOT_OPEN_AS_SENT = 22,
+    /* 22 was a work's, and is free for good. */
     STEMLINE_LOAD_WHILE_APPLYING = 23,
     STEMLINE_STATION_ONLY_READS = 25
 };

@@ -23,13 +23,11 @@ use Rattle.engine.specs.Moves.{messageFor, sentAlready, sendRefusal, sendNow, d
 use Rattle.engine.specs.Step.{Call, step}
 use Rattle.engine.specs.Step.Call.{begin, read, write, ask, withdraw, report, send, deliver, work, load}
 use Rattle.engine.specs.Restart.{blocksIn, restartedMemory, restartStep}
-use Rattle.engine.specs.Sent.{SentShape}
 use Rattle.engine.proofs.Tests.{same-by}
 use Rattle.engine.proofs.Steps.{begin-by, read-by, write-by, ask-by, withdraw-by, send-by, deliver-by, work-by, load-by, restart-by}
 use Rattle.engine.proofs.Shaping.{bumps}
 use Rattle.engine.proofs.ShapeTurn.{Working, working}
 use Rattle.engine.proofs.SentWork.{sender-owns, is-outbox}
-use Rattle.engine.proofs.Sent.{sent-shapes}
 use Rattle.engine.proofs.RestartLaws.{reads-good, reads-first}
 use Rattle.protocol.specs.Blocks.{join}
 use Rattle.agreement.specs.Group.{GroupCall, call, restart, performed, argumentsOf, journalAfter, Group, CallAt, madeMember, fresh, next, run, Calls}
@@ -52,7 +50,7 @@ turn-filled l b t false false long up on h = rw (append-nil l) h
 
 -- ---- the calls
 
-module _ (n : ℕ) (m : Memory) (s : Sound n m) (Q : SentShape m) (l : List ℕ) (H : length l ≡ 512 * blocksAt (m .turn)) where
+module _ (n : ℕ) (m : Memory) (s : Sound n m) (l : List ℕ) (H : length l ≡ 512 * blocksAt (m .turn)) where
   abbrev Filled : Call → Outcome → Type 0
   Filled c o = length (journalAfter l (call c) (o .answer)) ≡ 512 * blocksAt (o .memory .turn)
 
@@ -67,13 +65,13 @@ module _ (n : ℕ) (m : Memory) (s : Sound n m) (Q : SentShape m) (l : List ℕ)
     long = is-taken b (s .shape .places .waits (m .turn .slot) (omega arith) (omega (arith, s .shape .ranges .least)) (k .waits) .0) .long
 
     owns : getD b 1 0 ≡ ownerOf (m .counts .replicas) (m .turn .slot)
-    owns = sender-owns m (s .shape) Q (k .waits)
+    owns = sender-owns m (s .shape) (s .sent) (k .waits)
 
     mark : sentAlready m ≡ mine
     mark =
         same-by (getD b 1 0) (m .counts .own)
-        (λ e. is-outbox m (s .shape) Q (k .waits) (sym owns ∙ e) .0 ∙ sym (eq-eqb (getD b 1 0) (m .counts .own) e))
-        (λ d. not-so (sentAlready m) (λ t. d (owns ∙ Q .turn t)) ∙ sym (ne-eqb (getD b 1 0) (m .counts .own) d))
+        (λ e. is-outbox m (s .shape) (s .sent) (k .waits) (sym owns ∙ e) .0 ∙ sym (eq-eqb (getD b 1 0) (m .counts .own) e))
+        (λ d. not-so (sentAlready m) (λ t. d (owns ∙ s .sent .turn t)) ∙ sym (ne-eqb (getD b 1 0) (m .counts .own) d))
 
     left : (last : Bool) → length (l ++ cond last (cond mine [] b) []) ≡ 512 * blocksAt (cond last (advance (m .turn)) (cond mine (m .turn) (markApplying (m .turn))))
     left last = turn-filled l b (m .turn) mine last long (bumps m (s .shape) .slot) mark H
@@ -117,19 +115,16 @@ module _ (n : ℕ) (start : List ℤ) (least : 2 ≤ n) (most : n ≤ 6) (long :
   -- replica k and its journal
   pub record FilledAt (k : ℕ) (m : Memory) (l : List ℕ) : Type 0 where
     pub sound : SoundAt n start least most long (owes n start) k m
-    pub sent : SentShape m
     pub filled : length l ≡ 512 * blocksAt (m .turn)
 
   filled-next : (k : ℕ) (m : Memory) (l : List ℕ) → FilledAt k m l → (c : GroupCall) → signed32 (argumentsOf c .value) ≡ true
       → FilledAt k (performed n start k m c .memory) (journalAfter l c (performed n start k m c .answer))
   filled-next k m l F (call c) v = record {
     sound = stays n start least most long (owes n start) k m (call c) v (F .sound);
-    sent = sent-shapes .each m (F .sound .sound .shape) (F .sent) c;
-    filled = call-filled n m (F .sound .sound) (F .sent) l (F .filled) c;
+    filled = call-filled n m (F .sound .sound) l (F .filled) c;
   }
   filled-next k m l F (restart j x) v = record {
     sound = stays n start least most long (owes n start) k m (restart j x) v (F .sound);
-    sent = restart-by (λ (o : Outcome). SentShape (o .memory)) m n k start j x (λ e. sent-shapes .restarted n k start j) (λ e. F .sent);
     filled = restart-filled n k start m l j x (F .filled);
   }
 
@@ -149,7 +144,6 @@ module _ (n : ℕ) (start : List ℤ) (least : 2 ≤ n) (most : n ≤ 6) (long :
   fresh-filled : AllFilled (fresh n start)
   fresh-filled k h = rw (lt-ltb k n h) (record {
     sound = subst (SoundAt n start least most long (owes n start) k) is (made-sound n start least most long (owes n start) k);
-    sent = sent-shapes .made n k start;
     filled = unfold madeMemory in refl;
   })
     where

@@ -21,7 +21,8 @@ use Rattle.engine.proofs.Steps.{restart-by}
 use Rattle.engine.proofs.Passed.{restart-passed}
 use Rattle.engine.proofs.PlaceLaws.{next-round}
 use Rattle.engine.proofs.ShapeMade.{getD-zeros}
-use Rattle.engine.proofs.Reports.{made-own, restarted-own, step-counted}
+use Rattle.engine.proofs.Frames.{own-same}
+use Rattle.engine.proofs.Reports.{made-own, restarted-own}
 use Rattle.protocol.specs.System.{made, PlacesApart}
 use Rattle.protocol.specs.Machine.{Alike, Performed, Refines, Machine}
 use Rattle.agreement.specs.Group.{GroupCall, call, restart, performed, argumentsOf, heard, madeMember}
@@ -82,7 +83,7 @@ module _ (n : ℕ) (start : List ℤ) (least : 2 ≤ n) (most : n ≤ 6) (long :
   owes-at k m s c = go c (s .stands)
     where
       go : (c : GroupCall) → Standing k m → OwedAt n start k m c (performed n start k m c)
-      go (call c) (as-replica h q) = replica-owes n start k m q c (step m c) (step-counted m (s .sound .shape) c .own ∙ q) (owes m (s .sound) c)
+      go (call c) (as-replica h q) = replica-owes n start k m q c (step m c) (own-same m c ∙ q) (owes m (s .sound) c)
       go (call c) (as-station h q) = station-owes n start most k m (s .sound) h q c (owes m (s .sound) c)
       go (restart j b) (as-replica h q) = replica-restarts n start k m q j b
       go (restart j b) (as-station h q) = station-restarts n start most k m (s .sound) h q j b
@@ -95,7 +96,7 @@ module _ (n : ℕ) (start : List ℤ) (least : 2 ≤ n) (most : n ≤ 6) (long :
       go (follows-at e l) = Refines.follows (meantBy n (a .call)) refl e l
 
   pub stays : (k : ℕ) (m : Memory) (c : GroupCall) → signed32 (argumentsOf c .value) ≡ true → SoundAt k m → SoundAt k (performed n start k m c .memory)
-  stays k m (call c) v s = record { sound = sound-each n m (s .sound) c v; stands = stands-on k m (step m c .memory) (step-counted m (s .sound .shape) c .own) (s .stands) }
+  stays k m (call c) v s = record { sound = sound-each n m (s .sound) c v; stands = stands-on k m (step m c .memory) (own-same m c) (s .stands) }
   stays k m (restart j b) v s =
       restart-by (λ (o : Outcome). SoundAt k (o .memory)) m n k start j b
       (λ e. let h = restart-passed m n k start b e .among in

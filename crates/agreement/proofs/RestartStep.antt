@@ -12,11 +12,12 @@ use Rattle.engine.specs.Calls.{Outcome}
 use Rattle.engine.specs.Calls.Answer.{refused, restarted}
 use Rattle.engine.specs.Moves.{waiting}
 use Rattle.engine.specs.Restart.{isGood, blocksIn, startReplay, repeated, lastOwn, restartedMemory, restartRefusal, restartStep}
-use Rattle.engine.proofs.Tests.{clash, not-first}
+use Rattle.engine.proofs.Tests.{not-first}
 use Rattle.engine.proofs.Steps.{restart-by}
 use Rattle.engine.proofs.ShapeMade.{getD-zeros}
 use Rattle.engine.proofs.RestartLaws.{AllGood, reads-good, reads-few, count-few}
 use Rattle.engine.proofs.ShapeRestart.{shape-restarted}
+use Rattle.engine.proofs.Sent.{sent-shapes}
 use Rattle.protocol.specs.Lists.{opt}
 use Rattle.protocol.specs.Writesets.{Message}
 use Rattle.protocol.specs.Replica.{Event}
@@ -123,7 +124,7 @@ unfolding restartedMemory
 sound-restarted n k start l h o v journal = record {
   over = repeated k (blocksIn n journal);
   shape = shape-restarted n k start l h o v journal;
+  sent = sent-shapes .restarted n k start journal;
   size = refl;
   fits = fits-zeros 48;
-  ours = λ q. clash {b = false} q refl;
 }

@@ -1,4 +1,4 @@
--- What holds of a replica's memory holds after every call: with the shape, the size of its group, the values it wrote and its sent mark. Assumes nothing.
+-- What holds of a replica's memory holds after every call: with the shape and what is sent, the size of its group and the values it wrote. Assumes nothing.
 use Prim.Native.Nat.{ℕ, zero, suc, _+_, _*_, _-_, _<_, _≤_}
 use mathlib.Core.Path.{_≡_, refl, sym, ap, _∙_}
 use mathlib.Core.Bool.{Bool, true, false, cond}
@@ -9,7 +9,7 @@ use lib.ListN.{length, getD, set, replicate}
 use borrow.Author.Tests.{eqb-true, not-false}
 use Rattle.block.specs.Message.{Record, ownerOf, signed32}
 use Rattle.memory.specs.declared.Txn.{Txn}
-use Rattle.memory.specs.Memory.{Memory}
+use Rattle.memory.specs.Memory.{Memory, noNumber}
 use Rattle.memory.specs.Rows.{writeCount, itemsOf, countBelow, insertAt}
 use Rattle.memory.specs.Turns.{isOn, markApplying, advance}
 use Rattle.engine.specs.Calls.{Outcome}
@@ -25,6 +25,7 @@ use Rattle.engine.proofs.Passed.{write-passed}
 use Rattle.engine.proofs.Steps.{begin-by, read-by, write-by, ask-by, withdraw-by, send-by, deliver-by, work-by, load-by}
 use Rattle.engine.proofs.ShapeMade.{shape-station}
 use Rattle.engine.proofs.Shapes.{shapes}
+use Rattle.engine.proofs.Sent.{sent-shapes}
 use Rattle.agreement.specs.Group.{call, argumentsOf}
 use Rattle.agreement.proofs.View.{Sound}
 
@@ -32,11 +33,10 @@ use Rattle.agreement.proofs.View.{Sound}
 abbrev Fits : List ℤ → Type 0
 Fits l = (i : ℕ) → signed32 (getD l i (pos 0)) ≡ true
 
--- all but the shape
+-- all but the shape and what is sent
 record Rest (n : ℕ) (m : Memory) : Type 0 where
   size : m .counts .replicas ≡ n
   fits : Fits (m .txns .writes)
-  ours : isOn (m .turn .sent) ≡ true → ownerOf n (m .turn .slot) ≡ m .counts .own
 
 -- ---- a value put into the list
 
@@ -68,11 +68,11 @@ module _ (n : ℕ) (m : Memory) (s : Rest n m) where
 
   begin-rests : (r : ℕ) → Rests (beginAt m r)
   unfolding beginAt
-  begin-rests r = record { size = s .size; fits = s .fits; ours = s .ours }
+  begin-rests r = record { size = s .size; fits = s .fits }
 
   rewrite-rests : (r k : ℕ) (v : ℤ) → signed32 v ≡ true → Rests (rewriteAt m r k v)
   unfolding rewriteAt
-  rewrite-rests r k v e = record { size = s .size; fits = fits-set (m .txns .writes) (8 * r + k) v (s .fits) e; ours = s .ours }
+  rewrite-rests r k v e = record { size = s .size; fits = fits-set (m .txns .writes) (8 * r + k) v (s .fits) e }
 
   insert-rests : (r i : ℕ) (t : Txn) (v : ℤ) → r < 6 → length (m .txns .items) ≡ 48 → length (m .txns .writes) ≡ 48 → writeCount t < 8 → signed32 v ≡ true
       → Rests (insertWrite m r t i v)
@@ -81,54 +81,39 @@ module _ (n : ℕ) (m : Memory) (s : Rest n m) where
     size = s .size;
     fits = let b = below-part i (8 * r) (writeCount t) (m .txns .items) (omega arith) in
         fits-insert (m .txns .writes) (8 * r + countBelow i (itemsOf r t (m .txns .items)) 0) (writeCount t - countBelow i (itemsOf r t (m .txns .items)) 0) v (omega arith) (s .fits) e;
-    ours = s .ours;
   }
 
   stale-rests : (r : ℕ) → Rests (staleAt m r)
   unfolding staleAt
-  stale-rests r = record { size = s .size; fits = s .fits; ours = s .ours }
+  stale-rests r = record { size = s .size; fits = s .fits }
 
   read-only-rests : (r : ℕ) → Rests (readOnlyAt m r)
   unfolding readOnlyAt
-  read-only-rests r = record { size = s .size; fits = s .fits; ours = s .ours }
+  read-only-rests r = record { size = s .size; fits = s .fits }
 
   queue-rests : (r : ℕ) (t : Txn) → Rests (queueAt m r t)
   unfolding queueAt
-  queue-rests r t = record { size = s .size; fits = s .fits; ours = s .ours }
+  queue-rests r t = record { size = s .size; fits = s .fits }
 
   withdraw-rests : (r : ℕ) → Rests (withdrawAt m r)
   unfolding withdrawAt
-  withdraw-rests r = record { size = s .size; fits = s .fits; ours = s .ours }
+  withdraw-rests r = record { size = s .size; fits = s .fits }
 
-  -- a send is not refused by 11
-  own-slot : (b : List ℕ) → sendRefusal m b ≡ 0 → ownerOf n (m .turn .slot) ≡ m .counts .own
-  unfolding sendRefusal
-  own-slot b e =
-      let p = passes _ _ refl e in
-      let q = passes _ _ refl (p .1) in
-      ap (λ (k : ℕ). ownerOf k (m .turn .slot)) (sym (s .size)) ∙ eqb-true _ _ (not-false _ (passes _ _ refl (q .1) .0))
-
-  send-rests : (b : List ℕ) → sendRefusal m b ≡ 0 → Rests (sendNow m)
+  send-rests : Rests (sendNow m)
   unfolding sendNow
-  send-rests b e = record { size = s .size; fits = s .fits; ours = λ q. own-slot b e }
+  send-rests = record { size = s .size; fits = s .fits }
 
   deliver-rests : (b : List ℕ) → Rests (deliverNow m b)
   unfolding deliverNow
-  deliver-rests b = record { size = s .size; fits = s .fits; ours = s .ours }
+  deliver-rests b = record { size = s .size; fits = s .fits }
 
   next-rests : Rests (passNext m)
   unfolding passNext
-  next-rests = record { size = s .size; fits = s .fits; ours = λ q. clash {b = false} q refl }
+  next-rests = record { size = s .size; fits = s .fits }
 
   writeset-rests : (mine : Bool) (w : Record) → Rests (commitWriteset m mine w)
   unfolding commitWriteset
-  writeset-rests mine w = record { size = s .size; fits = s .fits; ours = go (isLast m) mine }
-    where
-      go : (last own : Bool) → isOn (cond last (advance (m .turn)) (cond own (m .turn) (markApplying (m .turn))) .sent) ≡ true
-          → ownerOf n (cond last (advance (m .turn)) (cond own (m .turn) (markApplying (m .turn))) .slot) ≡ m .counts .own
-      go true own q = clash {b = false} q refl
-      go false true q = s .ours q
-      go false false q = s .ours q
+  writeset-rests mine w = record { size = s .size; fits = s .fits }
 
 rest-each : (n : ℕ) (m : Memory) → Rest n m → (c : Call) → signed32 (argumentsOf (call c) .value) ≡ true → Rest n (step m c .memory)
 rest-each n m s begin e = begin-by (Rests n m s) m (λ p. begin-rests n m s _) (λ p. s)
@@ -139,22 +124,22 @@ rest-each n m s (write t i v) e =
 rest-each n m s (ask t) e = ask-by (Rests n m s) m t (λ p. read-only-rests n m s _) (λ p o. queue-rests n m s _ _) (λ p. s)
 rest-each n m s (withdraw t) e = withdraw-by (Rests n m s) m t (λ p. withdraw-rests n m s _) (λ p. s)
 rest-each n m s report e = unfold step reportStep in s
-rest-each n m s (send b) e = send-by (Rests n m s) m b (λ p. send-rests n m s b p) (λ k p q. s)
+rest-each n m s (send b) e = send-by (Rests n m s) m b (λ p. send-rests n m s) (λ k p q. s)
 rest-each n m s (deliver b) e = deliver-by (Rests n m s) m b (λ p. deliver-rests n m s b) (λ p. s)
 rest-each n m s work e = work-by (Rests n m s) m (λ p k. next-rests n m s) (λ p k. writeset-rests n m s _ _) (λ p. s)
-rest-each n m s (load l) e = load-by (Rests n m s) m l (λ p. record { size = s .size; fits = s .fits; ours = s .ours }) (λ p. s)
+rest-each n m s (load l) e = load-by (Rests n m s) m l (λ p. record { size = s .size; fits = s .fits }) (λ p. s)
 
 -- ---- the whole
 
 pub sound-each : (n : ℕ) (m : Memory) → Sound n m → (c : Call) → signed32 (argumentsOf (call c) .value) ≡ true → Sound n (step m c .memory)
 sound-each n m s c e =
-    let r = rest-each n m (record { size = s .size; fits = s .fits; ours = s .ours }) c e in
-    record { over = s .over; shape = shapes .each m (s .shape) c; size = r .size; fits = r .fits; ours = r .ours }
+    let r = rest-each n m (record { size = s .size; fits = s .fits }) c e in
+    record { over = s .over; shape = shapes .each m (s .shape) c; sent = sent-shapes .each m (s .shape) (s .sent) c; size = r .size; fits = r .fits }
 
 pub sound-made : (n k : ℕ) (start : List ℤ) → 2 ≤ n → n ≤ 6 → k < n → length start ≡ 128 → Sound n (madeMemory n k start)
 unfolding madeMemory
-sound-made n k start l h o v = record { over = 0; shape = shapes .made n k start l h o v; size = refl; fits = fits-zeros 48; ours = λ q. clash {b = false} q refl }
+sound-made n k start l h o v = record { over = 0; shape = shapes .made n k start l h o v; sent = sent-shapes .made n k start; size = refl; fits = fits-zeros 48 }
 
 pub sound-station : (n : ℕ) (start : List ℤ) → 2 ≤ n → n ≤ 6 → length start ≡ 128 → Sound n (stationMemory n start)
 unfolding madeMemory
-sound-station n start l h v = record { over = 0; shape = shape-station n start l h v; size = refl; fits = fits-zeros 48; ours = λ q. clash {b = false} q refl }
+sound-station n start l h v = record { over = 0; shape = shape-station n start l h v; sent = sent-shapes .made n noNumber start; size = refl; fits = fits-zeros 48 }

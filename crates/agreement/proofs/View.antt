@@ -17,6 +17,7 @@ use Rattle.memory.specs.Rows.{isOpen, writeCount, itemsOf}
 use Rattle.engine.specs.Calls.{Outcome}
 use Rattle.engine.specs.Moves.{waiting}
 use Rattle.engine.specs.Shape.{Shape}
+use Rattle.engine.specs.Sent.{SentShape}
 use Rattle.engine.specs.Step.{Call}
 use Rattle.engine.specs.Step.Call.{begin, read, write, ask, withdraw, report, send, deliver, work, load}
 use Rattle.protocol.specs.Writesets.{Write, Message}
@@ -78,13 +79,13 @@ view m = replica (m .counts .own) (cursorOf m) (storeOf m) (transactions (m .cou
 abbrev pub viewAt : ℕ → Memory → Replica ℤ
 viewAt k m = numbered k (view m)
 
--- what holds of a replica's or a station's memory after every call: its shape; its group's size; each value written is a signed 32-bit number; the sent mark is on at its own slots alone
+-- what holds of a replica's or a station's memory after every call: its shape; what is sent; its group's size; each value written is a signed 32-bit number
 pub record Sound (n : ℕ) (m : Memory) : Type 0 where
   pub over : ℕ
   pub shape : Shape over m
+  pub sent : SentShape m
   pub size : m .counts .replicas ≡ n
   pub fits : (i : ℕ) → signed32 (getD (m .txns .writes) i (pos 0)) ≡ true
-  pub ours : isOn (m .turn .sent) ≡ true → ownerOf n (m .turn .slot) ≡ m .counts .own
 
 -- ---- the calls
 

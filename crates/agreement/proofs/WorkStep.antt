@@ -22,6 +22,7 @@ use Rattle.engine.specs.Calls.Answer.{worked}
 use Rattle.engine.specs.Moves.{waiting, blockAtTurn, writesetAt, hitTickets, workRefusal, turnBlocks, passNext, isLast, commitWriteset}
 use Rattle.engine.specs.Step.Call.{work}
 use Rattle.engine.specs.Shape.{Shape}
+use Rattle.engine.specs.Sent.{SentShape}
 use Rattle.engine.proofs.Tests.{same-by, not-first}
 use Rattle.engine.proofs.Steps.{work-by}
 use Rattle.engine.proofs.RowLaws.{row-found}
@@ -30,7 +31,8 @@ use Rattle.engine.proofs.QueueLaws.{length-waiting, front-is}
 use Rattle.engine.proofs.BlockFacts.{taken-block}
 use Rattle.engine.proofs.Shaping.{bumps}
 use Rattle.engine.proofs.ShapeTurn.{Working, working}
-use Rattle.engine.proofs.ShapeWriteset.{committed}
+use Rattle.engine.proofs.ShapeWriteset.{committed, ends-own}
+use Rattle.engine.proofs.SentWork.{own-sent}
 use Rattle.protocol.specs.Lists.{keep, any}
 use Rattle.protocol.specs.Writesets.{Writeset, Message, noWriteset}
 use Rattle.protocol.specs.Replica.{Setup, Transaction, transactions, Replica, replica, passed, outcome}
@@ -102,7 +104,7 @@ owed-by n start m o q e a b = follows (rw e a) (rw e b)
 
 -- ---- the block at the turn
 
-module _ (start : List ℤ) {over : ℕ} (m : Memory) (S : Shape over m) (k : Working m) where
+module _ (start : List ℤ) {over : ℕ} (m : Memory) (S : Shape over m) (Q : SentShape m) (k : Working m) where
   abbrev n : ℕ
   n = m .counts .replicas
 
@@ -161,10 +163,10 @@ module _ (start : List ℤ) {over : ℕ} (m : Memory) (S : Shape over m) (k : Wo
     places-same false e p = rw e
 
     -- all but the transactions
-    commit-alike : (mine : Bool) (txns : List (Transaction ℤ)) (queue : List ℕ) → SameMembers txns (openTxns (committed m mine (isLast m) w .txns))
-        → waiting (committed m mine (isLast m) w .txns .queue) ≡ queue
+    commit-alike : (mine : Bool) (txns : List (Transaction ℤ)) (queue : List ℕ) → SameMembers txns (openTxns (committed m mine mine (isLast m) w .txns))
+        → waiting (committed m mine mine (isLast m) w .txns .queue) ≡ queue
         → Alike (replica (m .counts .own) (cursorAfter count (cursorOf m)) (storeAfter (map writeOf (w .entries)) (storeOf m))
-        (transactions (m .counts .tickets) txns queue) (blocksAfter (setup n start) count (cursorOf m) (blocksOf m))) (view (committed m mine (isLast m) w))
+        (transactions (m .counts .tickets) txns queue) (blocksAfter (setup n start) count (cursorOf m) (blocksOf m))) (view (committed m mine mine (isLast m) w))
     commit-alike mine txns queue same left = record {
       own = refl;
       cursor = sym (cursor-same (m .turn) (m .counts .done) count mine (isLast m) (bumps m S .slot) last-is);
@@ -193,14 +195,16 @@ module _ (start : List ℤ) {over : ℕ} (m : Memory) (S : Shape over m) (k : Wo
     own-owes : getD b 1 0 ≡ m .counts .own → Owed n start m work (commitWriteset m true w)
     unfolding commitWriteset
     own-owes e =
-        let s = both (ltb row 6) (eqb (rowAt table row .stage) 2) (k .sent some e) in
+        let its = own-sent m S Q (k .waits) some e in
+        let s = both (ltb row 6) (eqb (rowAt table row .stage) 2) its in
         let r = ltb-true row 6 (s .left) in
         let f = row-found (w .ticket) table (S .lengths .table) r in
         let open-sent : isSent (findTxn (w .ticket) (openTxns (m .txns))) ≡ true = rw (find-row m S (w .ticket) r) (unfold txnOf in s .right) in
-        owed-by n start m (commitWriteset m true w) _
+        rw (ends-own table (w .ticket) ∙ its)
+        (owed-by n start m (record { answer = commitWriteset m true w .answer; memory = committed m true true (isLast m) w }) _
         (model-own (setup n start) (view m) (messageIn b) found any-writeset (writesetFrom w) (writeset-seen b taken (m .counts .done) more) (sender-seen b ∙ e) open-sent)
         (heard-committed n _ ticket ∙ ap (λ (i : ℕ). Rattle.protocol.specs.Replica.Event.committed i (w .ticket) []) (sym (sender-seen b)))
-        (commit-alike true (without (w .ticket) (openTxns (m .txns))) (waiting (m .txns .queue)) (row-closed m S row r (f .live) (w .ticket) (f .is)) refl)
+        (commit-alike true (without (w .ticket) (openTxns (m .txns))) (waiting (m .txns .queue)) (row-closed m S row r (f .live) (w .ticket) (f .is)) refl))
 
     abbrev gone : List ℕ
     gone = hitTickets (w .entries) (m .txns .items) 0 table
@@ -214,13 +218,13 @@ module _ (start : List ℤ) {over : ℕ} (m : Memory) (S : Shape over m) (k : Wo
     hit : abortedBy (map writeOf (w .entries)) (openTxns (m .txns)) ≡ gone
     hit = tickets-hit (m .txns) (w .entries) (S .lengths .items) (S .lengths .writes) 0 table staged
 
-    members : SameMembers (keep (λ u. not (conflicts (map writeOf (w .entries)) u)) (openTxns (m .txns))) (openTxns (committed m false (isLast m) w .txns))
+    members : SameMembers (keep (λ u. not (conflicts (map writeOf (w .entries)) u)) (openTxns (m .txns))) (openTxns (committed m false false (isLast m) w .txns))
     members =
-        let e = rows-beside (m .txns) (committed m false (isLast m) w .txns .table) (committed m false (isLast m) w .txns .queue) 0 (committed m false (isLast m) w .txns .table)
+        let e = rows-beside (m .txns) (committed m false false (isLast m) w .txns .table) (committed m false false (isLast m) w .txns .queue) 0 (committed m false false (isLast m) w .txns .table)
         ∙ rows-spared (m .txns) (w .entries) (S .lengths .items) (S .lengths .writes) 0 table staged in
         rw e (record { there = λ u q. q; back = λ u q. q })
 
-    queue : waiting (committed m false (isLast m) w .txns .queue) ≡ keep (λ t. not (any (λ x. eqb x t) (abortedBy (map writeOf (w .entries)) (openTxns (m .txns))))) (waiting (m .txns .queue))
+    queue : waiting (committed m false false (isLast m) w .txns .queue) ≡ keep (λ t. not (any (λ x. eqb x t) (abortedBy (map writeOf (w .entries)) (openTxns (m .txns))))) (waiting (m .txns .queue))
     queue =
         rw hit
         (front-is gone (m .txns .queue) _ (no-zero (w .entries) (m .txns .items) 0 table) (S .lengths .queue)
@@ -246,11 +250,11 @@ never-nine : (m : Memory) → workRefusal m ≡ 9 → ⊥
 unfolding workRefusal
 never-nine m = not-first 9 _ refl
 
-owes-here : (start : List ℤ) {over : ℕ} (m : Memory) → Shape over m → Owed (m .counts .replicas) start m work (Rattle.engine.specs.Step.step m work)
+owes-here : (start : List ℤ) {over : ℕ} (m : Memory) → Shape over m → SentShape m → Owed (m .counts .replicas) start m work (Rattle.engine.specs.Step.step m work)
 unfolding heard
-owes-here start m S =
-    work-by (Owed (m .counts .replicas) start m work) m (λ z h. next-owes start m S (working m S z) h) (λ z h. by-sender start m S (working m S z) h _ refl)
+owes-here start m S Q =
+    work-by (Owed (m .counts .replicas) start m work) m (λ z h. next-owes start m S Q (working m S z) h) (λ z h. by-sender start m S Q (working m S z) h _ refl)
     (λ z. refused-owes (m .counts .replicas) start m work (workRefusal m) (never-nine m))
 
 pub work-owes : (n : ℕ) (start : List ℤ) (m : Memory) → Sound n m → Owed n start m work (Rattle.engine.specs.Step.step m work)
-work-owes n start m s = subst (λ (k : ℕ). Owed k start m work (Rattle.engine.specs.Step.step m work)) (s .size) (owes-here start m (s .shape))
+work-owes n start m s = subst (λ (k : ℕ). Owed k start m work (Rattle.engine.specs.Step.step m work)) (s .size) (owes-here start m (s .shape) (s .sent))

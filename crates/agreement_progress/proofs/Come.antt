@@ -18,11 +18,10 @@ use Rattle.memory.specs.declared.Turn.{Turn}
 use Rattle.memory.specs.Memory.{Blocks, Memory, isStation, maxSlots}
 use Rattle.memory.specs.Turns.{isEmpty, emptied}
 use Rattle.engine.specs.Calls.{Outcome, numberOf}
-use Rattle.engine.specs.Moves.{sendLent, slotsSpent, othersTurn, sentAlready, sendRefusal, sendNow, sameBytes, deliverLent, otherGroup, slotPast, slotAhead, notSentHere, placeTaken, deliverRefusal, deliverNow, blockAtTurn, workLent, nothingWaits, ownNotSent, workRefusal, isLast, passNext, commitWriteset, writesetAt}
+use Rattle.engine.specs.Moves.{sendLent, slotsSpent, othersTurn, sentAlready, sendRefusal, sendNow, sameBytes, deliverLent, otherGroup, slotPast, slotAhead, notSentHere, placeTaken, deliverRefusal, deliverNow, blockAtTurn, workLent, nothingWaits, workRefusal, isLast, passNext, commitWriteset, writesetAt}
 use Rattle.engine.specs.Step.{Call, step, refusalOf}
 use Rattle.engine.specs.Step.Call.{begin, read, write, ask, withdraw, report, send, deliver, work, load}
 use Rattle.engine.specs.Shape.{Shape}
-use Rattle.engine.specs.Sent.{SentShape}
 use Rattle.engine.proofs.Tests.{bool-by, same-by, less-by, clash}
 use Rattle.engine.proofs.PlaceLaws.{empty-block, empty-same}
 use Rattle.engine.proofs.BlockFacts.{taken-block}
@@ -34,7 +33,6 @@ use Rattle.engine.proofs.Shaping.{bumps}
 use Rattle.engine.proofs.ShapeDeliver as delivered
 use Rattle.engine.proofs.ShapeTurn.{Working, working, beside}
 use Rattle.engine.proofs.ShapeWriteset.{committed}
-use Rattle.engine.proofs.Unmet.{met-open}
 
 -- the turn has passed slot s, or a block waits in its place
 abbrev pub HasCome : ℕ → Memory → Type 0
@@ -84,8 +82,8 @@ module _ {over : ℕ} (m : Memory) (S : Shape over m) (s : ℕ) (C : HasCome s m
       (λ e k. by (working m S e) (eqb (getD (blockAtTurn m) 1 0) (m .counts .own)) (isLast m))
       (λ e. C)
     where
-      by : Working m → (mine last : Bool) → HasCome s (committed m mine last (writesetAt (blockAtTurn m) (m .counts .done)))
-      by w mine true = turned (committed m mine true (writesetAt (blockAtTurn m) (m .counts .done))) w (bumps m S .slot) refl refl
+      by : Working m → (mine last : Bool) → HasCome s (committed m mine mine last (writesetAt (blockAtTurn m) (m .counts .done)))
+      by w mine true = turned (committed m mine mine true (writesetAt (blockAtTurn m) (m .counts .done))) w (bumps m S .slot) refl refl
       by w true false = C
       by w false false = C
 
@@ -158,14 +156,13 @@ module _ {over : ℕ} (m : Memory) (S : Shape over m) (b : List ℕ) (G : Givabl
 
 -- ---- a work, a send
 
-module _ {over : ℕ} (m : Memory) (S : Shape over m) (Q : SentShape m) where
+module _ {over : ℕ} (m : Memory) (S : Shape over m) where
   can-work : nothingWaits m ≡ false → workRefusal m ≡ 0
   unfolding workRefusal firstOf
   can-work w =
       let l : workLent m ≡ true =
       joined (eq-eqb _ _ (S .lengths .places)) (joined (eq-eqb _ _ (S .lengths .items)) (joined (eq-eqb _ _ (S .lengths .queue)) (joined (eq-eqb _ _ (S .lengths .values)) (eq-eqb _ _ (S .lengths .stamps))))) in
-      let o : ownNotSent m ≡ false = bool-by (ownNotSent m) (λ e. absurd (met-open m S Q w e)) (λ e. e) in
-      rw (l, w, o) refl
+      rw (l, w) refl
 
   can-send : (b : List ℕ) → length b ≡ 512 → m .turn .slot < maxSlots → ownerOf (m .counts .replicas) (m .turn .slot) ≡ m .counts .own → sentAlready m ≡ false → sendRefusal m b ≡ 0
   unfolding sendRefusal firstOf

@@ -99,7 +99,7 @@ module _ (n k : ℕ) (m : Memory) (B : List (List ℕ)) (s : Sound n m) (own : m
 
   -- ---- a work
 
-  worked-last : (mine last : Bool) (w : Record) → SentLast k (committed m mine last w) B
+  worked-last : (mine last : Bool) (w : Record) → SentLast k (committed m mine mine last w) B
   worked-last mine true w = λ t. clash {b = false} t refl
   worked-last true false w = L
   worked-last false false w = L

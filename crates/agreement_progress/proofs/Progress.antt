@@ -309,7 +309,7 @@ module _ (n : ℕ) (start : List ℤ) (least : 2 ≤ n) (most : n ≤ 6) (long :
   behind given k h l =
       let b = found n start least most long cs f p (now k .turn .slot) l in
       let R = held n start least most long cs f p k h in
-      (k, h, inr (works (now k) (R .sound .sound .shape) (R .sent) (waits (b .0) (b .2) (come-all n start least most long cs f p k h (b .0) (given k h (b .0) (b .1) (let e = b .2 in omega arith))))))
+      (k, h, inr (works (now k) (R .sound .sound .shape) (waits (b .0) (b .2) (come-all n start least most long cs f p k h (b .0) (given k h (b .0) (b .1) (let e = b .2 in omega arith))))))
     where
       waits : (b : List ℕ) → headerOf b .slot ≡ now k .turn .slot → HasCome (headerOf b .slot) (now k) → nothingWaits (now k) ≡ false
       waits b e (inl q) = absurd (let z : ⊥ = omega arith in z)
@@ -325,7 +325,7 @@ module _ (n : ℕ) (start : List ℤ) (least : 2 ≤ n) (most : n ≤ 6) (long :
       let R = held n start least most long cs f p (t % n) u in
       let o : ownerOf (now (t % n) .counts .replicas) (now (t % n) .turn .slot) ≡ now (t % n) .counts .own = rw (R .sound .sound .size, e, own-at n start least most long cs f p (t % n) u) in
       let s : sentAlready (now (t % n)) ≡ false = not-so (sentAlready (now (t % n))) (λ q. let z = sent-known n start least most long cs f p (t % n) u q in omega arith) in
-      (t % n, u, inl (λ lent z. sends (now (t % n)) (R .sound .sound .shape) (R .sent) lent z (omega arith) o s))
+      (t % n, u, inl (λ lent z. sends (now (t % n)) (R .sound .sound .shape) lent z (omega arith) o s))
 
   goes : AllGiven n start cs → SlotsLeft n start cs → Goes
   goes given some =

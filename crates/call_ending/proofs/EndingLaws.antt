@@ -1,7 +1,7 @@
 -- A writeset's end from its parts: the replica's own, and another's with the tickets of the rows hit. Assumes nothing.
 use Prim.Native.Nat.{ℕ, _+_, _-_, _≤_, min}
 use mathlib.Core.Path.{_≡_, refl, sym, ap, _∙_}
-use mathlib.Core.Bool.{Bool, true, false}
+use mathlib.Core.Bool.{Bool, true, false, cond}
 use mathlib.Core.Logic.{_⊎_, ⊎-elim}
 use mathlib.Core.List.{List, [], _∷_, _++_, append-nil}
 use native.Mathlib.Omega.{arith}
@@ -14,7 +14,7 @@ use Rattle.memory.specs.declared.Txn.{Txn}
 use Rattle.memory.specs.Memory.{bump, withCommit}
 use Rattle.memory.specs.Rows.{rowOf, has}
 use Rattle.memory.specs.Turns.{markApplying}
-use Rattle.engine.specs.Moves.{hitTickets, without, queueWithout}
+use Rattle.engine.specs.Moves.{hitTickets, without, queueWithout, sentAmong}
 use Rattle.call_commit.specs.Marks.{hitMarks}
 use Rattle.call_ending.specs.declared.Ended.{Ended}
 use Rattle.call_ending.specs.Writesets.{noMarks, endedOf, queueLeft}
@@ -30,11 +30,12 @@ queue-all queue = let z : length queue - length queue ≡ 0 = omega arith in rw 
 module _ (w : Record) (turn : Turn) (counts : Counts) (rows : List Txn) (items : List ℕ) where
   pub own-ended : counts .aborted ≤ 4_294_967_295
       → _≡_ {A = Ended}
-      (record {
+      (let ends = sentAmong rows (w .ticket) in
+      record {
         ticket = w .ticket;
         turn = turn;
-        counts = withCommit counts (bump (counts .commits)) (bump (counts .committed)) (counts .aborted);
-        marks = set noMarks (rowOf (w .ticket) rows) true;
+        counts = withCommit counts (bump (counts .commits)) (cond ends (bump (counts .committed)) (counts .committed)) (counts .aborted);
+        marks = cond ends (set noMarks (rowOf (w .ticket) rows) true) noMarks;
         aborted = replicate 6 0;
         count = 0;
       })

@@ -1,13 +1,13 @@
 // A writeset's end: the transactions that it ends, its values and its stamps.
 ghost use mathlib.Core.Path.{_≡_};
-ghost use mathlib.Core.Bool.{true, false};
+ghost use mathlib.Core.Bool.{true, false, cond};
 ghost use Prim.Native.Nat.{_+_, min};
 ghost use lib.Dec.{eqb};
 ghost use lib.ListN.{getD, set, replicate};
 ghost use Rattle.block.specs.Answers.{recordAt};
 ghost use Rattle.memory.specs.Memory.{bump, withCommit};
 ghost use Rattle.memory.specs.Rows.{rowOf};
-ghost use Rattle.engine.specs.Moves.{writesetAt, applied, stamped};
+ghost use Rattle.engine.specs.Moves.{writesetAt, applied, stamped, sentAmong};
 ghost use Rattle.call_ending.specs.Writesets.{noMarks, endedOf, queueLeft};
 use block_reader::record_at;
 use call_commit::abort_rows;
@@ -41,25 +41,28 @@ fn add(n: u32, more: u32) -> u32
     4294967295
 }
 
-// The replica's own writeset: its transaction ends as committed; a row past the last has no mark.
+// The replica's own writeset: its transaction ends as committed where it is open as sent. An altered state alone has another, and there nobody ends.
 fn end_own(ticket: u32, rows: [Txn; 6], turn: Turn, counts: Counts) -> Ended
-    ensures { λ r. ⌜ r
+    ensures { λ r. ⌜ (let ends = sentAmong rows ticket in r
         ≡ record {
           ticket = ticket;
           turn = turn;
-          counts = withCommit counts (bump (counts .commits)) (bump (counts .committed)) (counts .aborted);
-          marks = set noMarks (rowOf ticket rows) true;
+          counts = withCommit counts (bump (counts .commits)) (cond ends (bump (counts .committed)) (counts .committed)) (counts .aborted);
+          marks = cond ends (set noMarks (rowOf ticket rows) true) noMarks;
           aborted = replicate 6 0;
           count = 0;
-        } ⌝ }
+        }) ⌝ }
 {
     let mut after = counts;
     after.commits = bump(counts.commits);
-    after.committed = bump(counts.committed);
     let mut marks = [false; 6];
     let row = row_of(rows, ticket);
     if row < 6 {
-        marks[row] = true;
+        let t = rows[row];
+        if t.stage == 2 {
+            after.committed = bump(counts.committed);
+            marks[row] = true;
+        }
     }
     Ended {
         ticket: ticket,

@@ -10,7 +10,7 @@ use lib.Dec.{eqb, leb}
 use lib.IntN.{ℤ}
 use lib.ListN.{length, getD, set, replicate, List·getD-eq-default}
 use lib.Seq.{slice, set-out, length-slice}
-use Rattle.block.specs.Answers.{firstOf, recordAt}
+use Rattle.block.specs.Answers.{firstOf}
 use Rattle.block.specs.Message.{Record}
 use Rattle.block.proofs.BoolLaws.{both}
 use Rattle.block.proofs.ListLaws.{getD-slice}
@@ -27,7 +27,7 @@ use Rattle.engine.proofs.Tests.{less-by, passes}
 use Rattle.engine.specs.Calls.{Outcome, outcome}
 use Rattle.engine.specs.Calls.Outcome.{memory}
 use Rattle.engine.specs.Calls.Answer.{refused, worked}
-use Rattle.engine.specs.Moves.{workLent, workRefusal, isSent, blockAtTurn, writesetAt, applied, stamped, hitTickets, isLast, appending, passNext, commitWriteset, workStep}
+use Rattle.engine.specs.Moves.{workLent, workRefusal, blockAtTurn, writesetAt, applied, stamped, hitTickets, endsOwn, isLast, appending, passNext, commitWriteset, workStep}
 use Rattle.call_commit.proofs.EndLaws.{end-none, end-mark, end-hit}
 use Rattle.call_reply.specs.Parts.{workParts}
 use Rattle.call_reply.specs.Replies.{workReply, Gives, blockLeft, GivesWith}
@@ -71,24 +71,9 @@ module _ (m : Memory) where
     unfolding workRefusal firstOf
     refused-empty h = rw (long, ← start, ← kind, eq-eqb k 0 h)
 
-    module _ (full : k ≡ 0 → ⊥) where
-      pub refused-next : k ≡ 1 → 0 ≡ workRefusal m
-      unfolding workRefusal firstOf
-      refused-next h = rw (long, ← start, first-byte (m .blocks .places) at, ← kind, ne-eqb k 0 full, eq-eqb k 1 h)
-
-      module _ (other : k ≡ 1 → ⊥) (sender : ℕ) (from : sender ≡ getD (m .blocks .places) (at + 1) 0)
-          (ticket : ℕ) (of : ticket ≡ recordAt (slice at (at + 512) (m .blocks .places)) (m .counts .done) .ticket)
-          (u : Bool) (unsent : u ≡ (eqb sender (m .counts .own) && not (isSent m ticket))) where
-        second : getD (slice at (at + 512) (m .blocks .places)) 1 0 ≡ sender
-        second = at-place (m .blocks .places) at 1 (omega arith) ∙ sym from
-
-        pub refused-unsent : u ≡ true → 22 ≡ workRefusal m
-        unfolding workRefusal firstOf
-        refused-unsent h = rw (long, ← start, first-byte (m .blocks .places) at, ← kind, ne-eqb k 0 full, second, ne-eqb k 1 other, ← of, ← unsent, h)
-
-        pub refused-not : u ≡ false → 0 ≡ workRefusal m
-        unfolding workRefusal firstOf
-        refused-not h = rw (long, ← start, first-byte (m .blocks .places) at, ← kind, ne-eqb k 0 full, second, ne-eqb k 1 other, ← of, ← unsent, h)
+    pub refused-not : (k ≡ 0 → ⊥) → 0 ≡ workRefusal m
+    unfolding workRefusal firstOf
+    refused-not h = rw (long, ← start, ← kind, ne-eqb k 0 h)
 
   -- ---- the answers
 
@@ -113,7 +98,7 @@ module _ (m : Memory) where
       work-room =
           let l = both _ _ (not-false _ (passes _ _ refl (sym number ∙ none) .0)) in
           place-within (m .counts .replicas) (m .turn .slot) (m .blocks .places) (eqb-true _ _ (l .left)) at start (getD (m .blocks .places) at 0) refl
-          (λ e. eqb-false (getD (m .blocks .places) (placeStart (m .counts .replicas) (m .turn .slot)) 0) 0 (work-passed m (sym number ∙ none) .waits) (rw (← start) e))
+          (λ e. eqb-false (getD (m .blocks .places) (placeStart (m .counts .replicas) (m .turn .slot)) 0) 0 (work-passed m (sym number ∙ none)) (rw (← start) e))
 
       pub work-next : getD (m .blocks .places) at 0 ≡ 1 → passNext m ≡ workStep m
       unfolding workStep
@@ -173,9 +158,10 @@ next-passed m at start room t e append ea lent block eb =
 
 -- ---- a writeset
 
--- the row of a ticket, marked and ended; one past the last is none
-own-rows : (rows : List Txn) (k : ℕ) → length rows ≡ 6 → endRows (set noMarks k true) rows ≡ set rows k closed
-own-rows rows k six =
+-- the row of a ticket, marked and ended where it is to end; one past the last is none
+own-rows : (ends : Bool) (rows : List Txn) (k : ℕ) → length rows ≡ 6 → endRows (cond ends (set noMarks k true) noMarks) rows ≡ cond ends (set rows k closed) rows
+own-rows false rows k six = end-none 6 rows
+own-rows true rows k six =
     less-by k 6
     (λ h. end-mark noMarks rows k h ∙ rw (end-none 6 rows))
     (λ h. rw (set-out noMarks k true h, end-none 6 rows) (sym (set-out rows k closed (omega arith))))
@@ -196,13 +182,13 @@ module _ (m : Memory) (turn : Turn) (counts : Counts) (rows : List Txn) (queue i
       let sender = getD (blockAtTurn before) 1 0 in
       Left
       (outcome (worked (record { sender = sender; ticket = w .ticket; moved = last; aborted = cond mine [] (hitTickets (w .entries) items 0 rows); append = appending before last }))
-      (committed before mine last w))
+      (committed before mine (endsOwn mine rows (w .ticket)) last w))
       e last sender append (queueLeft mine w rows items queue) (applied (w .entries) values) (stamped (e .counts .commits) (w .entries) stamps)
       (cond last (advance (e .turn)) (e .turn)) (withDone (e .counts) (cond last 0 (e .counts .done + 1)))
       (cond last (set places (placeStart (counts .replicas) (turn .slot)) 0) places)
   unfolding endedOf
-  by-cases true true w append ea = (rw ea, rw (own-rows rows (rowOf (w .ticket) rows) six))
-  by-cases true false w append ea = (rw ea, rw (own-rows rows (rowOf (w .ticket) rows) six))
+  by-cases true true w append ea = (rw ea, rw (own-rows (endsOwn true rows (w .ticket)) rows (rowOf (w .ticket) rows) six))
+  by-cases true false w append ea = (rw ea, rw (own-rows (endsOwn true rows (w .ticket)) rows (rowOf (w .ticket) rows) six))
   by-cases false true w append ea = (rw ea, rw (end-hit (w .entries) items 0 rows))
   by-cases false false w append ea = (rw ea, rw (end-hit (w .entries) items 0 rows))
 

@@ -2,11 +2,11 @@
 ghost use mathlib.Core.Path.{_≡_};
 ghost use mathlib.Core.Bool.{true, false, cond, not, _&&_};
 ghost use Prim.Native.Nat.{_+_, _*_, _≤_};
-ghost use lib.Dec.{eqb, ltb, leb};
+ghost use lib.Dec.{eqb, leb};
 ghost use lib.ListN.{length, getD, set, replicate};
 ghost use lib.Seq.{slice};
 ghost use Rattle.memory.specs.Memory.{Memory, withDone};
-ghost use Rattle.memory.specs.Rows.{rowOf, rowAt, endRows};
+ghost use Rattle.memory.specs.Rows.{endRows};
 ghost use Rattle.memory.specs.Turns.{advance, placeStart};
 ghost use Rattle.engine.specs.Moves.{workLent, workRefusal, passNext, workStep};
 ghost use Rattle.call_reply.specs.Parts.{workParts};
@@ -14,7 +14,6 @@ ghost use Rattle.call_reply.specs.Replies.{workReply, GivesWith};
 ghost use Rattle.call_reply.specs.Called.{withBlock};
 ghost use Rattle.call_ending.specs.Writesets.{noMarks};
 ghost use Rattle.call_work.specs.Works.{turnParts, endedMarks};
-use block_reader::record_at;
 use call_ending::Ended;
 use call_ending::end_writeset;
 use call_reply::WorkReply;
@@ -26,7 +25,6 @@ use memory::Counts;
 use memory::Turn;
 use memory::Txn;
 use memory::cursor::place_start;
-use memory::rows::row_of;
 
 // Whether the slices lent have their lengths.
 fn lengths_fit(
@@ -54,43 +52,16 @@ fn lengths_fit(
     stamps == 128
 }
 
-// Whether the writeset is the replica's own and its transaction is not open as sent.
-fn own_unsent(sender: u8, own: u8, rows: [Txn; 6], ticket: u32) -> bool
-    ensures { λ r. ⌜ r ≡ (eqb sender own && not (ltb (rowOf ticket rows) 6 && eqb (rowAt rows (rowOf ticket rows) .stage) 2)) ⌝ }
-{
-    if sender != own {
-        return false;
-    }
-    let row = row_of(rows, ticket);
-    if 6 <= row {
-        return true;
-    }
-    let t = rows[row];
-    t.stage != 2
-}
-
-// Why a work is refused, 0 where it is not; `fits` where what it is lent has its lengths.
-fn refusal(fits: bool, at: usize, rows: [Txn; 6], turn: Turn, counts: Counts, places: &[u8]) -> u8
-    requires { ⌜ (fits ≡ true → length (now places) ≡ 512 * counts .replicas) × (at ≡ placeStart (counts .replicas) (turn .slot)) ⌝ }
-    ensures { λ r. ⌜ ((m : Memory) →
-        let before = turnParts m turn counts rows (now (places .entry)) in
-        workLent before ≡ fits → r ≡ workRefusal before) ⌝ }
+// Why a work is refused, 0 where it is not; `fits` where what it is lent has its lengths, `at` where the turn's place starts.
+fn refusal(fits: bool, at: usize, places: &[u8]) -> u8
+    ensures { λ r. ⌜ ((m : Memory) → m .blocks .places ≡ now (places .entry) → at ≡ placeStart (m .counts .replicas) (m .turn .slot)
+        → workLent m ≡ fits → r ≡ workRefusal m) ⌝ }
 {
     if !fits {
         return 1;
     }
-    let kind = byte_at(places, at);
-    if kind == 0 {
+    if byte_at(places, at) == 0 {
         return 21;
-    }
-    if kind == 1 {
-        return 0;
-    }
-    let sender = places[at + 1];
-    let end = at + 512;
-    let ticket = record_at(&places[at..end], counts.done as usize).ticket;
-    if own_unsent(sender, counts.own, rows, ticket) {
-        return 22;
     }
     0
 }
@@ -277,7 +248,7 @@ pub fn work(
         places.len(),
     );
     let at = place_start(counts.replicas, turn.slot);
-    let number = refusal(fits, at, rows, turn, counts, &*places);
+    let number = refusal(fits, at, &*places);
     if number != 0 {
         return unchanged(number, turn, counts);
     }

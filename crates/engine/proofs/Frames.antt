@@ -8,6 +8,7 @@ use lib.IntN.{ℤ, pos}
 use lib.ListN.{length}
 use borrow.Author.Tests.{ltb-true, eq-eqb}
 use Rattle.block.specs.Answers.{headerOf}
+use Rattle.memory.specs.declared.Counts.{Counts}
 use Rattle.memory.specs.declared.Txn.{Txn}
 use Rattle.memory.specs.Memory.{Memory, withReadOnly, withAborted, withTxns, withClasses}
 use Rattle.memory.specs.Rows.{closed, freeRow, rowAt, writeCount, itemsOf, indexOf, countBelow}
@@ -15,8 +16,8 @@ use Rattle.memory.specs.Turns.{placeStart}
 use Rattle.engine.specs.Make.{madeMemory, makeRefusal, makeStep}
 use Rattle.engine.specs.Client.{freeNo, rowNo, rowIn, ownIndex, beginAt, rewriteAt, insertWrite, staleAt, readOnlyAt, queueAt, withdrawAt, reportStep}
 use Rattle.engine.specs.Moves.{sendNow, deliverNow}
-use Rattle.engine.specs.Step.{step}
-use Rattle.engine.specs.Step.Call.{write}
+use Rattle.engine.specs.Step.{Call, step}
+use Rattle.engine.specs.Step.Call.{begin, read, write, ask, withdraw, report, send, deliver, work, load}
 use Rattle.engine.specs.Frames.{Frames, SameBut, BeginFrame, WriteFrame, AskFrame, WithdrawFrame, SendFrame, DeliverFrame, WorkFrame}
 use Rattle.engine.proofs.Steps.{begin-by, read-by, write-by, ask-by, withdraw-by, send-by, deliver-by, work-by, load-by}
 use Rattle.engine.proofs.Passed.{BeginPassed, begin-passed, write-passed, DeliverPassed, deliver-passed}
@@ -235,3 +236,16 @@ frames = record {
   works = λ m. work-by (λ o. WorkFrame m (o .memory)) m (λ e k. pass-frame m) (λ e k. commit-frame m _) (λ e. work-same m);
   loads = λ m l. load-by (λ o. o .memory ≡ withClasses m (o .memory .store .classes)) m l (λ e. refl) (λ e. refl);
 }
+
+-- no call changes the replica's number
+pub own-same : (m : Memory) (c : Call) → step m c .memory .counts .own ≡ m .counts .own
+own-same m begin = ap (λ (x : Counts). x .own) (frames .begins m .counts)
+own-same m (read t i) = ap (λ (x : Memory). x .counts .own) (frames .reads m t i)
+own-same m (write t i v) = ap (λ (x : Counts). x .own) (frames .writes m t i v .counts)
+own-same m (ask t) = ap (λ (x : Counts). x .own) (frames .asks m t .counts)
+own-same m (withdraw t) = ap (λ (x : Counts). x .own) (frames .withdraws m t .counts)
+own-same m report = ap (λ (x : Memory). x .counts .own) (frames .reports m)
+own-same m (send b) = ap (λ (x : Counts). x .own) (frames .sends m b .counts)
+own-same m (deliver b) = ap (λ (x : Memory). x .counts .own) (frames .delivers m b .rest)
+own-same m work = frames .works m .own
+own-same m (load l) = ap (λ (x : Memory). x .counts .own) (frames .loads m l)

@@ -12,17 +12,20 @@ use Rattle.engine.specs.Moves.{waiting}
 use Rattle.engine.specs.Step.{Call, step}
 use Rattle.engine.specs.Restart.{blocksIn, highestOwn, ownWritesets, restartedMemory, restartRefusal}
 use Rattle.engine.specs.Shape.{Shape}
+use Rattle.engine.specs.Sent.{SentShape}
 use Rattle.engine.specs.History.{Tally, counted, writesetCount, reportFrom, pendingAfter, AnyCall, anyStep, afterAll, History, begun, historyAfter, history, Told, Histories}
 use Rattle.engine.specs.History.AnyCall.{call, restart}
 use Rattle.engine.proofs.Steps.{restart-by}
 use Rattle.engine.proofs.Passed.{restart-passed}
 use Rattle.engine.proofs.Shapes.{shapes}
+use Rattle.engine.proofs.Sent.{sent-shapes}
 use Rattle.engine.proofs.Reports.{kept, step-counted, report-from, made-own, made-kept, restarted-own, restarted-kept}
 use Rattle.engine.proofs.Queues.{Ordered, ordered, made-empty, restarted-empty}
 
 -- what each call and each restart keeps
 record Follows (h : History) (m : Memory) : Type 0 where
   shape : Shape (h .over) m
+  sent : SentShape m
   own : m .counts .own ≡ h .own
   numbers : kept m ≡ h .tally
   queue : waiting (m .txns .queue) ≡ h .asked
@@ -36,6 +39,7 @@ made-follows : (n own : ℕ) (values : List ℤ) → 2 ≤ n → n ≤ 6 → own
 unfolding highestOwn ownWritesets writesetCount
 made-follows n own values l h o v = record {
   shape = shapes .made n own values l h o v;
+  sent = sent-shapes .made n own values;
   own = made-own n own values;
   numbers = made-kept n own values;
   queue = made-empty n own values;
@@ -45,6 +49,7 @@ restarted-follows : (n own : ℕ) (values : List ℤ) → 2 ≤ n → n ≤ 6 �
     → Follows (begun own (blocksIn n journal)) (restartedMemory n own values (blocksIn n journal))
 restarted-follows n own values l h o v journal = record {
   shape = shapes .restarted n own values l h o v journal;
+  sent = sent-shapes .restarted n own values journal;
   own = restarted-own n own values (blocksIn n journal);
   numbers = restarted-kept n own values journal;
   queue = restarted-empty n own values (blocksIn n journal);
@@ -56,9 +61,10 @@ call-follows : (h : History) (m : Memory) → Follows h m → (c : Call) → Fol
 unfolding Ordered
 call-follows h m f c =
     let a = step m c .answer in
-    let k = step-counted m (f .shape) c in
+    let k = step-counted m (f .shape) (f .sent) c in
     record {
       shape = shapes .each m (f .shape) c;
+      sent = sent-shapes .each m (f .shape) (f .sent) c;
       own = k .own ∙ f .own;
       numbers = k .numbers ∙ ap (λ (n : ℕ). counted n (kept m) a) (f .own) ∙ ap (λ (t : Tally). counted (h .own) t a) (f .numbers);
       queue = ordered m (f .shape) c ∙ ap (λ (l : List ℕ). pendingAfter l c a) (f .queue);

@@ -47,11 +47,11 @@ pub mod Histories
 pub mod Worked
 pub mod Restarts
 pub mod Tickets
--- with restarts among the calls: 22 is never met
+-- with restarts among the calls: own writesets that a work meets
 pub mod Reached
-pub mod Unmet
 -- a station; a replica is none; a write with no table of classes, and the lock before staleness
 pub mod Stations
 pub mod Numbered
+pub mod OwnSent
 pub mod OneClass
 pub mod Staleness

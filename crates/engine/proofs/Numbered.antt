@@ -1,21 +1,21 @@
 -- A replica is no station, after any calls and restarts, and 25 is a station's alone. Assumes nothing.
 use Prim.Native.Nat.{ℕ, _≤_, _<_}
 use mathlib.Core.Path.{_≡_, refl, sym, ap, _∙_}
-use mathlib.Core.Bool.{false, not}
-use mathlib.Core.List.{List, []}
+use mathlib.Core.Bool.{true, false, not}
+use mathlib.Core.List.{List, [], _∷_}
 use native.Mathlib.Omega.{arith}
 use lib.Dec.{leb}
 use lib.IntN.{ℤ}
 use borrow.Author.Tests.{leb-false, not-false}
-use Rattle.block.specs.Answers.{Refusal, firstOf}
+use Rattle.block.specs.Answers.{Refusal, refuse, firstOf}
 use Rattle.block.specs.Message.{within}
 use Rattle.block.proofs.BoolLaws.{is-within}
 use Rattle.memory.specs.Memory.{Memory, isStation}
 use Rattle.engine.specs.Calls.{numberOf, Outcome}
 use Rattle.engine.specs.Calls.Answer.{refused}
 use Rattle.engine.specs.Make.{madeMemory, makeRefusal, makeStep}
-use Rattle.engine.specs.Classes.{loadRefusal}
-use Rattle.engine.specs.Client.{rowNo, isOwn, beginRefusal, readRefusal, writeRefusal, askRefusal, withdrawRefusal}
+use Rattle.engine.specs.Classes.{mustWait, loadRefusal}
+use Rattle.engine.specs.Client.{rowNo, itemOut, notOpen, notActive, isOwn, writeLent, beginRefusal, readRefusal, writeRefusal, askRefusal, withdrawRefusal}
 use Rattle.engine.specs.Moves.{sendRefusal, deliverRefusal, workRefusal}
 use Rattle.engine.specs.Restart.{blocksIn, restartedMemory, restartRefusal, restartStep}
 use Rattle.engine.specs.Step.{Call, refusalOf}
@@ -23,7 +23,7 @@ use Rattle.engine.specs.Step.Call.{begin, read, write, ask, withdraw, re
 use Rattle.engine.specs.History.{AnyCall, anyStep, afterAll}
 use Rattle.engine.specs.History.AnyCall.{call, restart}
 use Rattle.engine.specs.Station.{Numbered}
-use Rattle.engine.proofs.Tests.{cond-by, clash, not-first, passes, unless-by}
+use Rattle.engine.proofs.Tests.{cond-by, lacks, not-first, passes, unless-by}
 use Rattle.engine.proofs.Steps.{restart-by}
 use Rattle.engine.proofs.Passed.{neither, restart-passed}
 use Rattle.engine.proofs.Refusals.{refusals}
@@ -33,22 +33,20 @@ use Rattle.engine.proofs.Reached.{Reached, numbered, made-reached, all-
 
 -- ---- 25 at a replica
 
--- nor is it among a write's numbers there
-write-numbers : (m : Memory) (r i : ℕ) → writeRefusal m r i ≡ 25 → ⊥
+-- a number that a write's lists do not have
+pub write-lacks : (k : ℕ) (m : Memory) (r i : ℕ) → lacks k (refuse 1 true ∷ refuse 2 true ∷ refuse 3 true ∷ refuse 4 true ∷ refuse 7 true ∷ []) ≡ true
+    → lacks k (refuse 1 true ∷ refuse 2 true ∷ refuse 3 true ∷ refuse 4 true ∷ refuse 7 true ∷ refuse 9 true ∷ refuse 8 true ∷ refuse 10 true ∷ []) ≡ true → writeRefusal m r i ≡ k → ⊥
 unfolding writeRefusal
-write-numbers m r i e =
-    let a = passes _ _ refl e in
-    let b = passes _ _ refl (a .1) in
-    let c = passes _ _ refl (b .1) in
-    let d = passes _ _ refl (c .1) in
-    let f = passes _ _ refl (d .1) in
-    cond-by (λ (l : List Refusal). firstOf l ≡ 25 → ⊥) (isOwn m r i) (λ o. not-first 25 [] refl) (λ o. not-first 25 _ refl) (f .1)
+write-lacks k m r i own new =
+    cond-by (λ (l : List Refusal).
+    firstOf (refuse 1 (not (writeLent m)) ∷ refuse 2 (itemOut i) ∷ refuse 3 (notOpen r) ∷ refuse 4 (notActive m r) ∷ refuse 7 (mustWait m i) ∷ l) ≡ k → ⊥)
+    (isOwn m r i) (λ e. not-first k _ own) (λ e. not-first k _ new)
 
 replica-numbers : (m : Memory) → isStation m ≡ false → (c : Call) → refusalOf m c ≡ 25 → ⊥
 unfolding refusalOf beginRefusal readRefusal askRefusal withdrawRefusal sendRefusal deliverRefusal workRefusal loadRefusal
 replica-numbers m h begin e = not-first 25 _ refl e
 replica-numbers m h (read t i) e = not-first 25 _ refl e
-replica-numbers m h (write t i v) e = write-numbers m (rowNo m t) i (rw h at e)
+replica-numbers m h (write t i v) e = write-lacks 25 m (rowNo m t) i refl refl (rw h at e)
 replica-numbers m h (ask t) e = not-first 25 _ refl e
 replica-numbers m h (withdraw t) e = not-first 25 _ refl e
 replica-numbers m h report e = omega arith

@@ -141,9 +141,9 @@ one-class = record {
   made = λ n own values l h o v cs q.
       let m = madeMemory n own values in
       let S = shapes .made n own values l h o v in
-      write-same (after m cs) (shape-after m S cs) (none-after m cs q (made-none n own values)) (numbered (after m cs) n own (own-after m S cs ∙ made-own n own values) o h);
+      write-same (after m cs) (shape-after m S cs) (none-after m cs q (made-none n own values)) (numbered (after m cs) n own (own-after m cs ∙ made-own n own values) o h);
   restarted = λ n own values l h o v journal cs q.
       let m = restartedMemory n own values (blocksIn n journal) in
       let S = shapes .restarted n own values l h o v journal in
-      write-same (after m cs) (shape-after m S cs) (none-after m cs q (restarted-none n own values (blocksIn n journal))) (numbered (after m cs) n own (own-after m S cs ∙ restarted-own n own values (blocksIn n journal)) o h);
+      write-same (after m cs) (shape-after m S cs) (none-after m cs q (restarted-none n own values (blocksIn n journal))) (numbered (after m cs) n own (own-after m cs ∙ restarted-own n own values (blocksIn n journal)) o h);
 }

@@ -6,20 +6,20 @@ use mathlib.Core.List.{List}
 use native.Mathlib.Omega.{arith}
 use lib.Dec.{eqb, leb}
 use lib.IntN.{ℤ}
-use lib.ListN.{length, getD}
-use borrow.Author.Tests.{eqb-true, eqb-false, eq-eqb, ne-eqb, ltb-false, leb-false, not-false}
+use lib.ListN.{length}
+use borrow.Author.Tests.{eqb-true, eqb-false, eq-eqb, ltb-false, leb-false, not-false}
 use Rattle.block.proofs.AnswerLaws.{not-refused}
 use Rattle.block.proofs.BoolLaws.{Both, both, is-within}
-use Rattle.block.specs.Answers.{blockRefusal, headerOf, recordAt}
+use Rattle.block.specs.Answers.{blockRefusal, headerOf}
 use Rattle.block.specs.Message.{ownerOf, within}
 use Rattle.memory.specs.Memory.{Memory, maxTickets, maxSlots}
 use Rattle.memory.specs.Rows.{freeRow, writeCount}
 use Rattle.memory.specs.Turns.{isEmpty}
 use Rattle.engine.specs.Classes.{loadRefusal}
 use Rattle.engine.specs.Client.{freeNo, rowNo, rowIn, isOwn, notOpen, notActive, heldByOther, beginRefusal, writeRefusal, askRefusal, withdrawRefusal}
-use Rattle.engine.specs.Moves.{sentAlready, sendRefusal, isOwnBlock, deliverRefusal, blockAtTurn, isSent, workRefusal}
+use Rattle.engine.specs.Moves.{sentAlready, sendRefusal, sameBytes, isOwnBlock, deliverRefusal, workRefusal}
 use Rattle.engine.specs.Restart.{restartRefusal}
-use Rattle.engine.proofs.Tests.{clash, passes}
+use Rattle.engine.proofs.Tests.{bool-by, clash, passes}
 
 -- two tests joined, where their joint denial does not hold
 both-so : (a b : Bool) → not (a && b) ≡ false → Both a b
@@ -133,13 +133,20 @@ pub record DeliverPassed (m : Memory) (b : List ℕ) : Type 0 where
   pub replicas : headerOf b .replicas ≡ m .counts .replicas
   pub low : m .turn .slot ≤ headerOf b .slot
   pub high : headerOf b .slot < m .turn .slot + m .counts .replicas
-  -- an own block is the one sent
-  pub own : headerOf b .sender ≡ m .counts .own → isOwnBlock m b ≡ true
+  -- an own block is the one sent, byte for byte
+  pub own : headerOf b .sender ≡ m .counts .own → (sentAlready m ≡ true) × (sameBytes b (m .blocks .outbox) ≡ true)
   pub empty : isEmpty (m .counts .replicas) (headerOf b .slot) (m .blocks .places) ≡ true
 
 only-right : (a b : Bool) → a && not b ≡ false → a ≡ true → b ≡ true
 only-right true b h e = not-false b h
 only-right false b h e = clash {b = false} e refl
+
+-- whichever of its two tests comes first
+own-block : (m : Memory) (b : List ℕ) → isOwnBlock m b ≡ true → (sentAlready m ≡ true) × (sameBytes b (m .blocks .outbox) ≡ true)
+own-block m b h =
+    bool-by (sentAlready m)
+    (λ s. bool-by (sameBytes b (m .blocks .outbox)) (λ e. (s, e)) (λ e. clash {b = isOwnBlock m b} h (simp (s, e))))
+    (λ s. bool-by (sameBytes b (m .blocks .outbox)) (λ e. clash {b = isOwnBlock m b} h (simp (s, e))) (λ e. clash {b = isOwnBlock m b} h (simp (s, e))))
 
 pub deliver-passed : (m : Memory) (b : List ℕ) → deliverRefusal m b ≡ 0 → DeliverPassed m b
 unfolding deliverRefusal
@@ -161,33 +168,16 @@ deliver-passed m b e =
       replicas = eqb-true _ _ (not-false _ (s .0));
       low = ltb-false _ _ (t .0);
       high = leb-false _ _ (u .0);
-      own = λ q. only-right _ (isOwnBlock m b) (v .0) (eq-eqb (headerOf b .sender) (m .counts .own) q);
+      own = λ q. own-block m b (only-right _ (isOwnBlock m b) (v .0) (eq-eqb (headerOf b .sender) (m .counts .own) q));
       empty = not-false _ (w .0);
     }
 
 -- ---- work
 
--- a block waits at the turn, and the replica's own record is open as sent
-pub record WorkPassed (m : Memory) : Type 0 where
-  pub waits : isEmpty (m .counts .replicas) (m .turn .slot) (m .blocks .places) ≡ false
-  pub sent : (getD (blockAtTurn m) 0 0 ≡ 1 → ⊥) → getD (blockAtTurn m) 1 0 ≡ m .counts .own
-      → isSent m (recordAt (blockAtTurn m) (m .counts .done) .ticket) ≡ true
-
-sent-own : (a b c : Bool) → not a && (b && not c) ≡ false → a ≡ false → b ≡ true → c ≡ true
-sent-own true b c h p q = clash {b = true} refl p
-sent-own false true c h p q = not-false c h
-sent-own false false c h p q = clash {b = false} q refl
-
-pub work-passed : (m : Memory) → workRefusal m ≡ 0 → WorkPassed m
+-- a block waits at the turn
+pub work-passed : (m : Memory) → workRefusal m ≡ 0 → isEmpty (m .counts .replicas) (m .turn .slot) (m .blocks .places) ≡ false
 unfolding workRefusal
-work-passed m e =
-    let a = passes _ _ refl e in
-    let b = passes _ _ refl (a .1) in
-    let c = passes _ _ refl (b .1) in
-    record {
-      waits = b .0;
-      sent = λ p q. sent-own _ _ _ (c .0) (ne-eqb (getD (blockAtTurn m) 0 0) 1 p) (eq-eqb (getD (blockAtTurn m) 1 0) (m .counts .own) q);
-    }
+work-passed m e = passes _ _ refl (passes _ _ refl e .1) .0
 
 -- ---- load
 

@@ -19,9 +19,10 @@ use Rattle.engine.specs.History.{AnyCall, anyStep, afterAll}
 use Rattle.engine.specs.History.AnyCall.{call, restart}
 use Rattle.engine.proofs.Steps.{restart-by}
 use Rattle.engine.proofs.Passed.{restart-passed}
+use Rattle.engine.proofs.Frames.{own-same}
 use Rattle.engine.proofs.Shapes.{shapes}
 use Rattle.engine.proofs.Sent.{sent-shapes}
-use Rattle.engine.proofs.Reports.{made-own, step-counted, restarted-own}
+use Rattle.engine.proofs.Reports.{made-own, restarted-own}
 
 -- its shape, what is sent, and that it has a number
 pub record Reached (m : Memory) : Type 0 where
@@ -35,10 +36,10 @@ pub numbered : (m : Memory) (n own : ℕ) → m .counts .own ≡ own → own < n
 numbered m n own e o h = ne-eqb (m .counts .own) 255 (λ z. omega arith)
 
 -- calls alone leave the number
-pub own-after : {over : ℕ} (m : Memory) → Shape over m → (cs : List Call) → after m cs .counts .own ≡ m .counts .own
+pub own-after : (m : Memory) (cs : List Call) → after m cs .counts .own ≡ m .counts .own
 unfolding after
-own-after m S [] = refl
-own-after m S (c ∷ cs) = own-after (step m c .memory) (shapes .each m S c) cs ∙ step-counted m S c .own
+own-after m [] = refl
+own-after m (c ∷ cs) = own-after (step m c .memory) cs ∙ own-same m c
 
 pub made-reached : (n own : ℕ) (values : List ℤ) → 2 ≤ n → n ≤ 6 → own < n → length values ≡ 128 → Reached (madeMemory n own values)
 made-reached n own values l h o v = record { over = 0; shape = shapes .made n own values l h o v; sent = sent-shapes .made n own values; replica = numbered (madeMemory n own values) n own (made-own n own values) o h }
@@ -48,7 +49,7 @@ any-reached m R (call c) = record {
   over = R .over;
   shape = shapes .each m (R .shape) c;
   sent = sent-shapes .each m (R .shape) (R .sent) c;
-  replica = ap (λ (k : ℕ). eqb k noNumber) (step-counted m (R .shape) c .own) ∙ R .replica;
+  replica = ap (λ (k : ℕ). eqb k noNumber) (own-same m c) ∙ R .replica;
 }
 any-reached m R (restart n own values journal block) =
     restart-by (λ (o : Outcome). Reached (o .memory)) m n own values journal block

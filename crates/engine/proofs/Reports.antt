@@ -20,11 +20,12 @@ use Rattle.engine.specs.Calls.{Outcome, outcome}
 use Rattle.engine.specs.Calls.Answer.{refused}
 use Rattle.engine.specs.Make.{madeMemory}
 use Rattle.engine.specs.Client.{rowNo, beginAt, rewriteAt, insertWrite, staleAt, readOnlyAt, queueAt, withdrawAt, reportOf, reportStep}
-use Rattle.engine.specs.Moves.{sendNow, deliverNow, blockAtTurn, writesetAt, hitTickets, isLast, passNext, commitWriteset}
+use Rattle.engine.specs.Moves.{sendNow, deliverNow, blockAtTurn, writesetAt, hitTickets, endsOwn, isLast, passNext, commitWriteset}
 use Rattle.engine.specs.Step.{Call, step, refusalOf, after}
 use Rattle.engine.specs.Step.Call.{begin, read, write, ask, withdraw, report, send, deliver, work, load}
 use Rattle.engine.specs.Restart.{blocksIn, startReplay, repeated, restartedMemory}
 use Rattle.engine.specs.Shape.{Shape}
+use Rattle.engine.specs.Sent.{SentShape}
 use Rattle.engine.specs.Frames.{isWrite}
 use Rattle.engine.specs.History.{Tally, noCalls, counted, tally, writesetCount, restartTally, reportFrom, Reports}
 use Rattle.engine.proofs.Tests.{clash}
@@ -36,6 +37,8 @@ use Rattle.engine.proofs.ShapeTurn.{Working, working}
 use Rattle.engine.proofs.RestartLaws.{reads-good, reads-few, count-few, blocks-counted}
 use Rattle.engine.proofs.ShapeRestart.{shape-restarted}
 use Rattle.engine.proofs.Shapes.{shape-after, shapes}
+use Rattle.engine.proofs.SentWork.{own-ends}
+use Rattle.engine.proofs.Sent.{sent-shapes}
 
 -- the numbers that a memory keeps
 unfoldable pub kept : Memory → Tally
@@ -94,13 +97,16 @@ few-gone : {over : ℕ} (m : Memory) → Shape over m → (mine : Bool) (es : Li
 few-gone m s true es = omega (arith, s .ranges .endings, s .ranges .repeats, s .ranges .tickets)
 few-gone m s false es = omega (arith, s .ranges .endings, s .ranges .repeats, s .ranges .tickets, aborts-open es (m .txns .items) 0 (m .txns .table))
 
-commit-counted : {over : ℕ} (m : Memory) → Shape over m → Working m → (w : Record) → 1 ≤ w .ticket
-    → Counted m (commitWriteset m (eqb (getD (blockAtTurn m) 1 0) (m .counts .own)) w)
+-- the replica's own ends its transaction
+commit-counted : {over : ℕ} (m : Memory) → Shape over m → Working m → (w : Record) → 1 ≤ w .ticket →
+    let mine = eqb (getD (blockAtTurn m) 1 0) (m .counts .own) in
+    endsOwn mine (m .txns .table) (w .ticket) ≡ mine → Counted m (commitWriteset m mine w)
 unfolding kept counted commitWriteset
-commit-counted m s k w h =
+commit-counted m s k w h ends =
     let mine = eqb (getD (blockAtTurn m) 1 0) (m .counts .own) in
     record {
       numbers = rw (
+        ends,
         ne-eqb (w .ticket) 0 (λ e. omega arith),
         k .commits,
         bumps m s .committed,
@@ -116,43 +122,43 @@ commit-counted m s k w h =
 not-nine : (m : Memory) (c : Call) → isWrite c ≡ false → refusalOf m c ≡ 9 → ⊥
 not-nine m c h e = clash (refusals .nine m c e) h
 
-pub step-counted : {over : ℕ} (m : Memory) → Shape over m → (c : Call) → Counted m (step m c)
+pub step-counted : {over : ℕ} (m : Memory) → Shape over m → SentShape m → (c : Call) → Counted m (step m c)
 unfolding refusalOf
-step-counted m s begin = begin-by (Counted m) m (λ e. begin-counted m _) (λ e. refused-counted m _ (not-nine m begin refl))
-step-counted m s (read t i) =
+step-counted m s Q begin = begin-by (Counted m) m (λ e. begin-counted m _) (λ e. refused-counted m _ (not-nine m begin refl))
+step-counted m s Q (read t i) =
     read-by (Counted m) m t i
     (λ e. unfold kept counted in record { numbers = refl; own = refl })
     (λ e. refused-counted m _ (not-nine m (read t i) refl))
-step-counted m s (write t i v) =
+step-counted m s Q (write t i v) =
     write-by (Counted m) m t i v
     (λ e. stale-counted m (rowNo m t) (bumps m s))
     (λ e o. unfold kept counted rewriteAt in record { numbers = refl; own = refl })
     (λ e o. unfold kept counted insertWrite in record { numbers = refl; own = refl })
     (λ n k e. refused-counted m n k)
-step-counted m s (ask t) =
+step-counted m s Q (ask t) =
     ask-by (Counted m) m t
     (λ e. read-only-counted m (rowNo m t) (bumps m s))
     (λ e n. unfold kept counted queueAt in record { numbers = refl; own = refl })
     (λ e. refused-counted m _ (not-nine m (ask t) refl))
-step-counted m s (withdraw t) =
+step-counted m s Q (withdraw t) =
     withdraw-by (Counted m) m t
     (λ e. withdraw-counted m (rowNo m t) (bumps m s))
     (λ e. refused-counted m _ (not-nine m (withdraw t) refl))
-step-counted m s report = unfold kept counted step reportStep in record { numbers = refl; own = refl }
-step-counted m s (send b) =
+step-counted m s Q report = unfold kept counted step reportStep in record { numbers = refl; own = refl }
+step-counted m s Q (send b) =
     send-by (Counted m) m b
     (λ e. unfold kept counted sendNow in record { numbers = refl; own = refl })
     (λ n k e. refused-counted m n k)
-step-counted m s (deliver b) =
+step-counted m s Q (deliver b) =
     deliver-by (Counted m) m b
     (λ e. unfold kept counted deliverNow in record { numbers = refl; own = refl })
     (λ e. refused-counted m _ (not-nine m (deliver b) refl))
-step-counted m s work =
+step-counted m s Q work =
     work-by (Counted m) m
     (λ e k. pass-counted m (bumps m s))
-    (λ e k. let w = working m s e in commit-counted m s w (writesetAt (blockAtTurn m) (m .counts .done)) (w .ticket k))
+    (λ e k. let w = working m s e in commit-counted m s w (writesetAt (blockAtTurn m) (m .counts .done)) (w .ticket k) (own-ends m s Q (w .waits) k))
     (λ e. refused-counted m _ (not-nine m work refl))
-step-counted m s (load l) =
+step-counted m s Q (load l) =
     load-by (Counted m) m l
     (λ e. unfold kept counted in record { numbers = refl; own = refl })
     (λ e. refused-counted m _ (not-nine m (load l) refl))
@@ -175,12 +181,12 @@ pub made-kept : (n own : ℕ) (values : List ℤ) → kept (madeMemory n own val
 unfolding madeMemory kept
 made-kept n own values = refl
 
-pub tally-kept : (own : ℕ) {over : ℕ} (m : Memory) → Shape over m → m .counts .own ≡ own → (cs : List Call) → kept (after m cs) ≡ tally own (kept m) m cs
+pub tally-kept : (own : ℕ) {over : ℕ} (m : Memory) → Shape over m → SentShape m → m .counts .own ≡ own → (cs : List Call) → kept (after m cs) ≡ tally own (kept m) m cs
 unfolding after tally
-tally-kept own m s e [] = refl
-tally-kept own m s e (c ∷ cs) =
-    let k = step-counted m s c in
-    tally-kept own (step m c .memory) (shapes .each m s c) (k .own ∙ e) cs
+tally-kept own m s Q e [] = refl
+tally-kept own m s Q e (c ∷ cs) =
+    let k = step-counted m s Q c in
+    tally-kept own (step m c .memory) (shapes .each m s c) (sent-shapes .each m s Q c) (k .own ∙ e) cs
     ∙ ap (λ (t : Tally). tally own t (step m c .memory) cs) (k .numbers ∙ ap (λ (n : ℕ). counted n (kept m) (step m c .answer)) e)
 
 pub restarted-own : (n own : ℕ) (values : List ℤ) (bs : List (List ℕ)) → restartedMemory n own values bs .counts .own ≡ own
@@ -200,7 +206,7 @@ reports = record {
   report = λ n own values l h o v cs.
       let m = madeMemory n own values in
       report-from (after m cs) (shapes .all n own values l h o v cs)
-      ∙ ap (reportFrom 0) (tally-kept own m (shapes .made n own values l h o v) (made-own n own values) cs
+      ∙ ap (reportFrom 0) (tally-kept own m (shapes .made n own values l h o v) (sent-shapes .made n own values) (made-own n own values) cs
       ∙ ap (λ (t : Tally). tally own t m cs) (made-kept n own values));
   sum = λ n own values l h o v cs. unfold reportOf in sym (add-zero _) ∙ shapes .all n own values l h o v cs .ranges .endings;
   restarted = λ n own values l h o v journal cs.
@@ -208,5 +214,5 @@ reports = record {
       let m = restartedMemory n own values bs in
       let s = shape-restarted n own values l h o v journal in
       report-from (after m cs) (shape-after m s cs)
-      ∙ ap (reportFrom (repeated own bs)) (tally-kept own m s (restarted-own n own values bs) cs ∙ ap (λ (t : Tally). tally own t m cs) (restarted-kept n own values journal));
+      ∙ ap (reportFrom (repeated own bs)) (tally-kept own m s (sent-shapes .restarted n own values journal) (restarted-own n own values bs) cs ∙ ap (λ (t : Tally). tally own t m cs) (restarted-kept n own values journal));
 }

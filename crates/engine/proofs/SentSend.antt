@@ -8,11 +8,10 @@ use lib.ListN.{length, getD}
 use borrow.Author.Tests.{ne-eqb}
 use Rattle.block.specs.Message.{ownerOf}
 use Rattle.block.specs.Answers.{headerOf}
-use Rattle.block.proofs.BoolLaws.{both}
 use Rattle.memory.specs.declared.Txn.{Txn}
 use Rattle.memory.specs.Memory.{Memory}
 use Rattle.memory.specs.Rows.{rowOf, rowAt}
-use Rattle.engine.specs.Moves.{waiting, sentAlready, sendNow, sameBytes, deliverNow, isSent}
+use Rattle.engine.specs.Moves.{waiting, sendNow, deliverNow, isSent}
 use Rattle.engine.specs.Shape.{Shape}
 use Rattle.engine.specs.Sent.{SentShape, sentCount, sentTicket}
 use Rattle.engine.proofs.Tests.{same-by, clash}
@@ -87,8 +86,8 @@ module _ {over : ℕ} (m : Memory) (bytes : List ℕ) (S : Shape over m) (Q : Se
   sent-delivered = record {
     turn = Q .turn;
     own = λ s l u w o. same-by s (headerOf bytes .slot)
-        (λ z. let h = both (sentAlready m) (sameBytes bytes (m .blocks .outbox)) (k .own (sender s z o)) in
-        (h .left, rw (z, delivered.same m bytes S k) (same-bytes bytes (m .blocks .outbox) (h .right))))
+        (λ z. let h = k .own (sender s z o) in
+        (h .0, rw (z, delivered.same m bytes S k) (same-bytes bytes (m .blocks .outbox) (h .1))))
         (λ d. let b = delivered.beside m bytes S k s l u d in
         let a = Q .own s l u (sym (empty-same (m .counts .replicas) s _ (m .blocks .places) b) ∙ w) o in
         (a .0, b ∙ a .1));

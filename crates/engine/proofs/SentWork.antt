@@ -16,7 +16,7 @@ use Rattle.memory.specs.declared.Txn.{Txn}
 use Rattle.memory.specs.Memory.{Memory}
 use Rattle.memory.specs.Rows.{closed, rowOf, rowAt}
 use Rattle.memory.specs.Turns.{isEmpty, emptied}
-use Rattle.engine.specs.Moves.{sentAlready, blockAtTurn, writesetAt, afterAborts, isLast, passNext, commitWriteset}
+use Rattle.engine.specs.Moves.{sentAlready, blockAtTurn, writesetAt, afterAborts, isSent, endsOwn, isLast, passNext, commitWriteset}
 use Rattle.engine.specs.Shape.{Shape}
 use Rattle.engine.specs.Sent.{SentShape, sentCount, sentTicket}
 use Rattle.engine.proofs.Tests.{same-by, clash}
@@ -25,7 +25,7 @@ use Rattle.engine.proofs.PlaceLaws.{next-round, empty-same}
 use Rattle.engine.proofs.BlockFacts.{TakenBlock, taken-block}
 use Rattle.engine.proofs.Shaping.{bumps}
 use Rattle.engine.proofs.ShapeTurn.{Working, beside, again}
-use Rattle.engine.proofs.ShapeWriteset.{committed}
+use Rattle.engine.proofs.ShapeWriteset.{committed, ends-own, ends-other}
 use Rattle.engine.proofs.SentLaws.{SentRow, sent-found, stays-sent}
 use Rattle.engine.proofs.WorkFrame.{SameOrClosed, aborts-closed}
 
@@ -45,6 +45,22 @@ module _ {over : ℕ} (m : Memory) (S : Shape over m) (Q : SentShape m) (waits :
   -- this replica's is the one sent
   pub is-outbox : ownerOf (m .counts .replicas) (m .turn .slot) ≡ m .counts .own → (sentAlready m ≡ true) × (blockAtTurn m ≡ m .blocks .outbox)
   is-outbox o = Q .own (m .turn .slot) (omega arith) (omega (arith, S .ranges .least)) waits o
+
+  -- and its writeset to commit next is open as sent: a work ends its transaction
+  module _ (kind : getD (blockAtTurn m) 0 0 ≡ 1 → ⊥) where
+    pub own-sent : getD (blockAtTurn m) 1 0 ≡ m .counts .own → isSent m (writesetAt (blockAtTurn m) (m .counts .done) .ticket) ≡ true
+    own-sent mine =
+        let o = is-outbox (sym sender-owns ∙ mine) in
+        let more : m .counts .done < getD (blockAtTurn m) 3 0 =
+        same-by (m .counts .done) 0 (λ z. omega (arith, facts .some kind)) (λ z. S .places .done (omega (arith, z)) .1) in
+        rw (o .1) (Q .live (o .0) (m .counts .done) (omega arith) (rw (o .1) at more))
+
+    pub own-ends : let mine = eqb (getD (blockAtTurn m) 1 0) (m .counts .own) in endsOwn mine (m .txns .table) (writesetAt (blockAtTurn m) (m .counts .done) .ticket) ≡ mine
+    own-ends = go (eqb (getD (blockAtTurn m) 1 0) (m .counts .own)) refl
+      where
+        go : (mine : Bool) → eqb (getD (blockAtTurn m) 1 0) (m .counts .own) ≡ mine → endsOwn mine (m .txns .table) (writesetAt (blockAtTurn m) (m .counts .done) .ticket) ≡ mine
+        go true e = ends-own (m .txns .table) (writesetAt (blockAtTurn m) (m .counts .done) .ticket) ∙ own-sent (eqb-true (getD (blockAtTurn m) 1 0) (m .counts .own) e)
+        go false e = ends-other (m .txns .table) (writesetAt (blockAtTurn m) (m .counts .done) .ticket)
 
 -- ---- after it
 
@@ -133,7 +149,7 @@ module _ {over : ℕ} (m : Memory) (S : Shape over m) (w : Working m) (Q : SentS
     ticket-is = ap (λ (b : List ℕ). recordAt b (m .counts .done) .ticket) (at-turn .1)
 
     its-row : SentRow m (this .ticket)
-    its-row = sent-found m (this .ticket) (w .sent kind mine)
+    its-row = sent-found m (this .ticket) (own-sent m S Q (w .waits) kind mine)
 
     its-ticket : FoundRow (this .ticket) (m .txns .table)
     its-ticket = row-found (this .ticket) (m .txns .table) (S .lengths .table) (its-row .below)
@@ -160,13 +176,13 @@ module _ {over : ℕ} (m : Memory) (S : Shape over m) (w : Working m) (Q : SentS
         S .distinct r row h (its-row .below) d (λ z. its-ticket .some (sym q ∙ z)) (q ∙ sym (its-ticket .is))) in
         (j, omega (arith, new), f .3, t ∙ ap (λ (x : Txn). x .ticket) (sym same))
 
-    mine-last : isLast m ≡ true → SentShape (committed m true true this)
+    mine-last : isLast m ≡ true → SentShape (committed m true true true this)
     mine-last l =
         let c = leb-true (getD (blockAtTurn m) 3 0) (m .counts .done + 1) l in
-        turned m (committed m true true this) S w Q refl refl (bumps m S .slot) refl refl
+        turned m (committed m true true true this) S w Q refl refl (bumps m S .slot) refl refl
         (λ r h s. let f = later r h s in let a = f .1 in let b = f .2 in omega (arith, ap (λ (b : List ℕ). getD b 3 0) (at-turn .1)))
 
-    mine-more : Shape over (committed m true false this) → SentShape (committed m true false this)
+    mine-more : Shape over (committed m true true false this) → SentShape (committed m true true false this)
     mine-more T = record {
       turn = Q .turn;
       own = Q .own;
@@ -174,7 +190,7 @@ module _ {over : ℕ} (m : Memory) (S : Shape over m) (w : Working m) (Q : SentS
       live = λ t j h u.
           let s = Q .live t j (omega arith) u in
           let f = row-found (sentTicket m j) (m .txns .table) (S .lengths .table) (sent-found m (sentTicket m j) s .below) in
-          stays-sent m (committed m true false this) S T (sentTicket m j) s
+          stays-sent m (committed m true true false this) S T (sentTicket m j) s
           (others (m .txns .table) row closed (rowOf (sentTicket m j) (m .txns .table))
           (λ e. Q .once t (m .counts .done) j (omega arith) u
           (sym ticket-is ∙ sym (its-ticket .is) ∙ ap (λ (i : ℕ). rowAt (m .txns .table) i .ticket) (sym e) ∙ f .is)));
@@ -187,16 +203,16 @@ module _ {over : ℕ} (m : Memory) (S : Shape over m) (w : Working m) (Q : SentS
     unsent = not-so (sentAlready m) (λ t. mine (sender-owns m S Q (w .waits) ∙ Q .turn t))
 
     none : (r : ℕ) → r < 6 → rowAt (afterAborts (this .entries) (m .txns .items) 0 (m .txns .table)) r .stage ≡ 2 → ⊥
-    none = none-after m (committed m false true this) Q unsent (aborts-closed (this .entries) (m .txns .items) (m .txns .table))
+    none = none-after m (committed m false false true this) Q unsent (aborts-closed (this .entries) (m .txns .items) (m .txns .table))
 
-    other-last : SentShape (committed m false true this)
-    other-last = turned m (committed m false true this) S w Q refl refl (bumps m S .slot) refl refl none
+    other-last : SentShape (committed m false false true this)
+    other-last = turned m (committed m false false true this) S w Q refl refl (bumps m S .slot) refl refl none
 
-    other-more : SentShape (committed m false false this)
-    other-more = off m (committed m false false this) Q unsent refl refl refl unsent refl none
+    other-more : SentShape (committed m false false false this)
+    other-more = off m (committed m false false false this) Q unsent refl refl refl unsent refl none
 
-  by-both : (mine last : Bool) → eqb (getD (blockAtTurn m) 1 0) (m .counts .own) ≡ mine → isLast m ≡ last → Shape over (committed m mine last this)
-      → SentShape (committed m mine last this)
+  by-both : (mine last : Bool) → eqb (getD (blockAtTurn m) 1 0) (m .counts .own) ≡ mine → isLast m ≡ last → Shape over (committed m mine mine last this)
+      → SentShape (committed m mine mine last this)
   by-both true true e l T = mine-last (eqb-true (getD (blockAtTurn m) 1 0) (m .counts .own) e) l
   by-both true false e l T = mine-more (eqb-true (getD (blockAtTurn m) 1 0) (m .counts .own) e) T
   by-both false true e l T = other-last (eqb-false (getD (blockAtTurn m) 1 0) (m .counts .own) e)
@@ -205,4 +221,4 @@ module _ {over : ℕ} (m : Memory) (S : Shape over m) (w : Working m) (Q : SentS
   pub sent-committed : Shape over (commitWriteset m (eqb (getD (blockAtTurn m) 1 0) (m .counts .own)) this .memory)
       → SentShape (commitWriteset m (eqb (getD (blockAtTurn m) 1 0) (m .counts .own)) this .memory)
   unfolding commitWriteset
-  sent-committed T = by-both (eqb (getD (blockAtTurn m) 1 0) (m .counts .own)) (isLast m) refl refl T
+  sent-committed = rw (own-ends m S Q (w .waits) kind) (by-both (eqb (getD (blockAtTurn m) 1 0) (m .counts .own)) (isLast m) refl refl)

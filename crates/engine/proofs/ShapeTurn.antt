@@ -9,7 +9,7 @@ use lib.ListN.{length, getD, length-set}
 use Rattle.block.specs.Answers.{blockRefusal, headerOf, recordAt}
 use Rattle.memory.specs.Memory.{Memory, bump}
 use Rattle.memory.specs.Turns.{advance, placeStart, blockIn, isEmpty, emptied}
-use Rattle.engine.specs.Moves.{blockAtTurn, isSent, workRefusal, passNext}
+use Rattle.engine.specs.Moves.{blockAtTurn, workRefusal, passNext}
 use Rattle.engine.specs.Shape.{PlaceShape, Shape}
 use Rattle.engine.proofs.Tests.{same-by, clash, bump-is}
 use Rattle.engine.proofs.PlaceLaws.{place-again, empty-same, emptied-empty, emptied-beside}
@@ -24,30 +24,27 @@ pub record Working (m : Memory) : Type 0 where
   pub slot : m .turn .slot ≤ 99_999_999
   pub few : getD (blockAtTurn m) 3 0 ≤ 6
   pub next : getD (blockAtTurn m) 0 0 ≡ 1 → m .counts .done ≡ 0
-  -- the writeset to commit next: one of the block's, with a ticket, and sent where it is the replica's own
+  -- the writeset to commit next: one of the block's, with a ticket
   pub more : (getD (blockAtTurn m) 0 0 ≡ 1 → ⊥) → m .counts .done < getD (blockAtTurn m) 3 0
   pub ticket : (getD (blockAtTurn m) 0 0 ≡ 1 → ⊥) → 1 ≤ recordAt (blockAtTurn m) (m .counts .done) .ticket
-  pub sent : (getD (blockAtTurn m) 0 0 ≡ 1 → ⊥) → getD (blockAtTurn m) 1 0 ≡ m .counts .own
-      → isSent m (recordAt (blockAtTurn m) (m .counts .done) .ticket) ≡ true
   pub commits : bump (m .counts .commits) ≡ suc (m .counts .commits)
 
 pub working : {over : ℕ} (m : Memory) → Shape over m → workRefusal m ≡ 0 → Working m
 working m S e =
     let p = work-passed m e in
-    let w = S .places .waits (m .turn .slot) (omega arith) (omega (arith, S .ranges .least)) (p .waits) in
+    let w = S .places .waits (m .turn .slot) (omega arith) (omega (arith, S .ranges .least)) p in
     let k = taken-block (blockAtTurn m) (w .0) in
     let n = m .counts .done in
     let begun : (n ≡ 0 → ⊥) → n < getD (blockAtTurn m) 3 0 = λ d. S .places .done (omega (arith, d)) .1 in
     let more : (getD (blockAtTurn m) 0 0 ≡ 1 → ⊥) → n < getD (blockAtTurn m) 3 0 = λ h. same-by n 0 (λ q. omega (arith, k .some h)) begun in
     let few : n < 6 = same-by n 0 (λ q. omega arith) (λ d. omega (arith, begun d, k .count)) in
     record {
-      waits = p .waits;
+      waits = p;
       slot = omega (arith, k .slot, w .1);
       few = k .count;
       next = λ h. same-by n 0 (λ q. q) (λ d. absurd (omega (arith, begun d, k .next h)));
       more = more;
       ticket = λ h. k .ticket n (more h) .0;
-      sent = p .sent;
       commits = bump-is (m .counts .commits) (omega (arith, S .ranges .commits, S .ranges .slot));
     }
 

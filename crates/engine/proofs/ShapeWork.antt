@@ -1,6 +1,7 @@
--- A writeset committed keeps the shape: the replica's own closes its row, another's aborts the rows it hits. Assumes nothing.
+-- A writeset committed keeps the shape: the replica's own closes its row where that is open as sent, and none where it is not; another's aborts the rows it
+-- hits. Assumes nothing.
 use Prim.Native.Nat.{ℕ, _<_}
-use mathlib.Core.Path.{_≡_, refl, _∙_}
+use mathlib.Core.Path.{_≡_, refl, sym, _∙_}
 use mathlib.Core.Bool.{Bool, true, false}
 use mathlib.Core.List.{List}
 use native.Mathlib.Nat.{zero-add}
@@ -12,7 +13,7 @@ use Rattle.block.specs.Message.{Record}
 use Rattle.block.proofs.BoolLaws.{both, not-so}
 use Rattle.memory.specs.Memory.{Memory}
 use Rattle.memory.specs.Rows.{closed, rowOf, rowAt, has}
-use Rattle.engine.specs.Moves.{waiting, blockAtTurn, writesetAt, isHit, hitTickets, isSent, isLast, commitWriteset}
+use Rattle.engine.specs.Moves.{waiting, blockAtTurn, writesetAt, isHit, hitTickets, isSent, endsOwn, isLast, commitWriteset}
 use Rattle.engine.specs.Shape.{Shape}
 use Rattle.engine.proofs.Tests.{same-by, clash}
 use Rattle.engine.proofs.RowLaws.{row-found, open-close, set-row}
@@ -21,13 +22,13 @@ use Rattle.engine.proofs.QueueLaws.{length-queueWithout, length-waiting
 use Rattle.engine.proofs.Shaping.{bumps}
 use Rattle.engine.proofs.ShapeClose.{Closing, closing-rows, closing-distinct, closing-single, closing-queue}
 use Rattle.engine.proofs.ShapeTurn.{Working}
-use Rattle.engine.proofs.ShapeWriteset.{committed, TxnShape, shape-writeset}
+use Rattle.engine.proofs.ShapeWriteset.{committed, ends-own, ends-other, TxnShape, shape-writeset}
 
 -- ---- the replica's own: the row is open as sent
 
 module _ {over : ℕ} (m : Memory) (S : Shape over m) (k : Working m) (last : Bool) (w : Record) (sent : isSent m (w .ticket) ≡ true) where
   abbrev mine : Memory
-  mine = committed m true last w
+  mine = committed m true true last w
 
   abbrev row : ℕ
   row = rowOf (w .ticket) (m .txns .table)
@@ -70,11 +71,31 @@ module _ {over : ℕ} (m : Memory) (S : Shape over m) (k : Working m) (last : Bo
     single = closing-single m mine S (λ r. eqb r row) own-closing;
   }
 
+-- ---- the replica's own where no row is open as sent: none is closed
+
+module _ {over : ℕ} (m : Memory) (S : Shape over m) (k : Working m) (last : Bool) (w : Record) where
+  abbrev nobody : Memory
+  nobody = committed m true false last w
+
+  none-closing : Closing m nobody (λ r. false)
+  none-closing = record { six = S .lengths .table; row = λ r h. refl; items = refl; tickets = refl; later = let a = k .commits in omega arith }
+
+  none-shape : TxnShape over nobody
+  none-shape = record {
+    table = S .lengths .table;
+    waiting = S .lengths .queue;
+    endings = let e = S .ranges .endings in let t = S .ranges .tickets in let p = S .ranges .repeats in omega arith;
+    rows = closing-rows m nobody S (λ r. false) none-closing;
+    distinct = S .distinct;
+    queue = record { zeros = S .queue .zeros; asked = S .queue .asked; queued = S .queue .queued; once = S .queue .once };
+    single = S .single;
+  }
+
 -- ---- another's: the rows hit are aborted
 
 module _ {over : ℕ} (m : Memory) (S : Shape over m) (k : Working m) (last : Bool) (w : Record) where
   abbrev other : Memory
-  other = committed m false last w
+  other = committed m false false last w
 
   abbrev rowHit : ℕ → Bool
   rowHit r = isHit (w .entries) (m .txns .items) r (rowAt (m .txns .table) r)
@@ -138,11 +159,16 @@ module _ {over : ℕ} (m : Memory) (S : Shape over m) (k : Working m) (last : Bo
 
 -- ---- the step
 
-by-sender : {over : ℕ} (m : Memory) → Shape over m → Working m → m .counts .done < getD (blockAtTurn m) 3 0 → (w : Record) (mine : Bool)
-    → (mine ≡ true → isSent m (w .ticket) ≡ true) → Shape over (commitWriteset m mine w .memory)
-by-sender m S k d w true s = shape-writeset m S k d true w (own-shape m S k (isLast m) w (s refl))
-by-sender m S k d w false s = shape-writeset m S k d false w (other-shape m S k (isLast m) w)
+by-ends : {over : ℕ} (m : Memory) → Shape over m → Working m → (w : Record) (mine ends : Bool) → endsOwn mine (m .txns .table) (w .ticket) ≡ ends
+    → TxnShape over (committed m mine ends (isLast m) w)
+by-ends m S k w true true e = own-shape m S k (isLast m) w (sym (ends-own (m .txns .table) (w .ticket)) ∙ e)
+by-ends m S k w true false e = none-shape m S k (isLast m) w
+by-ends m S k w false true e = clash e (ends-other (m .txns .table) (w .ticket))
+by-ends m S k w false false e = other-shape m S k (isLast m) w
+
+by-sender : {over : ℕ} (m : Memory) → Shape over m → Working m → m .counts .done < getD (blockAtTurn m) 3 0 → (w : Record) (mine : Bool) → Shape over (commitWriteset m mine w .memory)
+by-sender m S k d w mine = shape-writeset m S k d mine w (by-ends m S k w mine (endsOwn mine (m .txns .table) (w .ticket)) refl)
 
 pub shape-committed : {over : ℕ} (m : Memory) → Shape over m → Working m → (getD (blockAtTurn m) 0 0 ≡ 1 → ⊥)
     → Shape over (commitWriteset m (eqb (getD (blockAtTurn m) 1 0) (m .counts .own)) (writesetAt (blockAtTurn m) (m .counts .done)) .memory)
-shape-committed m S k d = by-sender m S k (k .more d) _ _ (λ q. k .sent d (eqb-true (getD (blockAtTurn m) 1 0) (m .counts .own) q))
+shape-committed m S k d = by-sender m S k (k .more d) _ _

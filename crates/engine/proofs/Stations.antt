@@ -18,7 +18,7 @@ use Rattle.block.proofs.MessageLaws.{message-facts, sender-small}
 use Rattle.block.proofs.AnswerLaws.{is-taken, is-formed}
 use Rattle.memory.specs.declared.Turn.{Turn}
 use Rattle.memory.specs.declared.Txn.{Txn}
-use Rattle.memory.specs.Memory.{Memory, noNumber, isStation, withClasses}
+use Rattle.memory.specs.Memory.{Memory, bump, noNumber, isStation, withClasses}
 use Rattle.memory.specs.Rows.{closed, isOpen, rowOf, rowAt, itemsOf, has}
 use Rattle.memory.specs.Turns.{isOn}
 use Rattle.engine.specs.Calls.{Answer, Step, numberOf, Outcome, outcome}
@@ -26,7 +26,7 @@ use Rattle.engine.specs.Calls.Answer.{refused, made, began, got, wrote, 
 use Rattle.engine.specs.Make.{madeMemory, partsFit, sizeOut, makeRefusal}
 use Rattle.engine.specs.Classes.{loadRefusal}
 use Rattle.engine.specs.Client.{rowNo, isOwn, notOpen, notActive, beginRefusal, beginAt, readRefusal, writeRefusal, askRefusal, readOnlyAt, withdrawRefusal, withdrawAt, reportOf, reportStep}
-use Rattle.engine.specs.Moves.{waiting, sendRefusal, deliverRefusal, deliverNow, blockAtTurn, writesetAt, shares, isHit, afterAborts, hitTickets, nothingWaits, ownNotSent, workRefusal, isLast, passNext, commitWriteset}
+use Rattle.engine.specs.Moves.{waiting, sendRefusal, deliverRefusal, deliverNow, blockAtTurn, writesetAt, shares, isHit, afterAborts, hitTickets, endsOwn, nothingWaits, workRefusal, isLast, passNext, commitWriteset}
 use Rattle.engine.specs.Step.{Call, step, refusalOf, after}
 use Rattle.engine.specs.Step.Call.{begin, read, write, ask, withdraw, report, send, deliver, work, load}
 use Rattle.engine.specs.Shape.{Shape}
@@ -36,10 +36,10 @@ use Rattle.engine.proofs.Tests.{cond-by, bool-by, clash, not-first, pas
 use Rattle.engine.proofs.Steps.{writes-refused, sends-refused, begin-by, read-by, ask-by, withdraw-by, deliver-by, work-by, load-by}
 use Rattle.engine.proofs.ShapeMade.{shape-station}
 use Rattle.engine.proofs.ShapeTurn.{working}
+use Rattle.engine.proofs.ShapeWriteset.{ends-other}
 use Rattle.engine.proofs.Shapes.{shapes, shape-after}
 use Rattle.engine.proofs.Refusals.{at-replica, refusals}
 use Rattle.engine.proofs.Sent.{sent-shapes}
-use Rattle.engine.proofs.Unmet.{unmet-after}
 use Rattle.engine.proofs.Reports.{report-from, made-own, made-kept, step-counted, tally-kept}
 
 -- ---- every sender is another
@@ -82,9 +82,6 @@ work-other m S h e = waits-other m S h (working m S e .waits)
 and-false : (b : Bool) → b && false ≡ false
 and-false true = refl
 and-false false = refl
-
-none-unsent : {over : ℕ} (m : Memory) → Shape over m → isStation m ≡ true → nothingWaits m ≡ false → ownNotSent m ≡ false
-none-unsent m S h e = rw (waits-other m S h e, and-false) refl
 
 never-own : (m : Memory) → isStation m ≡ true → (c : Call) → refusalOf m c ≡ 19 → ⊥
 unfolding refusalOf beginRefusal readRefusal askRefusal withdrawRefusal workRefusal loadRefusal
@@ -210,7 +207,9 @@ module _ (m : Memory) (R : OnlyReads m) where
         active = λ i. rows i .0;
         unwritten = λ i. rows i .1;
         unsent = cond-by (λ (t : Turn). isOn (t .sent) ≡ false) (isLast m) (λ e. refl) (λ e. R .unsent);
-        committed = R .committed;
+        committed = cond-by (λ (c : ℕ). c ≡ 0) (endsOwn false (m .txns .table) (w .ticket)) {x = bump (m .counts .committed)}
+            (λ e. clash e (ends-other (m .txns .table) (w .ticket)))
+            (λ e. R .committed);
         aborted = rw (nobody-hit (w .entries) (m .txns .items) 0 (m .txns .table) (idle m R), R .aborted) refl;
       }
 
@@ -319,7 +318,7 @@ module _ (n : ℕ) (values : List ℤ) (least : 2 ≤ n) (most : n ≤ 6) (long 
   reported-is : reportOf (after (stationMemory n values) cs) ≡ reportFrom 0 (tally noNumber noCalls (stationMemory n values) cs)
   reported-is =
       report-from (after m cs) shaped
-      ∙ ap (reportFrom 0) (tally-kept noNumber m at-first (made-own n noNumber values) cs ∙ ap (λ (t : Tally). tally noNumber t m cs) (made-kept n noNumber values))
+      ∙ ap (reportFrom 0) (tally-kept noNumber m at-first (sent-shapes .made n noNumber values) (made-own n noNumber values) cs ∙ ap (λ (t : Tally). tally noNumber t m cs) (made-kept n noNumber values))
 
   summed : let r = reportOf (after (stationMemory n values) cs) in r .tickets ≡ r .«open_count» + r .«read_only» + r .withdrawn
   unfolding reportOf
@@ -355,9 +354,7 @@ stations = record {
   report = reported-is;
   sum = summed;
   others = λ n values l h v cs. waits-other (after (stationMemory n values) cs) (shaped n values l h v cs) (reading n values l h v cs .station);
-  condition = λ n values l h v cs. none-unsent (after (stationMemory n values) cs) (shaped n values l h v cs) (reading n values l h v cs .station);
   asks = λ n values l h v cs. asked _ (shaped n values l h v cs) (reading n values l h v cs);
   never-4 = λ n values l h v cs c. by-number n values l h v cs c 4 (not-four _ (shaped n values l h v cs) (reading n values l h v cs) c);
-  never-22 = λ n values l h v cs. unmet-after (stationMemory n values) (shape-station n values l h v) (sent-shapes .made n noNumber values) cs;
   aborts = λ n values l h v cs. aborts-none _ (shaped n values l h v cs) (reading n values l h v cs);
 }

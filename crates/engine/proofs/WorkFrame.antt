@@ -15,7 +15,7 @@ use Rattle.memory.specs.declared.Txn.{Txn}
 use Rattle.memory.specs.Memory.{Blocks, Memory, bump}
 use Rattle.memory.specs.Rows.{closed, rowOf, rowAt}
 use Rattle.memory.specs.Turns.{markApplying, advance, placeStart}
-use Rattle.engine.specs.Moves.{blockAtTurn, writesetAt, applied, stamped, isHit, afterAborts, isLast, passNext, commitWriteset}
+use Rattle.engine.specs.Moves.{blockAtTurn, writesetAt, applied, stamped, isHit, afterAborts, endsOwn, isLast, passNext, commitWriteset}
 use Rattle.engine.specs.Frames.{SameBut, SameButItems, WorkFrame}
 use Rattle.engine.proofs.Tests.{cond-by, same-by, less-by}
 use Rattle.engine.proofs.HasLaws.{has-not}
@@ -98,7 +98,9 @@ commit-frame m mine =
       stamps = stamped-but (bump (m .counts .commits)) (w .entries) (m .store .stamps);
       classes = refl;
       rows = cond-by (λ (k : List Txn). (i : ℕ) → SameOrClosed (m .txns .table) k i) mine
-          (λ e. set-closed (m .txns .table) (rowOf (w .ticket) (m .txns .table)))
+          (λ e. cond-by (λ (k : List Txn). (i : ℕ) → SameOrClosed (m .txns .table) k i) (endsOwn mine (m .txns .table) (w .ticket))
+          (λ d. set-closed (m .txns .table) (rowOf (w .ticket) (m .txns .table)))
+          (λ d i. inl refl))
           (λ e. aborts-closed (w .entries) (m .txns .items) (m .txns .table));
       items = refl;
       writes = refl;

@@ -1,4 +1,4 @@
--- What a client may do: begin, read, write, ask, withdraw, report. Each call's refusals stand in the order of document 01's table. What a call does is said at a row,
+-- What a client may do: begin, read, write, ask, withdraw, report. Each call's refusals stand in the order of document 01's table, a write's in document 02's. What a call does is said at a row,
 -- on any memory and any row; the call itself is that at the row of its ticket.
 use Prim.Native.Nat.{ℕ, _+_, _*_, _-_}
 use mathlib.Core.Bool.{Bool, cond, not, _&&_}

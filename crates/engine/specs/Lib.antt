@@ -15,7 +15,7 @@ pub mod Staleness
 pub mod Claims
 pub mod Sent
 pub mod History
-pub mod Unmet
+pub mod OwnSent
 pub mod Station
 pub mod Restarts
 pub mod Tickets

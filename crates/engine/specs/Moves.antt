@@ -200,9 +200,16 @@ without gone (t ∷ ts) = cond (has t gone) (without gone ts) (t ∷ without gon
 abbrev pub queueWithout : List ℕ → List ℕ → List ℕ
 queueWithout gone queue = without gone queue ++ replicate (length queue - length (without gone queue)) 0
 
--- open as sent
+-- open as sent, among the rows
+abbrev pub sentAmong : List Txn → ℕ → Bool
+sentAmong table ticket = ltb (rowOf ticket table) 6 && eqb (rowAt table (rowOf ticket table) .stage) 2
+
 abbrev pub isSent : Memory → ℕ → Bool
-isSent m ticket = ltb (rowOf ticket (m .txns .table)) 6 && eqb (rowAt (m .txns .table) (rowOf ticket (m .txns .table)) .stage) 2
+isSent m ticket = sentAmong (m .txns .table) ticket
+
+-- whether a writeset ends its own transaction: `mine` where the replica sent it itself
+abbrev pub endsOwn : Bool → List Txn → ℕ → Bool
+endsOwn mine table ticket = mine && sentAmong table ticket
 
 abbrev pub workLent : Memory → Bool
 workLent m =
@@ -214,14 +221,9 @@ workLent m =
 abbrev pub nothingWaits : Memory → Bool
 nothingWaits m = isEmpty (m .counts .replicas) (m .turn .slot) (m .blocks .places)
 
--- 22: an own writeset whose ticket is not open as sent
-abbrev pub ownNotSent : Memory → Bool
-ownNotSent m =
-    not (eqb (getD (blockAtTurn m) 0 0) 1)
-    && (eqb (getD (blockAtTurn m) 1 0) (m .counts .own) && not (isSent m (recordAt (blockAtTurn m) (m .counts .done) .ticket)))
-
+-- number 22, of own writesets not open as sent, is gone (`OwnSent.antt`), and no other refusal takes it
 unfoldable pub workRefusal : Memory → ℕ
-workRefusal m = firstOf (refuse 1 (not (workLent m)) ∷ refuse 21 (nothingWaits m) ∷ refuse 22 (ownNotSent m) ∷ [])
+workRefusal m = firstOf (refuse 1 (not (workLent m)) ∷ refuse 21 (nothingWaits m) ∷ [])
 
 -- after the last writeset, or a *next*, the place empties
 abbrev pub turnBlocks : Memory → Blocks
@@ -240,22 +242,24 @@ passNext m =
 abbrev pub isLast : Memory → Bool
 isLast m = leb (getD (blockAtTurn m) 3 0) (m .counts .done + 1)
 
--- one writeset of the block at the turn; `mine` where the replica sent it itself
+-- one writeset of the block at the turn; where the replica sent it itself, its transaction ends if it is open as sent, and nobody if not, which an altered
+-- state alone meets (`OwnSent.antt`)
 unfoldable pub commitWriteset : Memory → Bool → Record → Outcome
 commitWriteset m mine w =
     let x = m .txns in
     let es = w .entries in
     let n = bump (m .counts .commits) in
+    let ends = endsOwn mine (x .table) (w .ticket) in
     let gone = cond mine [] (hitTickets es (x .items) 0 (x .table)) in
     let c = withCommit (m .counts) n
-    (cond mine (bump (m .counts .committed)) (m .counts .committed))
+    (cond ends (bump (m .counts .committed)) (m .counts .committed))
     (min (m .counts .aborted + length gone) 4_294_967_295) in
     outcome (worked (record { sender = getD (blockAtTurn m) 1 0; ticket = w .ticket; moved = isLast m; aborted = gone; append = appending m (isLast m) }))
     (record {
       turn = cond (isLast m) (advance (m .turn)) (cond mine (m .turn) (markApplying (m .turn)));
       counts = withDone c (cond (isLast m) 0 (m .counts .done + 1));
       txns = record {
-        table = cond mine (set (x .table) (rowOf (w .ticket) (x .table)) closed) (afterAborts es (x .items) 0 (x .table));
+        table = cond mine (cond ends (set (x .table) (rowOf (w .ticket) (x .table)) closed) (x .table)) (afterAborts es (x .items) 0 (x .table));
         queue = cond mine (x .queue) (queueWithout gone (x .queue));
         items = x .items;
         writes = x .writes;

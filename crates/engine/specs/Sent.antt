@@ -1,4 +1,4 @@
--- The block sent and the rows open as sent, on every memory that calls lead to, with any bytes. `Unmet.antt` rests on it.
+-- The block sent and the rows open as sent, on every memory that calls lead to, with any bytes. `OwnSent.antt` rests on it.
 use Prim.Native.Nat.{ℕ, _+_, _≤_, _<_}
 use mathlib.Core.Path.{_≡_}
 use mathlib.Core.Bool.{true, false}

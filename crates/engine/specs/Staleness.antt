@@ -1,5 +1,5 @@
 -- Document 02's Req 07: "Staleness comes first from now on. On the same state, the only answers that change are those where both held: 8 with the transaction open becomes 9 with it ended."
--- The order of before, 8 before 9, stands here and nowhere else.
+-- The order of before, 8 before 9, stands here alone among the definitions.
 use Prim.Native.Nat.{ℕ}
 use mathlib.Core.Path.{_≡_}
 use mathlib.Core.Bool.{Bool, true, false, cond, not, _&&_}
@@ -50,5 +50,5 @@ pub record StalenessFirst : Type 0 where
   pub now : (m : Memory) (ticket item : ℕ) (value : ℤ) → staleAndHeld m ticket item ≡ true → step m (write ticket item value) ≡ staleAt m (rowNo m ticket)
   -- everywhere else answer and memory are what they were
   pub else : (m : Memory) (ticket item : ℕ) (value : ℤ) → staleAndHeld m ticket item ≡ false → step m (write ticket item value) ≡ lockFirstWrite m ticket item value
-  -- and nowhere else: where the answer is what it was, not both hold
+  -- and where both hold the answer does change
   pub only : (m : Memory) (ticket item : ℕ) (value : ℤ) → step m (write ticket item value) .answer ≡ lockFirstWrite m ticket item value .answer → staleAndHeld m ticket item ≡ false

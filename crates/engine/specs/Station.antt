@@ -14,7 +14,7 @@ use Rattle.engine.specs.Calls.{Step, numberOf, Outcome, outcome, unless}
 use Rattle.engine.specs.Calls.Answer.{refused, made, readOnly, worked}
 use Rattle.engine.specs.Make.{madeMemory, partsFit, makeRefusal, makeStep}
 use Rattle.engine.specs.Client.{rowNo, notOpen, reportOf}
-use Rattle.engine.specs.Moves.{waiting, sentAlready, blockAtTurn, nothingWaits, ownNotSent}
+use Rattle.engine.specs.Moves.{waiting, sentAlready, blockAtTurn, nothingWaits}
 use Rattle.engine.specs.Restart.{restartRefusal, restartStep}
 use Rattle.engine.specs.Step.{Call, step, after}
 use Rattle.engine.specs.Step.Call.{write, ask, send, work}
@@ -70,18 +70,14 @@ pub record Stations : Type 0 where
       → reportOf (after (stationMemory n values) cs) ≡ reportFrom 0 (tally noNumber noCalls (stationMemory n values) cs)
   pub sum : (n : ℕ) (values : List ℤ) → 2 ≤ n → n ≤ 6 → length values ≡ 128 → (cs : List Call)
       → let r = reportOf (after (stationMemory n values) cs) in r .tickets ≡ r .«open_count» + r .«read_only» + r .withdrawn
-  -- a block that waits at the turn is another's; so `Unmet.condition` holds of it
+  -- a block that waits at the turn is another's, so that no writeset that a work meets is its own
   pub others : (n : ℕ) (values : List ℤ) → 2 ≤ n → n ≤ 6 → length values ≡ 128 → (cs : List Call)
       → let m = after (stationMemory n values) cs in nothingWaits m ≡ false → eqb (getD (blockAtTurn m) 1 0) (m .counts .own) ≡ false
-  pub condition : (n : ℕ) (values : List ℤ) → 2 ≤ n → n ≤ 6 → length values ≡ 128 → (cs : List Call)
-      → let m = after (stationMemory n values) cs in nothingWaits m ≡ false → ownNotSent m ≡ false
-  -- an ask of an open transaction is read-only, never queued; 4 and 22 never come; nobody is aborted
+  -- an ask of an open transaction is read-only, never queued; 4 never comes; nobody is aborted
   pub asks : (n : ℕ) (values : List ℤ) → 2 ≤ n → n ≤ 6 → length values ≡ 128 → (cs : List Call) (ticket : ℕ)
       → let m = after (stationMemory n values) cs in step m (ask ticket) .answer ≡ cond (notOpen (rowNo m ticket)) (refused 3) readOnly
   pub never-4 : (n : ℕ) (values : List ℤ) → 2 ≤ n → n ≤ 6 → length values ≡ 128 → (cs : List Call) (c : Call)
       → step (after (stationMemory n values) cs) c .answer ≡ refused 4 → ⊥
-  pub never-22 : (n : ℕ) (values : List ℤ) → 2 ≤ n → n ≤ 6 → length values ≡ 128 → (cs : List Call) (c : Call)
-      → step (after (stationMemory n values) cs) c .answer ≡ refused 22 → ⊥
   pub aborts : (n : ℕ) (values : List ℤ) → 2 ≤ n → n ≤ 6 → length values ≡ 128 → (cs : List Call) (s : Step)
       → step (after (stationMemory n values) cs) work .answer ≡ worked s → s .aborted ≡ []
 

@@ -8,13 +8,13 @@ use lib.IntN.{ℤ, pos}
 use lib.ListN.{replicate, drop, set}
 use Rattle.block.specs.Message.{Message}
 use Rattle.block.specs.Bytes.{blockOf}
-use Rattle.memory.specs.Memory.{Memory}
+use Rattle.memory.specs.Memory.{Memory, withBlocks}
 use Rattle.engine.specs.Calls.{Answer, numberOf}
-use Rattle.engine.specs.Calls.Answer.{refused, began, got, wrote, queued, sent, kept, worked}
+use Rattle.engine.specs.Calls.Answer.{refused, began, got, wrote, queued, reported, sent, kept, worked}
 use Rattle.engine.specs.Make.{madeMemory}
 use Rattle.engine.specs.Station.{stationMemory, stationStep}
 use Rattle.engine.specs.Step.{Call, step}
-use Rattle.engine.specs.Step.Call.{begin, read, write, ask, send, deliver, work, load}
+use Rattle.engine.specs.Step.Call.{begin, read, write, ask, report, send, deliver, work, load}
 
 -- what each call of a list answers, one after the other
 unfoldable pub answers : Memory → List Call → List Answer
@@ -61,6 +61,10 @@ threeWritesets = blockOf (record {
       ∷ record { ticket = 3; entries = record { item = 7; value = pos 70 } ∷ [] }
       ∷ [];
 })
+
+-- replica 0 of 2 with `twoThenOne` at its turn, which it never sent: an altered state
+abbrev pub neverSent : Memory
+neverSent = withBlocks (fresh 2 0) (record { places = twoThenOne ++ replicate 512 0; outbox = replicate 512 0 })
 
 -- the calls by which replica 1 of 3, with those classes and an item of class 1 held by ticket 2, comes to that block
 abbrev pub toThree : List Call
@@ -116,19 +120,32 @@ pub record RightAnswers : Type 0 where
       ∷ refused 3
       ∷ sent (nextBlock 2 1 1)
       ∷ []
-  -- sent in the order asked, locked until committed, one block for a slot; committed one by one, and read by a fourth
-  pub own : drop 7 (answers (fresh 2 0) (sendTwo ++ (deliver twoThenOne ∷ work ∷ work ∷ begin ∷ read 4 5 ∷ read 4 6 ∷ [])))
+  -- sent in the order asked, locked until committed, one block for a slot; another block of that slot is not the one sent; committed one by one, and read by a fourth
+  pub own : drop 7 (answers (fresh 2 0) (sendTwo ++ (deliver (nextBlock 2 0 0) ∷ deliver twoThenOne ∷ work ∷ work ∷ begin ∷ read 4 5 ∷ read 4 6 ∷ [])))
       ≡ sent twoThenOne
       ∷ refused 8
       ∷ wrote
       ∷ queued
       ∷ refused 12
+      ∷ refused 19
       ∷ kept
       ∷ worked (record { sender = 0; ticket = 2; moved = false; aborted = []; append = [] })
       ∷ worked (record { sender = 0; ticket = 1; moved = true; aborted = []; append = [] })
       ∷ began 4
       ∷ got (pos 7)
       ∷ got (pos 8)
+      ∷ []
+  -- document 02's Req 08: on that state both writesets are committed, and ticket 1, open as active, and 2, open as asked, stay so: no ending is counted
+  pub altered : drop 2 (answers neverSent (begin ∷ begin ∷ write 2 9 (pos 1) ∷ ask 2 ∷ work ∷ work ∷ read 1 5 ∷ begin ∷ read 3 5 ∷ ask 2 ∷ report ∷ []))
+      ≡ wrote
+      ∷ queued
+      ∷ worked (record { sender = 0; ticket = 2; moved = false; aborted = []; append = [] })
+      ∷ worked (record { sender = 0; ticket = 1; moved = true; aborted = []; append = [] })
+      ∷ got (pos 0)
+      ∷ began 3
+      ∷ got (pos 7)
+      ∷ refused 4
+      ∷ reported (record { turn = 1; commits = 2; tickets = 3; «open_count» = 3; committed = 0; «read_only» = 0; aborted = 0; withdrawn = 0 })
       ∷ []
   -- a block that comes early waits for its turn
   pub early : numbers (fresh 3 0) (deliver (nextBlock 3 2 2) ∷ work ∷ []) ≡ 0 ∷ 21 ∷ []

@@ -169,7 +169,7 @@ fn plain_and_model_give_the_same() {
         let style = Style::new(30, 40, 6);
         run(seed, style, SLOTS - 60, MAX_TICKET - 60, &mut seen);
     }
-    // No list of calls leads to 22, and there is no 24.
+    // There is no 22 any more, and no 24.
     let due: Vec<usize> = (1..26).filter(|&n| n != 22 && n != 24).collect();
     assert_eq!(seen.numbers(20), due, "{seen:?}");
     assert!(seen.stale_and_held > 30, "{seen:?}");

@@ -40,8 +40,7 @@ pub const NOT_SENT: u8 = 19;
 pub const SLOT_TAKEN: u8 = 20;
 /// No message waits for the turn.
 pub const NOTHING_WAITS: u8 = 21;
-/// An own writeset whose ticket is not open as sent.
-pub const NOT_OPEN_AS_SENT: u8 = 22;
+// 22 was an own writeset whose ticket is not open as sent, until document 02's Req 08. No other takes it.
 /// A load of classes while a block of another replica is committed in part.
 pub const LOAD_WHILE_APPLYING: u8 = 23;
 /// A station only reads: it does not write or send.

@@ -164,7 +164,7 @@ fn totals_of_the_list() {
     println!("{totals:?}");
     assert!(totals.calls >= 20_000, "{totals:?}");
     assert!(totals.rejected > 300, "{totals:?}");
-    // Slots are not spent in a list of this length, no list leads to 22, and there is no 24.
+    // Slots are not spent in a list of this length, and there is no 22 and no 24.
     let due: Vec<u32> = (1..26).filter(|n| ![13, 22, 24].contains(n)).collect();
     assert!(totals.refused.keys().eq(&due), "{totals:?}");
     assert!(totals.cuts > 200 && totals.restarts > 80, "{totals:?}");

@@ -92,7 +92,4 @@ impl Step {
 pub struct Taken<W = Work> {
     /// The steps, in their order.
     pub steps: Vec<W>,
-    /// The refusal, other than [`Refusal::NothingWaits`], of a work that ended the steps. Only altered
-    /// memory leads to one.
-    pub refused: Option<Refusal>,
 }

@@ -336,7 +336,7 @@ calls! {
     ) -> u8;
 
     /// Takes one step at the block of the turn. Where the turn leaves another's slot it fills the lent
-    /// block, which is otherwise not touched. Refused by 1, 21, 22.
+    /// block, which is otherwise not touched. Refused by 1, 21.
     fn work = stemline_work(
         table: mut [Txn], turn: &mut Turn, counts: &mut Counts, queue: mut [u32], items: ref [u8],
         values: mut [i32], stamps: mut [u32], places: mut [u8], block: mut [u8]

@@ -56,8 +56,6 @@ pub enum Refusal {
     SlotTaken,
     /// 21: no block waits for the turn.
     NothingWaits,
-    /// 22: a transaction of the own block is not open as sent. No list of calls leads to it.
-    NotOpenAsSent,
     /// 23: a block of another replica is half applied.
     LoadWhileApplying,
     /// 25: a write or a send on the memory of a station. A [`crate::Station`] has neither call.
@@ -123,10 +121,8 @@ const TABLE: [(Refusal, &str); 25] = [
     ),
     (Refusal::SlotTaken, "a block for this slot waits already"),
     (Refusal::NothingWaits, "no block waits for the turn"),
-    (
-        Refusal::NotOpenAsSent,
-        "an own writeset whose transaction is not open as sent",
-    ),
+    // A work's until document 02's Req 08: no number takes its place.
+    (Refusal::Unknown(22), UNKNOWN),
     (
         Refusal::LoadWhileApplying,
         "classes are loaded while a block of another replica is being applied",
@@ -195,7 +191,7 @@ mod tests {
         for number in 1..=u8::MAX {
             let refusal = Refusal::from_number(number).unwrap();
             assert_eq!(refusal.number(), number);
-            let known = matches!(number, 1..=23 | 25);
+            let known = matches!(number, 1..=21 | 23 | 25);
             assert_eq!(matches!(refusal, Refusal::Unknown(_)), !known);
         }
     }
@@ -209,9 +205,14 @@ mod tests {
         let said: Vec<&str> = (1..=26)
             .map(|number| Refusal::from_number(number).unwrap().words())
             .collect();
-        let (last, known) = said.split_last().unwrap();
+        let known: Vec<&str> = said
+            .iter()
+            .copied()
+            .filter(|&words| words != UNKNOWN)
+            .collect();
         assert!((1..known.len()).all(|at| !known[..at].contains(&known[at])));
-        assert_eq!((*last, known[23]), (UNKNOWN, UNKNOWN));
+        assert_eq!([21, 23, 25].map(|at| said[at]), [UNKNOWN; 3]);
+        assert_eq!(known.len(), 23);
         let boxed: Box<dyn error::Error> = Box::new(Refusal::Stale);
         assert!(boxed.to_string().ends_with("(9)"));
         // What std prints of a main that ends in an error.
@@ -226,7 +227,7 @@ mod tests {
         assert_eq!(Refusal::from_number(9), Some(Refusal::Stale));
         assert_eq!(Refusal::from_number(13), Some(Refusal::SlotsSpent));
         assert_eq!(Refusal::from_number(21), Some(Refusal::NothingWaits));
-        assert_eq!(Refusal::from_number(22), Some(Refusal::NotOpenAsSent));
+        assert_eq!(Refusal::from_number(22), Some(Refusal::Unknown(22)));
         assert_eq!(Refusal::from_number(23), Some(Refusal::LoadWhileApplying));
         assert_eq!(Refusal::from_number(25), Some(Refusal::StationOnlyReads));
     }

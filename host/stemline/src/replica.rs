@@ -205,7 +205,7 @@ impl Replica {
     }
 
     /// Takes one step at the block of the turn: commits its next writeset, or passes over a block
-    /// without records. Refused by 1, 21, 22.
+    /// without records. Refused by 1, 21.
     #[inline]
     pub fn work(&mut self) -> Result<Work, Refusal> {
         let mut block = [0; BLOCK];
@@ -249,9 +249,7 @@ impl Replica {
     /// already goes on waiting. So it is with a block that comes a second time (17 or 20), which a
     /// host may pass over.
     ///
-    /// A work that is refused by any other number than 21 ends the steps: [`Taken::refused`] says by
-    /// which, and the steps before it are done. Only altered memory leads to that, or to more than
-    /// [`STEPS`] steps, of which the rest is left to the next take.
+    /// Only altered memory leads to more than [`STEPS`] steps, of which the rest is left to the next take.
     pub fn take(&mut self, bytes: &[u8]) -> Result<Taken, Refusal> {
         self.deliver(bytes)?;
         Ok(works(|| self.work()))
@@ -260,18 +258,11 @@ impl Replica {
 
 /// The works behind the deliver of a take.
 pub(crate) fn works<W>(mut work: impl FnMut() -> Result<W, Refusal>) -> Taken<W> {
-    let mut taken = Taken {
-        steps: Vec::new(),
-        refused: None,
-    };
-    while taken.steps.len() < STEPS {
-        match work() {
-            Ok(work) => taken.steps.push(work),
-            Err(refusal) => {
-                taken.refused = Some(refusal).filter(|&r| r != Refusal::NothingWaits);
-                break;
-            }
-        }
+    let mut steps = Vec::new();
+    while steps.len() < STEPS {
+        // Behind a deliver a work is refused by 21 or not at all.
+        let Ok(step) = work() else { break };
+        steps.push(step);
     }
-    taken
+    Taken { steps }
 }

@@ -1,6 +1,6 @@
 -- `work` meets its contract: the bytes lent for a block, the refusal's number, a *next*, or a writeset.
 use Prim.Native.Nat.{_+_, _≤_}
-use mathlib.Core.Path.{_≡_, sym, _∙_}
+use mathlib.Core.Path.{_≡_, refl, sym, _∙_}
 use mathlib.Core.List.{[]}
 use native.Mathlib.Omega.{arith}
 use lib.ListN.{length}
@@ -14,7 +14,7 @@ use Rattle.call_reply.specs.Parts.{workParts}
 use Rattle.call_reply.specs.Replies.{workReply}
 use Rattle.call_reply.proofs.CalledLaws.{block-512, block-other}
 use Rattle.call_reply.proofs.ReplyLaws.{gives-with}
-use Rattle.call_work.proofs.WorkLaws.{same-gives, places-long, marks-other, work-refused, marks-refused, work-room, work-next, marks-next, work-writeset, marks-writeset, writeset-committed}
+use Rattle.call_work.proofs.WorkLaws.{same-gives, marks-other, work-refused, marks-refused, work-room, work-next, marks-next, work-writeset, marks-writeset, writeset-committed}
 use borrow.Author.Needs.{needs}
 use Rattle.call_work.proofs.work.Statement.{statement}
 use Rattle.call_work.proofs.work.Tie as tie
@@ -41,7 +41,7 @@ lent r = place r .before .before
 
 -- the number is the refusal's
 said : (c : tie.After-refusal) (m : Memory) → c .refusal .result ≡ workRefusal (before (start (lent c)) m)
-said c m = c .refusal .ensures (before (start (lent c)) m) (sym (place c .before .lengths-fit .ensures))
+said c m = c .refusal .ensures (before (start (lent c)) m) refl (place c .place-start .ensures) (sym (place c .before .lengths-fit .ensures))
 
 unchanged-requires : tie.Need-unchanged-requires
 unchanged-requires c κs = search needs
@@ -64,11 +64,7 @@ place-start-requires : tie.Need-place-start-requires
 place-start-requires c κs = search needs
 
 refusal-requires : tie.Need-refusal-requires
-refusal-requires c κs =
-    let p = c .before in
-    let f = p .before in
-    let a = start (f .before) .args in
-    ((λ h. places-long (a .counts .replicas) (length (a .places .now)) (length (a .items .now)) (length (a .queue .now)) (length (a .values .now)) (length (a .stamps .now)) (sym (f .lengths-fit .ensures) ∙ h)), p .place-start .ensures)
+refusal-requires c κs = search needs
 
 unchanged-requires-2 : tie.Need-unchanged-requires-2
 unchanged-requires-2 c κs = search needs

@@ -2,8 +2,8 @@
 
 use model::block::{self, Header, BLOCK, NEXT, TO_COMMIT};
 use model::refusal::{
-    ALREADY_SENT, FAR_SLOT, NOTHING_WAITS, NOT_OPEN_AS_SENT, NOT_OUR_TURN, NOT_SENT, PAST_SLOT,
-    SLOTS_SPENT, SLOT_TAKEN, STATION_ONLY_READS, WRONG_GROUP,
+    ALREADY_SENT, FAR_SLOT, NOTHING_WAITS, NOT_OUR_TURN, NOT_SENT, PAST_SLOT, SLOTS_SPENT,
+    SLOT_TAKEN, STATION_ONLY_READS, WRONG_GROUP,
 };
 use model::replica::SLOTS;
 
@@ -97,8 +97,10 @@ impl Replica {
         if header.sender == self.own {
             let mut rows = self.rows.iter_mut();
             let own = rows.find(|row| row.ticket == head.ticket && row.stage == Stage::Sent);
-            own.ok_or(NOT_OPEN_AS_SENT)?.end();
-            self.committed += 1;
+            if let Some(row) = own {
+                row.end();
+                self.committed += 1;
+            }
         } else {
             for row in &mut self.rows {
                 let hit = |item| row.items().contains(&item);

@@ -2,7 +2,7 @@
 
 use super::*;
 use crate::block::{self, Header, TO_COMMIT};
-use crate::refusal::{APPLYING, LOAD_WHILE_APPLYING, LOCKED, NOTHING_WAITS, NOT_OPEN_AS_SENT};
+use crate::refusal::{APPLYING, LOAD_WHILE_APPLYING, LOCKED, NOTHING_WAITS};
 use crate::samples::block_of;
 
 /// A replica 0 of 2 with its own block of two writesets back in its inbox.
@@ -18,30 +18,54 @@ fn with_own_block() -> Replica {
     replica
 }
 
-/// No list of calls leads here: the sent transaction is taken out of the open ones.
+/// No list of calls leads here: the sent transaction is taken out of the open ones. Its writeset is committed,
+/// and nobody ends.
 #[test]
 fn own_writeset_that_is_not_open() {
     let mut replica = with_own_block();
     assert_eq!(replica.work().map(|work| work.ticket), Ok(1));
     replica.open.clear();
-    let before = replica.clone();
-    assert_eq!(replica.work(), Err(NOT_OPEN_AS_SENT));
-    assert_eq!(replica, before);
+    commits_and_ends_nobody(&mut replica);
 }
 
-/// Nor here: it is open, but at another stage.
+/// Nor here: it is open, but at another stage, and stays so.
 #[test]
 fn own_writeset_that_is_not_sent() {
     for stage in [Stage::Active, Stage::Asked] {
         let mut replica = with_own_block();
         replica.open[0].stage = stage;
-        let before = replica.clone();
-        assert_eq!(replica.work(), Err(NOT_OPEN_AS_SENT));
-        assert_eq!(replica, before);
+        commits_and_ends_nobody(&mut replica);
         // Without a message the number is 21, whatever is open.
         replica.inbox[0] = None;
         assert_eq!(replica.work(), Err(NOTHING_WAITS));
     }
+}
+
+/// A work on an own writeset that is not open as sent: values, stamps and the commit count change, and what
+/// is done of the block; nothing else but where it is the last.
+fn commits_and_ends_nobody(replica: &mut Replica) {
+    let before = replica.clone();
+    let message = before.inbox[0].clone().unwrap();
+    let record = &message.records[before.done];
+    let work = replica.work().unwrap();
+    assert_eq!(
+        (work.sender, work.ticket),
+        (before.own.unwrap(), record.ticket)
+    );
+    assert_eq!(work.aborted, []);
+    let mut due = before.clone();
+    due.commits += 1;
+    for entry in &record.entries {
+        due.values[usize::from(entry.item)] = entry.value;
+        due.stamps[usize::from(entry.item)] = due.commits;
+    }
+    due.done += 1;
+    if work.moved {
+        (due.done, due.turn) = (0, before.turn + 1);
+        (due.inbox[0], due.outbox) = (None, None);
+    }
+    assert!(!replica.applying);
+    assert_eq!(*replica, due);
 }
 
 /// Nor here: a message of another replica at the turn, and a transaction that is sent. It is beyond

@@ -3,8 +3,8 @@
 use super::{Replica, Stage, Transaction, Work, ITEMS, SLOTS};
 use crate::block::{self, Header, Message, Record, BLOCK, NEXT, TO_COMMIT};
 use crate::refusal::{
-    ALREADY_SENT, FAR_SLOT, NOTHING_WAITS, NOT_OPEN_AS_SENT, NOT_OUR_TURN, NOT_SENT, PAST_SLOT,
-    SLOTS_SPENT, SLOT_TAKEN, STATION_ONLY_READS, WRONG_GROUP, WRONG_LENGTH,
+    ALREADY_SENT, FAR_SLOT, NOTHING_WAITS, NOT_OUR_TURN, NOT_SENT, PAST_SLOT, SLOTS_SPENT,
+    SLOT_TAKEN, STATION_ONLY_READS, WRONG_GROUP, WRONG_LENGTH,
 };
 
 impl Replica {
@@ -85,7 +85,7 @@ impl Replica {
     }
 
     /// Takes one step at the turn's message: commits its next writeset, or passes over a message
-    /// without records. Refused by 21, 22.
+    /// without records. Refused by 21.
     pub fn work(&mut self) -> Result<Work, u8> {
         let (work, _) = self.step()?;
         Ok(work)
@@ -126,9 +126,11 @@ impl Replica {
         work.moved = self.done + 1 == message.records.len();
         if self.is_own(work.sender) {
             let sent = |t: &Transaction| t.ticket == record.ticket && t.stage == Stage::Sent;
-            let at = self.open.iter().position(sent);
-            self.open.remove(at.ok_or(NOT_OPEN_AS_SENT)?);
-            self.committed += 1;
+            // On an altered state alone there is none, and nobody ends.
+            if let Some(at) = self.open.iter().position(sent) {
+                self.open.remove(at);
+                self.committed += 1;
+            }
         } else {
             let hit = |t: &Transaction| {
                 let written = |item| t.writes.contains_key(item);

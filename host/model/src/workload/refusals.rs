@@ -1,4 +1,4 @@
-//! The refusal numbers, and the first of them where several conditions hold. Only 6, 13 and 22 are
+//! The refusal numbers, and the first of them where several conditions hold. Only 6 and 13 are
 //! missing: no list of calls reaches them in reasonable time, or at all.
 
 use super::List;

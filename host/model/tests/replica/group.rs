@@ -91,7 +91,7 @@ fn no_violation() {
     assert!(seen.read_only > 200 && seen.withdrawn > 200, "{seen:?}");
     assert!(seen.sent[0] > 100 && seen.sent[6] > 10, "{seen:?}");
     assert!(seen.sent.iter().all(|&blocks| blocks > 10), "{seen:?}");
-    // Neither tickets nor slots are spent here, and 22 has no list of calls.
+    // Neither tickets nor slots are spent here, and 22 is no number any more.
     let due: Vec<usize> = (1..24).filter(|n| ![6, 13, 22].contains(n)).collect();
     assert_eq!(seen.numbers(20), due, "{seen:?}");
 }

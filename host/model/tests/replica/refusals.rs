@@ -1,5 +1,4 @@
 //! Every number of document 01's table, each from a state in which the call would else be taken.
-//! The number 22 is reached in the crate's own tests, since no list of calls leads to it.
 
 use model::block::{self, BLOCK, MAX_TICKET};
 use model::replica::{Replica, SLOTS};

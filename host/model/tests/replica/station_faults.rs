@@ -18,8 +18,8 @@ pub enum Fault {
     NumberLast,
     /// Its number is 255, which divided by N leaves that of a sender.
     Number255,
-    /// It takes the writesets of replica 0 as its own, and looks for the transactions to end.
-    EndsItsOwn,
+    /// It counts each work as the end of a transaction of its own.
+    CountsCommitted,
     /// It sends in the slots of replica 0.
     Sends,
     /// It lets its transactions write.
@@ -34,13 +34,12 @@ pub enum Fault {
     ReadsNow,
 }
 
-/// Each fault, and whether the observer objects. To 22 it does not, which a station cannot tell from a
-/// replica that is stuck.
+/// Each fault, and whether the observer objects. To a count of its own endings it does not.
 pub const FAULTS: [(Fault, bool); 10] = [
     (Fault::NumberZero, true),
     (Fault::NumberLast, true),
     (Fault::Number255, true),
-    (Fault::EndsItsOwn, false),
+    (Fault::CountsCommitted, false),
     (Fault::Sends, true),
     (Fault::Writes, true),
     (Fault::OtherReasonsFirst, true),
@@ -82,7 +81,11 @@ impl Subject for Faulty {
             (Fault::NumberZero, Call::Deliver { .. }) => self.call_as(0, call),
             (Fault::NumberLast, Call::Deliver { .. }) => self.call_as(n - 1, call),
             (Fault::Number255, Call::Deliver { .. }) => self.call_as(255 % n, call),
-            (Fault::EndsItsOwn, Call::Work) => self.call_as(0, call),
+            (Fault::CountsCommitted, Call::Work) => {
+                let answer = self.machine.call(call)?;
+                self.machine.replica.committed += 1;
+                Ok(answer)
+            }
             (Fault::Sends, Call::Send) => self.call_as(0, call),
             (Fault::Writes, Call::Write { .. }) => self.call_as(0, call),
             (Fault::OtherReasonsFirst, Call::Write { .. } | Call::Send) => {

@@ -85,18 +85,18 @@ static inline void deliver_and_work(
     uint8_t block[STEMLINE_BLOCK] = {0};
     memset(due, 0, sizeof *due);
     due->number = stemline_replica_deliver(r, bytes, length);
-    while (due->number == 0 && due->refused == 0 && due->count < STEMLINE_STEPS) {
+    while (due->number == 0 && due->count < STEMLINE_STEPS) {
         stemline_work_reply work = hold_work(stemline_replica_work, r, block);
-        due->refused = work.number;
-        if (work.number == 0) {
-            due->steps[due->count++] = work;
+        if (work.number != 0) {
+            hold(work.number == STEMLINE_NOTHING_WAITS, "take: a work refused by another number than 21");
+            break;
         }
+        due->steps[due->count++] = work;
         if (work.append) {
             hold(due->append_count < STEMLINE_REPLICAS, "take: too many blocks to append");
             memcpy(due->append[due->append_count++], block, sizeof block);
         }
     }
-    due->refused = due->refused == STEMLINE_NOTHING_WAITS ? 0 : due->refused;
 }
 
 /* A take gives what a deliver and its works give, zeros behind, and leaves the same. It is tried on
@@ -108,7 +108,7 @@ static inline void hold_take(const stemline_replica *r, const uint8_t *bytes, si
     memcpy(&calling, r, sizeof calling);
     stemline_take_reply taken = take_on_dirt(&taking, bytes, length);
     deliver_and_work(&due, &calling, bytes, length);
-    hold(taken.number == due.number && taken.refused == due.refused, "take: another number");
+    hold(taken.number == due.number, "take: another number");
     hold(taken.count == due.count, "take: another count of steps");
     hold(taken.append_count == due.append_count, "take: another count of blocks");
     for (int i = 0; i < STEMLINE_STEPS; i++) {

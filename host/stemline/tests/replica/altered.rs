@@ -255,19 +255,19 @@ fn same_append(before: &Lent, after: &Lent, answer: &str) {
 /// same, by steps that say less.
 fn same_take(memory: &Lent) {
     let mut calling = Replica::from_memory(memory.memory());
-    let mut due = calling.deliver(&memory.bytes).map(|()| Taken {
-        steps: Vec::new(),
-        refused: None,
-    });
+    let mut due = calling
+        .deliver(&memory.bytes)
+        .map(|()| Taken { steps: Vec::new() });
     if let Ok(due) = &mut due {
-        while due.steps.len() < STEPS && due.refused.is_none() {
+        while due.steps.len() < STEPS {
             match calling.work() {
                 Ok(step) => due.steps.push(step),
-                Err(refusal) => due.refused = Some(refusal),
+                // Behind a deliver that is accepted no work is refused by another number.
+                Err(refusal) => {
+                    assert_eq!(refusal, Refusal::NothingWaits);
+                    break;
+                }
             }
-        }
-        if due.refused == Some(Refusal::NothingWaits) {
-            due.refused = None;
         }
     }
     let mut taking = Replica::from_memory(memory.memory());
@@ -277,8 +277,8 @@ fn same_take(memory: &Lent) {
     assert_eq!(station.is_some(), memory.counts.own == NO_NUMBER);
     if let Some(mut station) = station {
         let taken = station.take(&memory.bytes);
-        let steps = taken.map(|taken| (stations::said(&taken.steps), taken.refused));
-        let due = due.map(|due| (stations::said_by_replica(&due.steps), due.refused));
+        let steps = taken.map(|taken| stations::said(&taken.steps));
+        let due = due.map(|due| stations::said_by_replica(&due.steps));
         assert_eq!(steps, due);
         assert!(station.memory() == calling.memory(), "take: another memory");
     }

@@ -216,7 +216,7 @@ fn alone(single: &mut Noted, mut peers: Peers, style: Style, random: &mut Random
     peers.seen
 }
 
-/// Random lists: the C program answers as the model does. No list of calls leads to 22.
+/// Random lists: the C program answers as the model does.
 #[test]
 fn random_lists() {
     let mut seen = Seen::default();
@@ -238,9 +238,7 @@ fn random_lists() {
         let list = list.take();
         compare(&program, &list.lines, &list.due);
     });
-    let mut all = NUMBERS.to_vec();
-    all.retain(|&number| number != 22);
-    let enough = seen.numbers(20) == all && seen.restarts > 500 && seen.offered_again > 20;
+    let enough = seen.numbers(20) == NUMBERS && seen.restarts > 500 && seen.offered_again > 20;
     assert!(seeds.runs < RUNS || enough, "{seen:?}");
 }
 
@@ -317,8 +315,8 @@ fn refused_makes() {
     assert_eq!(run_c("makes", source, b""), due);
 }
 
-/// A take at altered memory: a work refused by 22 ends the steps, and those before it are given; refused by
-/// its deliver, a take gives nothing but the number.
+/// A take at altered memory: a writeset whose transaction is gone is committed as the others; refused by its
+/// deliver, a take gives nothing but the number.
 #[test]
 fn takes_at_altered_memory() {
     let source = r#"
@@ -340,7 +338,7 @@ fn takes_at_altered_memory() {
                 hold_take(&r, block, sizeof block);
                 stemline_take_reply taken = stemline_replica_take(&r, block, sizeof block);
                 block[20] ^= (uint8_t)(trial == 0);
-                printf("%d %d:", taken.number, taken.refused);
+                printf("%d:", taken.number);
                 for (int i = 0; i < taken.count; i++) {
                     printf(" %u", (unsigned)taken.steps[i].ticket);
                 }
@@ -349,7 +347,7 @@ fn takes_at_altered_memory() {
             return 0;
         }
     "#;
-    assert_eq!(run_c("takes", source, b""), "14 0:\n0 22: 1 2\n20 0:\n");
+    assert_eq!(run_c("takes", source, b""), "14:\n0: 1 2 3\n17:\n");
 }
 
 /// It is never a station's turn, also where altered memory has no replicas and the slot is its number.

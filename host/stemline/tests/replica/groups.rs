@@ -1,19 +1,18 @@
 //! Random lists of calls at whole groups with stations, and at single replicas and stations among forged
 //! peers: library and model give the same answers and hold the same memory after every call.
 
+use model::drive::Seen;
 use soak::runs;
 
 use crate::c::say;
-use crate::ends;
 use crate::seeds::Seeds;
 
 const RUNS: u64 = 400;
 
-/// A million calls and more, of which every refusal number of the table comes back; 22 on a memory
-/// set up for it.
+/// A million calls and more, of which every refusal number of the table comes back.
 #[test]
 fn library_and_model_give_the_same() {
-    let mut seen = ends::own_writesets_not_open_as_sent();
+    let mut seen = Seen::default();
     let seeds = Seeds::new(RUNS);
     seeds.each(|seed| seen.add(&runs::run(seed)));
     // The gate is to show them.

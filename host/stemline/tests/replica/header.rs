@@ -141,7 +141,7 @@ fn numbers_have_one_name() {
     }
     let cases = cases!(WrongLength OutOfRange NotOpen NotActive AllOpen TicketsSpent Applying Locked Stale
         WritesetFull NotOurTurn AlreadySent SlotsSpent WrongCheck WrongForm WrongGroup PastSlot FarSlot
-        NotSent SlotTaken NothingWaits NotOpenAsSent LoadWhileApplying StationOnlyReads);
+        NotSent SlotTaken NothingWaits LoadWhileApplying StationOnlyReads);
     let (mut due, mut lines) = (String::new(), String::new());
     for (case, refusal) in cases {
         let mut name = String::new();

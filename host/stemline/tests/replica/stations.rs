@@ -194,7 +194,6 @@ fn fed_from_a_journal() {
     let mut begun = Vec::new();
     while let Some(block) = blocks.get(station.report().turn as usize) {
         let taken = station.take(block).unwrap();
-        assert_eq!(taken.refused, None);
         assert!(taken.steps.last().is_some_and(|step| step.moved));
         if begun.len() < 6 {
             begun.push((station.begin().unwrap(), *station.values()));

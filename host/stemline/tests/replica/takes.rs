@@ -70,10 +70,7 @@ impl Taking {
             let appended: Vec<u8> = appended.collect();
             assert!(appended == calls.disk()[self.both.disk().len()..]);
         }
-        let given = taken.map(|taken| {
-            assert_eq!(taken.refused, None);
-            taken.steps.iter().map(worked).collect()
-        });
+        let given = taken.map(|taken| taken.steps.iter().map(worked).collect());
         assert_eq!(given.map_err(Refusal::number), due);
         assert!(library.memory() == calls.library.memory(), "another memory");
     }
@@ -155,7 +152,7 @@ fn all_waiting() -> (Replica, [u8; 512]) {
             .map(|(ticket, entries)| (*ticket, &entries[..]))
             .collect();
         let taken = replica.take(&block_of(6, slot, &records)).unwrap();
-        assert!(taken.steps.is_empty() && taken.refused.is_none());
+        assert!(taken.steps.is_empty());
     }
     (replica, own)
 }
@@ -171,14 +168,14 @@ fn the_most_steps() {
     assert_eq!(replica.take(&own[1..]), Err(Refusal::WrongLength));
     assert!(replica == before, "changed by a refused take");
     let taken = replica.take(&own).unwrap();
-    assert_eq!((taken.steps.len(), taken.refused), (STEPS, None));
+    assert_eq!(taken.steps.len(), STEPS);
     assert_eq!(replica.report().turn, 6);
     assert_eq!(replica.work(), Err(Refusal::NothingWaits));
     assert_eq!(replica.take(&own), Err(Refusal::PastSlot));
 }
 
-/// Altered memory: at an own transaction that is gone 22 ends the steps, and those before it are done
-/// and given; and of more steps than a replica can have the rest is left.
+/// Altered memory: the writeset of an own transaction that is gone is committed and ends nobody, as the steps
+/// beside it; and of more steps than a replica can have the rest is left.
 #[test]
 fn altered_memory() {
     let (replica, own) = all_waiting();
@@ -190,14 +187,15 @@ fn altered_memory() {
     let mut gone = altered(&|memory| memory.table[2].ticket = 0);
     let taken = gone.take(&own).unwrap();
     let tickets: Vec<u32> = taken.steps.iter().map(|step| step.ticket).collect();
-    assert_eq!(tickets, [1, 2]);
-    assert_eq!(taken.refused, Some(Refusal::NotOpenAsSent));
-    assert_eq!(gone.report().commits, 2);
-    assert_eq!(gone.work(), Err(Refusal::NotOpenAsSent));
+    assert_eq!(tickets[..6], [1, 2, 3, 4, 5, 6]);
+    assert_eq!(taken.steps.len(), STEPS);
+    // One ending less than writesets of its own.
+    assert_eq!(gone.report().committed, 5);
+    assert_eq!(gone.report().open_count, 0);
 
     let mut many = altered(&|memory| memory.places[512 + 3] = 200);
     let taken = many.take(&own).unwrap();
-    assert_eq!((taken.steps.len(), taken.refused), (STEPS, None));
+    assert_eq!(taken.steps.len(), STEPS);
     assert_eq!(many.report().turn, 1);
     assert!(many.work().is_ok(), "the rest is left");
 }
