@@ -29,8 +29,9 @@
  *   replica's journal, as far as it is durable, has them in order.
  *
  * A replica that is to outlast a cut of the power has a journal: a file of blocks,
- * one behind the other, which the host keeps. A file that is new is durable once
- * its folder is (fsync).
+ * one behind the other, which the host keeps. stemline_journal.h does all of the
+ * following, with a head that says whose file it is. A file that is new is durable
+ * once its folder is (fsync).
  *
  * - Send: append the block, make the file durable (fsync), then hand the block out.
  * - Work and take: append the blocks that they give for it, in order, before the

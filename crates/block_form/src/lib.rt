@@ -64,21 +64,21 @@ fn zero(part: &[u8]) -> bool
 // The first n of eight entries, and the zeros after them.
 // An item is read with its three unused bytes: where they are not zero, the number is 256 or more.
 fn entries_fit(part: &[u8], n: usize) -> bool
-    requires { ⌜ (length (now part) ≡ 64) × (n ≤ 8) ⌝ }
+    requires { ⌜ (length (now part) ≡ 64) × (n ≤ 8) × (1 ≤ n) ⌝ }
     ensures { λ r. ⌜ r ≡ (entriesFit 0 (entriesOf n (now (part .entry))) && entriesPadded n (now (part .entry))) ⌝ }
 {
-    let mut low: u32 = 0;
-    let mut e: usize = 0;
+    let mut last = number_at(part, 0);
+    let mut e: usize = 1;
     while e < n {
         let item = number_at(part, 8 * e);
-        if item < low {
+        if item <= last {
             return false;
         }
-        if 127 < item {
-            return false;
-        }
-        low = item + 1;
+        last = item;
         e += 1;
+    }
+    if 127 < last {
+        return false;
     }
     zero(&part[8 * n..])
 }

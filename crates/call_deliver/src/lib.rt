@@ -37,14 +37,15 @@ fn same_bytes(a: &[u8], b: &[u8]) -> bool
     if a.len() != b.len() {
         return false;
     }
+    let mut same = true;
     let mut i: usize = 0;
     while i < a.len() {
         if a[i] != b[i] {
-            return false;
+            same = false;
         }
         i += 1;
     }
-    true
+    same
 }
 
 // Whether a block names this replica as its sender and is not the one it sent for its present turn.

@@ -23,7 +23,7 @@ use model::block::{self, BLOCK};
 use model::drive::start_values;
 use model::samples::Random;
 use model::trace::{Answer, Call};
-use stemline::{Durable, Station};
+use stemline::{Durable, Station, HEAD};
 
 pub use self::log::{Log, Met};
 use crate::both::report;
@@ -70,7 +70,7 @@ impl Crash {
             }
         }
         let k = self.random.below(N);
-        let bytes = fs::read(journal(&self.room, k)).unwrap_or_default();
+        let bytes = studio::lent(&journal(&self.room, k));
         let durable = self.log.observer.journal(k).floor();
         feed(&mut self.station, &bytes[..durable]);
     }
@@ -100,9 +100,13 @@ impl Crash {
         };
         let length = file.metadata().unwrap().len() as usize;
         let floor = self.log.observer.journal(k).floor();
+        let Some(length) = length.checked_sub(HEAD).filter(|&blocks| blocks > 0) else {
+            assert_eq!(floor, 0, "journal {k}: no blocks");
+            return;
+        };
         assert!(floor <= length, "journal {k}: {length} bytes of {floor}");
         let left = floor + self.random.below(length - floor + 1);
-        file.set_len(left as u64).unwrap();
+        file.set_len((HEAD + left) as u64).unwrap();
     }
 
     /// Opens the replicas a last time and lets them come to rest: then demand 3 holds, and nothing is lost.
@@ -116,8 +120,7 @@ impl Crash {
             self.log.restarted(k, None, restarted);
         }
         settle(&mut self.log, &mut group, &mut last);
-        let bytes = fs::read(journal(&self.room, 0)).unwrap();
-        feed(&mut self.station, &bytes);
+        feed(&mut self.station, &studio::lent(&journal(&self.room, 0)));
         self.check(&group);
         fs::remove_dir_all(&self.room).unwrap();
         Met {
@@ -137,7 +140,7 @@ impl Crash {
         assert_eq!(station, (ends[0].0.turn, &ends[0].1), "the station");
         for (k, (report, values)) in ends.iter().enumerate() {
             assert_eq!((report.turn, values), (ends[0].0.turn, &ends[0].1));
-            let bytes = fs::read(journal(&self.room, k)).unwrap();
+            let bytes = studio::lent(&journal(&self.room, k));
             assert_eq!(bytes.len(), BLOCK * report.turn as usize);
             assert!(bytes == log.observer.journal(k).bytes(), "journal {k}");
             for block in &log.handed_out {

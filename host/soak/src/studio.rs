@@ -7,19 +7,46 @@ use model::block::BLOCK;
 use model::drive::{start_values, Powered, Subject};
 use model::replica::{self as second, Report, Restarted, ITEMS};
 use model::trace::{Answer, Call, Restart};
-use stemline::{Asked, Durable, Failure, Replica};
+use stemline::{Asked, Block, Durable, Failure, Head, Replica, HEAD};
 
 use crate::both::{report, same, worked};
 use crate::lines::Named;
 
 /// Opens replica `own` of `n`, with the tests' values; the answer as the model's.
 pub fn open(path: &Path, n: u32, own: u32) -> (Durable, Restarted) {
-    let (durable, restarted) = Durable::open(path, n, own, &start_values()).unwrap();
+    let opened = Durable::open(path, "studio", n, own, &start_values());
+    let (durable, reopened) = opened.unwrap();
     let restarted = Restarted {
-        count: restarted.blocks,
-        block: Box::new(restarted.last.unwrap_or([0; BLOCK])),
+        count: reopened.blocks,
+        block: Box::new(reopened.last.unwrap_or([0; BLOCK])),
     };
     (durable, restarted)
+}
+
+/// The blocks that a file has for an open, torn ones too: with those that it mends from the copies. Of a
+/// file that is not there, or not yet made, none.
+pub fn lent(path: &Path) -> Vec<u8> {
+    let file = fs::read(path).unwrap_or_default();
+    let Ok(head) = Head::read(&file) else {
+        return Vec::new();
+    };
+    let (front, blocks) = file.split_at(HEAD);
+    let mut blocks = blocks.to_vec();
+    let good = |blocks: &[u8], slot: usize| {
+        let bytes = blocks.get(BLOCK * slot..).unwrap_or(&[]);
+        let block = bytes.get(..BLOCK).map(Block::read);
+        block.is_some_and(|block| block.is_ok_and(|block| block.slot() as usize == slot))
+    };
+    let mut copies = head.copies(front);
+    copies.sort_by_key(|copy| copy[0].slot());
+    for block in copies.iter().flatten() {
+        let slot = block.slot() as usize;
+        if slot <= blocks.len() / BLOCK && !good(&blocks, slot) {
+            blocks.resize(blocks.len().max(BLOCK * (slot + 1)), 0);
+            blocks[BLOCK * slot..][..BLOCK].copy_from_slice(block.bytes());
+        }
+    }
+    blocks
 }
 
 /// One call, its answer as the model's. Stops where the disk fails.
@@ -61,6 +88,8 @@ pub struct Studio {
     /// What the model says is in the file, and what of it a cut leaves at least.
     disk: Vec<u8>,
     floor: usize,
+    /// The file's head before the last own block was sent: a cut that loses that block may lose its copy.
+    head: Vec<u8>,
 }
 
 impl Studio {
@@ -74,13 +103,21 @@ impl Studio {
             path,
             disk: Vec::new(),
             floor: 0,
+            head: Vec::new(),
         }
     }
 
     /// That the file has what the model says was appended.
     pub fn check_file(&self) {
         let file = fs::read(&self.path).unwrap();
-        assert!(file == self.disk, "{}", self.path.display());
+        assert!(file[HEAD..] == self.disk, "{}", self.path.display());
+    }
+
+    /// The head that the file has now.
+    fn file_head(&self) -> Vec<u8> {
+        let mut file = fs::read(&self.path).unwrap();
+        file.truncate(HEAD);
+        file
     }
 
     /// That all the memory is the model's. It is not given out, but shown.
@@ -100,6 +137,9 @@ impl Studio {
 impl Subject for Studio {
     fn call(&mut self, call: &Call) -> Result<Answer, u8> {
         let _named = Named::of(&self.model, call);
+        if *call == Call::Send {
+            self.head = self.file_head();
+        }
         let answer = play(self.durable.as_mut().expect("it is open"), call);
         let due = self.model.call_journaled(call, &mut self.disk);
         assert_eq!(answer, due, "{call:?}: the library's answer, the model's");
@@ -130,7 +170,12 @@ impl Powered for Studio {
     fn restart(&mut self, restart: &Restart) -> Result<Restarted, u8> {
         self.check_file();
         self.durable = None;
-        fs::write(&self.path, &restart.journal).unwrap();
+        // Behind a whole journal the copy is there too: else it would be mended from it.
+        let head = match restart.journal.len() < self.floor {
+            true => self.head.clone(),
+            false => self.file_head(),
+        };
+        fs::write(&self.path, [&head[..], &restart.journal].concat()).unwrap();
         let (durable, restarted) = open(&self.path, restart.n, restart.own);
         assert_eq!(Ok(&restarted), restart.run(&mut self.model).as_ref());
         self.check_memory(&durable, restart);

@@ -7,6 +7,8 @@ use std::process::{Command, Output};
 
 use model::block::BLOCK;
 use soak::crash::{journal, Crash};
+use soak::studio::lent;
+use stemline::HEAD;
 
 const PROGRAM: &str = env!("CARGO_BIN_EXE_soak");
 
@@ -63,7 +65,7 @@ fn bad_words() {
 fn killed(name: &str) -> (Crash, PathBuf) {
     let room = Path::new(env!("CARGO_TARGET_TMPDIR")).join(name);
     let mut crash = Crash::new(&room, 3);
-    let blocks = |k| crash_length(&room, k) / BLOCK as u64;
+    let blocks = |k| lent(&journal(&room, k)).len() / BLOCK;
     let mut kills = 0;
     while (0..3).any(|k| blocks(k) < 6) {
         crash.kill(Command::new(PROGRAM));
@@ -71,10 +73,6 @@ fn killed(name: &str) -> (Crash, PathBuf) {
         assert!(kills < 400, "no blocks");
     }
     (crash, room)
-}
-
-fn crash_length(room: &Path, k: usize) -> u64 {
-    fs::metadata(journal(room, k)).map_or(0, |file| file.len())
 }
 
 /// Whether the check of a killed group passes.
@@ -87,19 +85,29 @@ fn nothing_lost() {
     assert!(passes(killed("kept").0));
 }
 
-/// The end of a journal, from the last own block on; and the whole of it.
+/// The end of a journal, from the last own block on, with both copies; and the whole of it.
 #[test]
 fn a_loss_is_found() {
     for whole in [false, true] {
         let (crash, room) = killed("lost");
-        for k in 0..3 {
-            let floor = crash.log.observer.journal(k).floor() as u64;
-            let left = if whole { 0 } else { floor - BLOCK as u64 };
-            let file = OpenOptions::new().write(true).open(journal(&room, k));
-            if k == 1 {
-                file.unwrap().set_len(left).unwrap();
-            }
-        }
+        let mut file = fs::read(journal(&room, 1)).unwrap();
+        file[4_096..HEAD].fill(0);
+        let floor = crash.log.observer.journal(1).floor();
+        file.truncate(if whole { 0 } else { HEAD + floor - BLOCK });
+        fs::write(journal(&room, 1), file).unwrap();
         assert!(!passes(crash), "the whole journal: {whole}");
     }
+}
+
+/// The end alone is mended from the copies.
+#[test]
+fn a_loss_is_mended() {
+    let (crash, room) = killed("mended");
+    for k in 0..3 {
+        let floor = crash.log.observer.journal(k).floor();
+        let file = OpenOptions::new().write(true).open(journal(&room, k));
+        let left = HEAD + floor - BLOCK - 9;
+        file.unwrap().set_len(left as u64).unwrap();
+    }
+    assert!(passes(crash));
 }

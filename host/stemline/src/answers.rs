@@ -54,6 +54,7 @@ impl Work {
 }
 
 /// What a [`crate::Replica::restart`] took up.
+#[must_use = "the journal is to be cut, and the last block to be handed out once more"]
 #[derive(Clone, Debug, PartialEq, Eq)]
 pub struct Restarted {
     /// The blocks of the journal that are committed. It goes on behind them; the rest is to be cut off.

@@ -28,11 +28,11 @@ pub enum Stop {
     Torn(usize),
     /// The next block is refused: by 14 or 15.
     Refused(Refusal),
-    /// The next block is of a group of `found` replicas, and the first one of `due`.
+    /// The next block is of a group of `found` replicas, and the first one, or the head, of `due`.
     Group {
         /// The size that the block names.
         found: u8,
-        /// The size that the first block names.
+        /// The size of the group.
         due: u8,
     },
     /// The next block is of slot `found`, in the place of `due`.
@@ -45,12 +45,22 @@ pub enum Stop {
 }
 
 impl<R: Read> Blocks<R> {
-    /// Of the bytes that this reader gives.
+    /// Of the bytes that this reader gives, from slot 0 on, without a head.
     pub fn new(source: R) -> Blocks<R> {
         Blocks {
             source,
             good: 0,
             replicas: None,
+            behind: 0,
+        }
+    }
+
+    /// Of a reader that stands at this slot of the journal of a group of `n`: 0 behind its head.
+    pub fn of(source: R, n: u32, slot: u32) -> Blocks<R> {
+        Blocks {
+            source,
+            good: slot,
+            replicas: Some(n as u8),
             behind: 0,
         }
     }
@@ -100,7 +110,7 @@ impl fmt::Display for Stop {
             Stop::Group { found, due } => {
                 write!(
                     f,
-                    "the block is of a group of {found}, the first of one of {due}"
+                    "the block is of a group of {found}, the journal of one of {due}"
                 )
             }
             Stop::Slot { found, due } => {

@@ -1,6 +1,5 @@
 //! The steps of a journal at the disk. In tests each is told before it is done, and can be let fail.
 
-use std::fmt::Arguments;
 use std::fs::{File, OpenOptions, TryLockError};
 use std::io::{self, Read, Seek, SeekFrom, Write};
 use std::path::Path;
@@ -12,44 +11,45 @@ pub(crate) struct Disk {
 }
 
 impl Disk {
-    /// Opens a file, or makes it, and gives its bytes, by one read. A write goes on behind them.
-    pub(crate) fn open(path: &Path) -> io::Result<(Disk, Vec<u8>)> {
+    /// Opens a file, or makes it, and gives its length.
+    pub(crate) fn open(path: &Path) -> io::Result<(Disk, u64)> {
         let mut options = OpenOptions::new();
         let options = options.read(true).write(true).create(true).truncate(false);
-        let mut file = options.open(path)?;
+        let file = options.open(path)?;
         file.try_lock().map_err(|error| match error {
             TryLockError::WouldBlock => io::Error::other("it is open already"),
             TryLockError::Error(error) => error,
         })?;
+        let kind = file.metadata()?;
+        if !kind.is_file() {
+            return Err(io::Error::other("it is no file on a disk"));
+        }
         sync_folder(path)?;
-        let mut bytes = vec![0; usize::try_from(file.metadata()?.len()).map_err(io::Error::other)?];
-        file.read_exact(&mut bytes)?;
-        Ok((Disk { file }, bytes))
+        Ok((Disk { file }, kind.len()))
     }
 
-    /// Writes behind what was read or written last.
-    pub(crate) fn write(&mut self, bytes: &[u8]) -> io::Result<()> {
-        tell(format_args!("write {}", bytes.len()))?;
+    /// A reader of what is from this byte on.
+    pub(crate) fn reader(&mut self, at: u64) -> io::Result<impl Read + '_> {
+        self.file.seek(SeekFrom::Start(at))?;
+        Ok(&mut self.file)
+    }
+
+    /// Writes from this byte on.
+    pub(crate) fn write(&mut self, at: u64, bytes: &[u8]) -> io::Result<()> {
+        tell(|| Step::Write(at, bytes.to_vec()))?;
+        self.file.seek(SeekFrom::Start(at))?;
         self.file.write_all(bytes)
     }
 
-    /// Writes what is read from `from` to `to` there once more; the next write goes on behind it.
-    pub(crate) fn renew(&mut self, from: u64, to: u64) -> io::Result<()> {
-        tell(format_args!("renew {from} to {to}"))?;
-        let mut bytes = vec![0; (to - from) as usize];
-        self.file.seek(SeekFrom::Start(from))?;
-        self.file.read_exact(&mut bytes)?;
-        self.file.seek(SeekFrom::Start(from))?;
-        self.file.write_all(&bytes)
-    }
-
+    /// Makes the file so long, be it shorter or longer; what is new is zero.
     pub(crate) fn cut(&mut self, length: u64) -> io::Result<()> {
-        tell(format_args!("cut {length}"))?;
+        tell(|| Step::Cut(length))?;
         self.file.set_len(length)
     }
 
+    /// Makes all that was written durable.
     pub(crate) fn sync(&mut self) -> io::Result<()> {
-        tell(format_args!("sync"))?;
+        tell(|| Step::Sync)?;
         self.file.sync_data()
     }
 }
@@ -68,21 +68,35 @@ fn sync_folder(path: &Path) -> io::Result<()> {
         Some(folder) if folder != Path::new("") => folder,
         _ => Path::new("."),
     };
-    tell(format_args!("folder {}", folder.display()))?;
-    match cfg!(unix) {
-        true => File::open(folder)?.sync_all(),
+    tell(|| Step::Folder(folder.display().to_string()))?;
+    let synced = match cfg!(unix) {
+        true => File::open(folder).and_then(|folder| folder.sync_all()),
         false => Ok(()),
-    }
+    };
+    synced.map_err(|error| {
+        let words = format!("its folder cannot be made durable: {error}");
+        io::Error::new(error.kind(), words)
+    })
+}
+
+/// A step that changes something.
+#[derive(Clone, Debug, PartialEq, Eq)]
+#[cfg_attr(not(test), allow(dead_code))]
+pub(crate) enum Step {
+    Folder(String),
+    Write(u64, Vec<u8>),
+    Cut(u64),
+    Sync,
 }
 
 #[cfg(not(test))]
-fn tell(_: Arguments) -> io::Result<()> {
+fn tell(_: impl FnOnce() -> Step) -> io::Result<()> {
     Ok(())
 }
 
 #[cfg(test)]
-fn tell(step: Arguments) -> io::Result<()> {
-    told::tell(step.to_string())
+fn tell(step: impl FnOnce() -> Step) -> io::Result<()> {
+    told::tell(step())
 }
 
 /// The steps of this thread's journals, which are a test's.
@@ -91,13 +105,29 @@ pub(crate) mod told {
     use std::cell::{Cell, RefCell};
     use std::io;
 
+    use super::Step;
+
     thread_local! {
-        static STEPS: RefCell<Vec<String>> = const { RefCell::new(Vec::new()) };
+        static STEPS: RefCell<Vec<Step>> = const { RefCell::new(Vec::new()) };
         static FAILS: Cell<Option<&'static str>> = const { Cell::new(None) };
     }
 
-    pub(super) fn tell(step: String) -> io::Result<()> {
-        let fails = FAILS.get().is_some_and(|word| step.starts_with(word));
+    impl Step {
+        /// Its line, without the bytes.
+        fn line(&self) -> String {
+            match self {
+                Step::Folder(folder) => format!("folder {folder}"),
+                Step::Write(at, bytes) => format!("write {} at {at}", bytes.len()),
+                Step::Cut(length) => format!("cut {length}"),
+                Step::Sync => "sync".to_string(),
+            }
+        }
+    }
+
+    pub(super) fn tell(step: Step) -> io::Result<()> {
+        let fails = FAILS
+            .get()
+            .is_some_and(|word| step.line().starts_with(word));
         STEPS.with_borrow_mut(|steps| steps.push(step));
         match fails {
             true => {
@@ -108,13 +138,18 @@ pub(crate) mod told {
         }
     }
 
-    /// Lets the next step fail that begins with this word.
+    /// Lets the next step fail whose line begins so.
     pub(crate) fn fail(word: &'static str) {
         FAILS.set(Some(word));
     }
 
-    /// The steps since this was asked last.
-    pub(crate) fn steps() -> Vec<String> {
+    /// The steps since they were asked for last.
+    pub(crate) fn taken() -> Vec<Step> {
         STEPS.take()
+    }
+
+    /// Their lines.
+    pub(crate) fn steps() -> Vec<String> {
+        taken().iter().map(Step::line).collect()
     }
 }

@@ -1,10 +1,15 @@
 //! A replica whose blocks stand in a journal, so that it can be opened again after a cut of the power.
 
+use std::io::{self, Write};
 use std::path::Path;
 use std::{error, fmt};
 
+use crate::head::Head;
+use crate::journal::Journal;
+use crate::outcome::Outcomes;
 use crate::{
-    Asked, DiskError, Journal, Refusal, Replica, Report, Restarted, Taken, Work, BLOCK, ITEMS,
+    Asked, Calls, Digest, DiskError, Outcome, Recorder, Refusal, Reopened, Replica, Report,
+    Restarted, Taken, Work, BLOCK, ITEMS,
 };
 
 /// One replica of a group with its journal in a file.
@@ -16,32 +21,41 @@ use crate::{
 /// more than the file has. The [`Replica`] itself is not given out, since after a failed send it holds a
 /// block that nobody may have.
 ///
-/// What an open cuts off the file has a limit, which [`Durable::open`] names.
+/// The file says whose journal it is ([`crate::Head`]), and keeps copies of its last two rounds: what an
+/// open takes up, mends, cuts off and refuses, [`Durable::open`] names.
 ///
 /// ```
 /// use stemline::{Durable, Failure, ITEMS};
 ///
 /// fn main() -> Result<(), Failure> {
 ///     let path = std::env::temp_dir().join(format!("stemline-{}.journal", std::process::id()));
-///     let (mut replica, _) = Durable::open(&path, 2, 0, &[0; ITEMS])?;
+///     let (mut replica, _) = Durable::open(&path, "grotesque", 2, 0, &[0; ITEMS])?;
 ///     let ticket = replica.begin()?;
 ///     replica.write(ticket, 5, 40)?;
 ///     replica.ask(ticket)?;
 ///     let block = replica.send()?;
 ///     // The power is cut before anybody has the block.
 ///     drop(replica);
-///     let (replica, restarted) = Durable::open(&path, 2, 0, &[0; ITEMS])?;
+///     let (replica, reopened) = Durable::open(&path, "grotesque", 2, 0, &[0; ITEMS])?;
 ///     assert_eq!(replica.values()[5], 40);
+///     assert_eq!(reopened.committed, [ticket]);
 ///     // It is handed out once more.
-///     assert_eq!(restarted.last, Some(block));
+///     assert_eq!(reopened.last, Some(block));
+///     // Nobody else's file is taken up.
+///     drop(replica);
+///     let other = Durable::open(&path, "antiqua", 2, 0, &[0; ITEMS]);
+///     let words = "it is of the group \"grotesque\", not of \"antiqua\"";
+///     assert!(other.unwrap_err().to_string().ends_with(words));
 /// #   let _ = std::fs::remove_file(path);
 ///     Ok(())
 /// }
 /// ```
 #[derive(Debug)]
-pub struct Durable {
-    replica: Replica,
+pub struct Durable<R = Replica> {
+    replica: R,
     journal: Journal,
+    outcomes: Outcomes,
+    last: Option<[u8; BLOCK]>,
 }
 
 /// Why a call at a [`Durable`] gives nothing. Both `{}` and `{:?}` write the words.
@@ -53,42 +67,32 @@ pub enum Failure {
 }
 
 impl Durable {
-    /// Opens replica `own` of `n` from its journal, with the group's values to start with; with no
-    /// file, or an empty one, it is a new replica. What a cut tore is cut off the file. The last own
-    /// block goes to every replica of the group once more. No classes are loaded. Refused by 2.
+    /// Opens replica `own` of `n` of a group from its journal, with the group's values to start with. With
+    /// no file, or an empty one, it is a new replica, and the file gets its head. The last own block goes to
+    /// every replica of the group once more. No classes are loaded. Refused by 2.
     ///
-    /// A cut tears at most the blocks up to the next own slot, `n` at most, since that one's is made
-    /// durable before anything follows. A file with more behind its last good block is left as it is, with
-    /// an error: it is damaged, or of a group of another size. Damage within what a cut can tear looks as
-    /// if a cut had torn it: it is cut off, also an own block that was handed out.
+    /// A file with another head, of another replica, group, size or start, or with none, is left as it is,
+    /// with an error that names what differs. The group's name has 1 to 255 bytes and no control characters.
     ///
-    /// A block says the size of its group and nothing else of it: the journal of another replica, or of
-    /// a group with other values to start with, is taken up as if it were this one's. The host sees to
-    /// that, for instance by the file's name.
+    /// What a cut tore is cut off the file. It tears at most the blocks up to the next own slot, `n` at
+    /// most, since that one's is made durable before anything follows; a file with more behind its last good
+    /// block is damaged and left as it is, with an error.
     ///
-    /// A file from before the check of 32-bit sums has no good block. With more than `own + 1` blocks it
-    /// is such an error, with fewer it is cut off as torn: all replicas of a group change together, each
-    /// with a new file.
+    /// Where the good blocks end before the last own one that was sent, they are put back from the copies in
+    /// the head, which reach two rounds back. Damage before that is an error, and the file is left as it is.
+    /// So no own block that was handed out is ever cut off and sent anew, if not both the block and its copy
+    /// are damaged at once.
+    ///
+    /// Tickets above the highest in own blocks are given again: see [`Reopened`].
     pub fn open(
         path: impl AsRef<Path>,
+        group: &str,
         n: u32,
         own: u32,
         values: &[i32; ITEMS],
-    ) -> Result<(Durable, Restarted), Failure> {
-        // What is refused makes no file.
-        Replica::new(n, own, values)?;
-        let (mut journal, bytes) = Journal::open(path)?;
-        let (replica, restarted) = Replica::restart(n, own, values, &bytes)?;
-        let taken = BLOCK * restarted.blocks as usize;
-        if bytes.len() - taken > torn(n, own, restarted.blocks) {
-            let words = format!(
-                "its block {} is none of the group's, and more than a cut can tear is behind it",
-                restarted.blocks
-            );
-            return Err(journal.error("take up", &words).into());
-        }
-        journal.cut(taken as u64)?;
-        Ok((Durable { replica, journal }, restarted))
+    ) -> Result<(Durable, Reopened), Failure> {
+        let restart = |bytes: &[u8]| Replica::restart(n, own, values, bytes);
+        Durable::take_up(path.as_ref(), group, n, own, values, restart)
     }
 
     /// As [`Replica::values`].
@@ -105,30 +109,182 @@ impl Durable {
     pub fn report(&self) -> Report {
         self.replica.report()
     }
+}
+
+/// A replica that is recorded and has its journal in a file.
+impl<C: Write, A: Write> Durable<Recorder<C, A>> {
+    /// As [`Durable::open`], with the sinks of the calls and the answers, as [`Recorder::restart`] writes them.
+    ///
+    /// ```
+    /// use stemline::{Durable, Failure, ITEMS};
+    ///
+    /// fn main() -> Result<(), Failure> {
+    ///     let path = std::env::temp_dir().join(format!("recorded-{}.journal", std::process::id()));
+    ///     let (mut calls, mut answers) = (Vec::new(), Vec::new());
+    ///     let sinks = (&mut calls, &mut answers);
+    ///     let (mut replica, _) = Durable::record(&path, "grotesque", 2, 0, &[0; ITEMS], sinks)?;
+    ///     let block = replica.send()?;
+    ///     replica.take(&block)?;
+    ///     assert_eq!(replica.stopped(), None);
+    ///     drop(replica);
+    ///     // The restart, the send, the deliver and two works, of which the second finds nothing.
+    ///     assert_eq!(answers.split(|&byte| byte == b'\n').count(), 5 + 1);
+    /// #   let _ = std::fs::remove_file(path);
+    ///     Ok(())
+    /// }
+    /// ```
+    pub fn record(
+        path: impl AsRef<Path>,
+        group: &str,
+        n: u32,
+        own: u32,
+        values: &[i32; ITEMS],
+        (calls, answers): (C, A),
+    ) -> Result<(Durable<Recorder<C, A>>, Reopened), Failure> {
+        let restart = |bytes: &[u8]| Recorder::restart(n, own, values, bytes, calls, answers);
+        Durable::take_up(path.as_ref(), group, n, own, values, restart)
+    }
+
+    /// As [`Recorder::values`].
+    pub fn values(&mut self) -> &[i32; ITEMS] {
+        self.replica.values()
+    }
+
+    /// As [`Recorder::read`].
+    pub fn read(&mut self, ticket: u32, item: u32) -> Result<i32, Refusal> {
+        self.replica.read(ticket, item)
+    }
+
+    /// As [`Recorder::report`].
+    pub fn report(&mut self) -> Report {
+        self.replica.report()
+    }
+
+    /// As [`Recorder::stopped`].
+    pub fn stopped(&self) -> Option<&str> {
+        self.replica.stopped()
+    }
+
+    /// As [`Recorder::left_out`].
+    pub fn left_out(&self) -> u64 {
+        self.replica.left_out()
+    }
+
+    /// As [`Recorder::flush`].
+    pub fn flush(&mut self) {
+        self.replica.flush();
+    }
+}
+
+impl<R: Calls> Durable<R> {
+    /// Opens a journal, with a restart from its blocks.
+    fn take_up(
+        path: &Path,
+        group: &str,
+        n: u32,
+        own: u32,
+        values: &[i32; ITEMS],
+        restart: impl FnOnce(&[u8]) -> Result<(R, Restarted), Refusal>,
+    ) -> Result<(Durable<R>, Reopened), Failure> {
+        // What is refused makes no file.
+        Replica::new(n, own, values)?;
+        let head = Head::new(group, n, own, values)
+            .map_err(|words| DiskError::new("open", path, io::Error::other(words)))?;
+        let (mut journal, found) = Journal::open(path, &head)?;
+        let (replica, restarted) = journal.lend(&found, restart)??;
+        if restarted.blocks != found.tally.turn {
+            // The reader of blocks is held to the restart by tests.
+            let words = "a restart does not take up the blocks that are read";
+            return Err(journal.error("take up", words).into());
+        }
+        journal.take_up(&found)?;
+        let committed = found.tally.committed.iter();
+        let reopened = Reopened {
+            blocks: restarted.blocks,
+            last: restarted.last,
+            cut: found.behind,
+            why: found.stop,
+            mended: found.mended.len() as u32,
+            committed: committed.map(|&(ticket, _)| ticket).collect(),
+            tickets: replica.replica().report().tickets,
+        };
+        let durable = Durable {
+            replica,
+            journal,
+            outcomes: Outcomes::new(own, found.tally, reopened.tickets),
+            last: reopened.last,
+        };
+        Ok((durable, reopened))
+    }
+
+    /// What is committed up to the present turn, the same at all replicas of the group at this turn. Where
+    /// it differs, the copies differ for good: a number is used twice, or a replica is of another group.
+    ///
+    /// A host sends it along with its blocks, and hands what comes to [`Durable::agrees`].
+    pub fn digest(&self) -> Digest {
+        let turn = self.replica.replica().memory().turn.slot;
+        let digests = &self.journal.digests;
+        // The journal is at most one block ahead: the own one, sent and not yet taken.
+        digests.at(turn).unwrap_or_else(|| digests.last())
+    }
+
+    /// Whether another replica has committed the same: `None` where this one was not yet at that turn, or
+    /// no more knows, which it does for 64 turns.
+    pub fn agrees(&self, other: &Digest) -> Option<bool> {
+        let own = self.journal.digests.at(other.turn)?;
+        Some(own == *other)
+    }
+
+    /// What became of a ticket that was given since the last open, or that the open found committed. A ticket
+    /// above [`Reopened::tickets`] that was given before the open is another transaction's now.
+    ///
+    /// Four bytes are kept for each ticket; [`Durable::forget`] frees them.
+    pub fn outcome(&self, ticket: u32) -> Outcome {
+        self.outcomes.of(ticket)
+    }
+
+    /// Forgets what became of all tickets up to this one, also of those that are still open.
+    pub fn forget(&mut self, ticket: u32) {
+        self.outcomes.forget(ticket);
+    }
+
+    /// The block to hand out again, until the next own one is sent: the one that was sent last, or that the
+    /// open found.
+    pub fn last(&self) -> Option<&[u8; BLOCK]> {
+        self.last.as_ref()
+    }
 
     /// As [`Replica::is_turn`].
     pub fn is_turn(&self) -> bool {
-        self.replica.is_turn()
+        self.replica.replica().is_turn()
     }
 
     /// As [`Replica::begin`].
     pub fn begin(&mut self) -> Result<u32, Failure> {
-        Ok(self.going()?.begin()?)
+        let ticket = self.going()?.begin()?;
+        self.outcomes.begun(ticket);
+        Ok(ticket)
     }
 
     /// As [`Replica::write`].
     pub fn write(&mut self, ticket: u32, item: u32, value: i32) -> Result<(), Failure> {
-        Ok(self.going()?.write(ticket, item, value)?)
+        let answer = self.going()?.write(ticket, item, value);
+        self.outcomes.written(ticket, &answer);
+        Ok(answer?)
     }
 
     /// As [`Replica::ask`].
     pub fn ask(&mut self, ticket: u32) -> Result<Asked, Failure> {
-        Ok(self.going()?.ask(ticket)?)
+        let asked = self.going()?.ask(ticket)?;
+        self.outcomes.asked(ticket, asked);
+        Ok(asked)
     }
 
     /// As [`Replica::withdraw`].
     pub fn withdraw(&mut self, ticket: u32) -> Result<(), Failure> {
-        Ok(self.going()?.withdraw(ticket)?)
+        self.going()?.withdraw(ticket)?;
+        self.outcomes.withdrawn(ticket);
+        Ok(())
     }
 
     /// As [`Replica::load`]. No journal keeps the classes: they are to be loaded after every open.
@@ -139,8 +295,9 @@ impl Durable {
     /// As [`Replica::send`]; the block, and all that the journal has before it, is durable.
     pub fn send(&mut self) -> Result<[u8; BLOCK], Failure> {
         let block = self.going()?.send()?;
-        self.journal.append(&block)?;
-        self.journal.sync()?;
+        self.journal.send(&block)?;
+        self.outcomes.sent();
+        self.last = Some(block);
         Ok(block)
     }
 
@@ -164,6 +321,7 @@ impl Durable {
     }
 
     fn keep(&mut self, work: &Work) -> Result<(), Failure> {
+        self.outcomes.worked(work);
         match work.append() {
             Some(block) => Ok(self.journal.append(block)?),
             None => Ok(()),
@@ -171,17 +329,10 @@ impl Durable {
     }
 
     /// The replica, while its journal has all that it needs.
-    fn going(&mut self) -> Result<&mut Replica, Failure> {
+    fn going(&mut self) -> Result<&mut R, Failure> {
         self.journal.going()?;
         Ok(&mut self.replica)
     }
-}
-
-/// The most bytes that a cut tears behind so many good blocks: those of the slots up to the next own one,
-/// which is durable before anything follows.
-fn torn(n: u32, own: u32, blocks: u32) -> usize {
-    let others = (own + n - blocks % n) % n;
-    BLOCK * (others as usize + 1)
 }
 
 impl Failure {

@@ -1,27 +1,51 @@
-//! A replica's journal in a file: blocks, one behind the other, and nothing else.
+//! A replica's journal in a file: its head, and behind it the blocks.
 
+use std::io::{self, BufReader, Read};
 use std::path::{Path, PathBuf};
-use std::{error, fmt, io};
+use std::{error, fmt};
 
+use crate::digest::Digests;
 use crate::disk::Disk;
-use crate::{BLOCK, REPLICAS};
+use crate::head::{Head, HEAD};
+use crate::map::lend;
+use crate::round::Round;
+use crate::tally::Tally;
+use crate::{Block, Blocks, Stop, BLOCK};
 
-/// The most that is appended from one sync to the next: the blocks of the others, and an own one.
-const UNSURE: u64 = (REPLICAS * BLOCK) as u64;
-
-/// A journal over a file. Most hosts want [`crate::Durable`], which has one.
+/// A journal over a file.
 ///
 /// After an error nothing more is appended: what was appended since the last good sync is cut off again,
 /// and each call gives an error until the file is opened anew.
 #[derive(Debug)]
-pub struct Journal {
+pub(crate) struct Journal {
     pub(crate) disk: Disk,
     path: PathBuf,
-    length: u64,
-    /// The bytes that were there when it was opened, cut or last made durable. Those of an open are kept
-    /// whether they are durable or not: the last block may have been handed out before.
-    kept: u64,
+    n: u32,
+    /// The blocks that the file has.
+    blocks: u32,
+    /// Those that were there when it was opened or last made durable. Those of an open are kept whether they
+    /// are durable or not: the last one may have been handed out before.
+    kept: u32,
+    /// The blocks behind the last own one.
+    since: Vec<[u8; BLOCK]>,
+    /// What its blocks have committed.
+    pub digests: Digests,
+    /// Where a copy was begun since the last good sync.
+    copied: Option<u64>,
     failed: bool,
+}
+
+/// What an open found in a file, before it changes anything.
+#[derive(Debug)]
+pub(crate) struct Found {
+    pub tally: Tally,
+    /// The bytes of the file, and those behind the good blocks.
+    pub length: u64,
+    pub behind: u64,
+    /// Why the good blocks stop.
+    pub stop: Stop,
+    /// The blocks that are taken from the copies, with their slots.
+    pub mended: Vec<(u32, [u8; BLOCK])>,
 }
 
 /// What the disk did not do, in words. Both `{}` and `{:?}` write them.
@@ -31,60 +55,122 @@ pub struct DiskError {
     error: io::Error,
 }
 
+/// Where a block begins in the file.
+fn place(slot: u32) -> u64 {
+    HEAD as u64 + BLOCK as u64 * u64::from(slot)
+}
+
 impl Journal {
-    /// Opens a file, or makes it, and gives all that is in it. A file is open as a journal once at a
-    /// time, on the whole machine.
-    pub fn open(path: impl AsRef<Path>) -> Result<(Journal, Vec<u8>), DiskError> {
-        let path = path.as_ref();
-        let opened = Disk::open(path).map_err(|error| DiskError::new("open", path, error));
-        let (disk, bytes) = opened?;
+    /// Opens a file, or makes it, with this head, and reads what it has. It is this process's from here on;
+    /// where it is not this head's or is damaged, it is left as it is. Then comes [`Journal::take_up`].
+    pub fn open(path: &Path, head: &Head) -> Result<(Journal, Found), DiskError> {
+        let fails = |doing| move |error| DiskError::new(doing, path, error);
+        let (mut disk, mut length) = Disk::open(path).map_err(fails("open"))?;
+        let mut front = vec![0; length.min(HEAD as u64) as usize];
+        let read = |disk: &mut Disk, front: &mut [u8]| disk.reader(0)?.read_exact(front);
+        read(&mut disk, &mut front).map_err(fails("read"))?;
+        let is_new = head.is_new(&front, length).map_err(io::Error::other);
+        if is_new.map_err(fails("take up"))? {
+            make(&mut disk, head).map_err(fails("make"))?;
+            front = vec![0; HEAD];
+            length = HEAD as u64;
+        }
+        let found = look(&mut disk, head, &front, length).map_err(fails("read"))?;
+        let found = found.map_err(io::Error::other).map_err(fails("take up"))?;
         let journal = Journal {
             disk,
             path: path.to_path_buf(),
-            length: bytes.len() as u64,
-            kept: bytes.len() as u64,
+            n: head.replicas(),
+            blocks: found.tally.turn,
+            kept: found.tally.turn,
+            since: found.tally.since.clone(),
+            digests: found.tally.digests.clone(),
+            copied: None,
             failed: false,
         };
-        Ok((journal, bytes))
+        Ok((journal, found))
     }
 
-    /// Appends a block. It is durable after the next [`Journal::sync`].
-    pub fn append(&mut self, block: &[u8; BLOCK]) -> Result<(), DiskError> {
-        self.going()?;
-        let written = self.disk.write(block);
-        self.done("append to", written)?;
-        self.length += BLOCK as u64;
-        Ok(())
+    /// Mends what is to be mended, and lends all the blocks, with what is behind them.
+    pub fn lend<T>(&mut self, found: &Found, to: impl FnOnce(&[u8]) -> T) -> Result<T, DiskError> {
+        for (slot, block) in &found.mended {
+            let written = self.disk.write(place(*slot), block);
+            self.done("mend", written)?;
+        }
+        let mended = found.mended.last().map_or(0, |&(slot, _)| place(slot + 1));
+        let length = found.length.max(mended);
+        let lent = lend(&mut self.disk.file, length, |bytes| to(&bytes[HEAD..]));
+        self.done("lend", lent)
     }
 
-    /// Makes all that was appended durable.
-    pub fn sync(&mut self) -> Result<(), DiskError> {
-        self.going()?;
-        let synced = self.disk.sync();
-        self.done("sync", synced)?;
-        self.kept = self.length;
-        Ok(())
-    }
-
-    /// Cuts off what is behind so many bytes, and makes the rest durable.
+    /// Cuts off what is behind the good blocks, and makes the rest durable.
     ///
     /// What is read may be in the system's memory alone, and counts there as written where a sync of it
     /// failed before: a sync would then pass it over. So all that is not known to be durable is written
-    /// once more.
-    pub fn cut(&mut self, length: u64) -> Result<(), DiskError> {
-        self.going()?;
-        let length = self.length.min(length);
-        let cut = self.disk.cut(length);
+    /// once more, the blocks since the own one before the last, and the copy.
+    pub fn take_up(&mut self, found: &Found) -> Result<(), DiskError> {
+        let cut = self.disk.cut(place(self.blocks));
         self.done("cut", cut)?;
-        self.length = length;
-        self.kept = length;
-        let renewed = self.disk.renew(length.saturating_sub(UNSURE), length);
-        self.done("renew the end of", renewed)?;
+        let tally = &found.tally;
+        let last = tally.last.as_ref();
+        let blocks: Vec<_> = last.iter().flat_map(|round| &round.blocks).collect();
+        let blocks: Vec<u8> = blocks
+            .into_iter()
+            .chain(&tally.since)
+            .flatten()
+            .copied()
+            .collect();
+        if !blocks.is_empty() {
+            let first = tally.turn - (blocks.len() / BLOCK) as u32;
+            let renewed = self.disk.write(place(first), &blocks);
+            self.done("renew the end of", renewed)?;
+        }
+        if let Some(round) = last {
+            self.copy(round)?;
+        }
         self.sync()
     }
 
+    /// Appends a block of another. It is durable after the next [`Journal::send`].
+    pub fn append(&mut self, block: &[u8; BLOCK]) -> Result<(), DiskError> {
+        self.going()?;
+        // Only altered memory gives another.
+        let read = Block::read(block).map_err(io::Error::other);
+        let read = self.done("append to", read)?;
+        let written = self.disk.write(place(self.blocks), block);
+        self.done("append to", written)?;
+        self.blocks += 1;
+        self.since.push(*block);
+        self.digests.add(&read);
+        Ok(())
+    }
+
+    /// Appends an own block, with its copy, and makes all durable.
+    pub fn send(&mut self, block: &[u8; BLOCK]) -> Result<(), DiskError> {
+        self.append(block)?;
+        let blocks = std::mem::take(&mut self.since);
+        let first = self.blocks - blocks.len() as u32;
+        self.copy(&Round { first, blocks })?;
+        self.sync()
+    }
+
+    fn copy(&mut self, round: &Round) -> Result<(), DiskError> {
+        let at = round.place(self.n);
+        self.copied = Some(at);
+        let written = self.disk.write(at, &round.bytes());
+        self.done("put a copy into", written)
+    }
+
+    fn sync(&mut self) -> Result<(), DiskError> {
+        let synced = self.disk.sync();
+        self.done("sync", synced)?;
+        self.kept = self.blocks;
+        self.copied = None;
+        Ok(())
+    }
+
     /// That nothing failed so far.
-    pub(crate) fn going(&self) -> Result<(), DiskError> {
+    pub fn going(&self) -> Result<(), DiskError> {
         match self.failed {
             true => Err(self.error("go on with", "it failed before; open it anew")),
             false => Ok(()),
@@ -92,11 +178,11 @@ impl Journal {
     }
 
     /// An error of this journal that is not the system's.
-    pub(crate) fn error(&self, doing: &'static str, words: &str) -> DiskError {
+    pub fn error(&self, doing: &'static str, words: &str) -> DiskError {
         DiskError::new(doing, &self.path, io::Error::other(words))
     }
 
-    fn done(&mut self, doing: &'static str, result: io::Result<()>) -> Result<(), DiskError> {
+    fn done<T>(&mut self, doing: &'static str, result: io::Result<T>) -> Result<T, DiskError> {
         result.map_err(|error| {
             self.fail();
             DiskError::new(doing, &self.path, error)
@@ -106,14 +192,87 @@ impl Journal {
     /// Ends the journal's use. After a failed sync there may be bytes that can be read and are not on the
     /// disk: without them the file is as a cut leaves it. Where this fails too, there is nothing more to
     /// do, and the error is told all the same.
-    pub(crate) fn fail(&mut self) {
+    pub fn fail(&mut self) {
         self.failed = true;
-        let _ = self.disk.cut(self.kept);
+        let _ = self.disk.cut(place(self.kept));
+        if let (Some(at), true) = (self.copied, self.kept < self.blocks) {
+            let _ = self.disk.write(at, &[0; 16]);
+        }
     }
 }
 
+/// Makes a file with this head and no blocks.
+fn make(disk: &mut Disk, head: &Head) -> io::Result<()> {
+    disk.cut(HEAD as u64)?;
+    disk.sync()?;
+    disk.write(0, &head.bytes())?;
+    disk.sync()
+}
+
+/// Reads a file that begins so; or says what is wrong with it.
+fn look(
+    disk: &mut Disk,
+    head: &Head,
+    front: &[u8],
+    length: u64,
+) -> io::Result<Result<Found, String>> {
+    let (n, own) = (head.replicas(), head.own());
+    let copies = head.rounds(front);
+    let (mut tally, mut mended) = (Tally::new(head), Vec::new());
+    let stop = loop {
+        let stop = good(disk, n, &mut tally)?;
+        let covers = |round: &&Round| round.block(tally.turn).is_some();
+        let Some(round) = copies.iter().find(covers) else {
+            break stop;
+        };
+        while let Some(bytes) = round.block(tally.turn) {
+            mended.push((tally.turn, *bytes));
+            tally.add(&Block::read(bytes).map_err(io::Error::other)?);
+        }
+    };
+    let turn = tally.turn;
+    if let Some(round) = copies.iter().find(|round| round.last() >= turn) {
+        let sent = round.last();
+        return Ok(Err(format!(
+            "its block {turn} is damaged, and the own block of slot {sent} behind it was perhaps handed out: {stop}"
+        )));
+    }
+    let behind = length.saturating_sub(place(turn));
+    if behind > torn(n, own, turn) {
+        return Ok(Err(format!(
+            "its block {turn} is damaged, and more than a cut can tear is behind it: {stop}"
+        )));
+    }
+    Ok(Ok(Found {
+        tally,
+        length,
+        behind,
+        stop,
+        mended,
+    }))
+}
+
+/// Adds the good blocks of the file from the tally's turn on, and gives why they stop.
+fn good(disk: &mut Disk, n: u32, tally: &mut Tally) -> io::Result<Stop> {
+    let source = BufReader::with_capacity(1 << 18, disk.reader(place(tally.turn))?);
+    let mut blocks = Blocks::of(source, n, tally.turn);
+    loop {
+        match blocks.next_block()? {
+            Ok(block) => tally.add(&block),
+            Err(stop) => return Ok(stop),
+        }
+    }
+}
+
+/// The most bytes that a cut tears behind so many good blocks: those of the slots up to the next own one,
+/// which is durable before anything follows.
+pub(crate) fn torn(n: u32, own: u32, blocks: u32) -> u64 {
+    let others = (own + n - blocks % n) % n;
+    BLOCK as u64 * u64::from(others + 1)
+}
+
 impl DiskError {
-    fn new(doing: &'static str, path: &Path, error: io::Error) -> DiskError {
+    pub(crate) fn new(doing: &'static str, path: &Path, error: io::Error) -> DiskError {
         let path = path.to_path_buf();
         DiskError { doing, path, error }
     }

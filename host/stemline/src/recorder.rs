@@ -85,33 +85,6 @@ impl<C: Write, A: Write> Recorder<C, A> {
     /// ended, if in anything: then reports are left out. A journal that no replica could have written
     /// stops the recording, which [`Recorder::stopped`] tells; so does one from which more than 1,000,000
     /// tickets are missing, each of which the list would begin and withdraw.
-    ///
-    /// With a [`crate::Journal`] beside it, this is a recorded replica that outlives a cut:
-    ///
-    /// ```
-    /// use stemline::{Failure, Journal, Recorder, BLOCK, ITEMS};
-    ///
-    /// fn main() -> Result<(), Failure> {
-    ///     let path = std::env::temp_dir().join(format!("recorded-{}.journal", std::process::id()));
-    ///     let (mut journal, bytes) = Journal::open(&path)?;
-    ///     let (calls, answers) = (Vec::new(), Vec::new());
-    ///     let made = Recorder::restart(2, 0, &[0; ITEMS], &bytes, calls, answers)?;
-    ///     let (mut replica, restarted) = made;
-    ///     journal.cut(BLOCK as u64 * u64::from(restarted.blocks))?;
-    ///     // The block is handed out once it is durable.
-    ///     let block = replica.send()?;
-    ///     journal.append(&block)?;
-    ///     journal.sync()?;
-    ///     // What a work gives to append is appended.
-    ///     for work in replica.take(&block)?.steps {
-    ///         if let Some(block) = work.append() {
-    ///             journal.append(block)?;
-    ///         }
-    ///     }
-    /// #   let _ = std::fs::remove_file(path);
-    ///     Ok(())
-    /// }
-    /// ```
     pub fn restart(
         n: u32,
         own: u32,

@@ -2,7 +2,7 @@
 
 use std::collections::HashSet;
 use std::fmt;
-use std::fs::{self, OpenOptions};
+use std::fs::OpenOptions;
 use std::io::{Read, Seek, SeekFrom};
 use std::path::{Path, PathBuf};
 
@@ -14,7 +14,7 @@ use stemline::Durable;
 
 use super::{journal, N};
 use crate::lines::{block, grouped, parse};
-use crate::studio::play;
+use crate::studio::{lent, play};
 
 /// What killed programs did.
 #[derive(Clone, Copy, Debug, Default)]
@@ -63,8 +63,7 @@ impl Log {
 
     /// Looks at the files before the program does.
     pub fn before_start(&mut self) {
-        let bytes = |k| fs::read(journal(&self.room, k)).unwrap_or_default();
-        self.lent = std::array::from_fn(|k| Some(bytes(k)));
+        self.lent = std::array::from_fn(|k| Some(lent(&journal(&self.room, k))));
     }
 
     /// Takes in the lines that are whole, and cuts off one that is not.

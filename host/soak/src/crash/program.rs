@@ -2,7 +2,7 @@
 //! which some are lost, late, repeated or damaged. Now and then one of them loses power by itself.
 
 use std::env;
-use std::fs::{self, File, OpenOptions};
+use std::fs::{File, OpenOptions};
 use std::io::Write;
 use std::path::PathBuf;
 use std::time::{Duration, Instant};
@@ -12,12 +12,12 @@ use model::drive::{local_call, Style, Tally};
 use model::replay::hex;
 use model::samples::{damage, Random};
 use model::trace::{Answer, Call};
-use stemline::Durable;
+use stemline::{Durable, HEAD};
 
 use super::{journal, N};
 use crate::both::report;
 use crate::lines::{line, shown};
-use crate::studio::{open, play};
+use crate::studio::{lent, open, play};
 
 /// Few items, so that there are conflicts.
 const STYLE: Style = Style::new(12, 0, 15);
@@ -61,8 +61,9 @@ impl Program {
         self.log.write_all(text.as_bytes()).unwrap();
     }
 
+    /// The bytes of its blocks, with those that an open mends.
     fn length(&self, k: usize) -> u64 {
-        fs::metadata(journal(&self.room, k)).map_or(0, |file| file.len())
+        lent(&journal(&self.room, k)).len() as u64
     }
 
     /// Opens a replica. Only when that is logged is the block given back handed out.
@@ -88,7 +89,7 @@ impl Program {
         let above = (self.length(k) - floor) as usize;
         let file = OpenOptions::new().write(true).open(journal(&self.room, k));
         let left = floor + random.below(above + 1) as u64;
-        file.unwrap().set_len(left).unwrap();
+        file.unwrap().set_len(HEAD as u64 + left).unwrap();
         let member = self.open(k);
         self.members.insert(k, member);
     }

@@ -1,9 +1,13 @@
 //! Shows and checks journals and blocks.
 //!
-//! - `journal show FILE` prints a line for each good block, as [`Block`] writes it, and a last one that
-//!   says where they stop and why.
-//! - `journal check FILE` prints that last line alone. The status is 0 where the file is good blocks to
-//!   its end, 1 where they stop before.
+//! - `journal show FILE` prints whose journal it is, as [`Head`] writes it, which slots its head has copies
+//!   of, a line for each good block, as [`Block`] writes it, and a last one that says where they stop and
+//!   why.
+//! - `journal check FILE` prints the same without the blocks. The status is 0 where the file is good blocks
+//!   to its end, 1 where they stop before or the head has a copy of more, and where it is no journal.
+//! - `journal values FILE` prints the values that the good blocks leave, a line `ITEM VALUE` for each of the
+//!   128, as the present values to begin a new run from. What is wrong with the file is said in a line on
+//!   standard error, and the status is then 1.
 //! - `journal block HEX..` prints a line for each block given as hexadecimal digits; `journal block -` for
 //!   those on standard input, one on each line. The status is 1 where one of them is no good block.
 //!
@@ -13,15 +17,15 @@
 
 use std::ffi::{OsStr, OsString};
 use std::fs::File;
-use std::io::{self, BufRead, BufReader, BufWriter, Write};
+use std::io::{self, BufRead, BufReader, BufWriter, Read, Write};
 use std::path::Path;
 use std::process::ExitCode;
 use std::{env, iter};
 
-use stemline::{Block, Blocks, Stop, BLOCK};
+use stemline::{Block, Blocks, Head, Stop, BLOCK, HEAD};
 
-const USAGE: &str =
-    "usage: journal show FILE | journal check FILE | journal block HEX.. | journal block -";
+const USAGE: &str = "usage: journal show FILE | journal check FILE | journal values FILE | \
+    journal block HEX.. | journal block -";
 
 /// Why the program ends before it is done.
 enum End {
@@ -55,6 +59,7 @@ fn run(arguments: &[OsString], out: &mut impl Write) -> Result<bool, End> {
     match words[..] {
         [verb, file] if verb == "show" => look(Path::new(file), true, out).map(|_| true),
         [verb, file] if verb == "check" => look(Path::new(file), false, out),
+        [verb, file] if verb == "values" => values(Path::new(file), out),
         [verb, dash] if verb == "block" && dash == "-" => blocks(lines(io::stdin().lock()), out),
         [verb, _, ..] if verb == "block" => {
             let digits = words[1..].iter().map(|word| word.to_string_lossy());
@@ -64,24 +69,131 @@ fn run(arguments: &[OsString], out: &mut impl Write) -> Result<bool, End> {
     }
 }
 
-/// Prints where the good blocks of a file stop, and before that each of them if they are to be shown.
-/// Gives whether they go to the file's end.
+/// A file that has a head: that, its copies, and the blocks behind.
+struct Opened {
+    head: Head,
+    copies: Vec<Vec<Block>>,
+    blocks: Blocks<BufReader<File>>,
+}
+
+/// Opens a file; or gives in words why it is no journal, `None` where it is empty.
+fn open(file: &Path) -> Result<Result<Opened, Option<String>>, End> {
+    let unread = unread(file);
+    let mut source = BufReader::new(File::open(file).map_err(unread)?);
+    let mut front = Vec::new();
+    let mut part = source.by_ref().take(HEAD as u64);
+    let read = part.read_to_end(&mut front).map_err(unread)?;
+    Ok(match Head::read(&front) {
+        _ if read == 0 => Err(None),
+        Ok(_) if read < HEAD => Err(Some("it ends within its head".to_string())),
+        Err(words) => Err(Some(words)),
+        Ok(head) => Ok(Opened {
+            copies: head.copies(&front),
+            blocks: Blocks::of(source, head.replicas(), 0),
+            head,
+        }),
+    })
+}
+
+/// What is said of a file that cannot be read.
+fn unread(file: &Path) -> impl Fn(io::Error) -> End + Copy + '_ {
+    move |error| End::Cannot(format!("cannot read {}: {error}", file.display()))
+}
+
+impl Opened {
+    /// Goes through the good blocks. Gives the line that says where they stop and why, and whether that is
+    /// the file's end, and that of the copies.
+    fn all(
+        mut self,
+        file: &Path,
+        mut each: impl FnMut(Block) -> Result<(), End>,
+    ) -> Result<(String, bool), End> {
+        let unread = unread(file);
+        let mut good = 0;
+        let stop = loop {
+            match self.blocks.next_block().map_err(unread)? {
+                Ok(block) => each(block)?,
+                Err(stop) => break stop,
+            }
+            good += 1;
+        };
+        let left = self.blocks.left().map_err(unread)?;
+        let sent = self
+            .copies
+            .iter()
+            .filter_map(|copy| copy.last())
+            .map(Block::slot);
+        let more = sent.max().filter(|&slot| u64::from(slot) >= good);
+        let words = more.map_or(String::new(), |slot| {
+            format!("; the head has a copy of slot {slot}")
+        });
+        let line = format!("{}{words}", ending(good, stop, left));
+        Ok((line, stop == Stop::End && more.is_none()))
+    }
+}
+
+/// Prints the head of a file and where its good blocks stop, and before that each of them if they are to be
+/// shown. Gives whether they go to the file's end, and to that of the copies.
 fn look(file: &Path, shown: bool, out: &mut impl Write) -> Result<bool, End> {
-    let unread = |error| End::Cannot(format!("cannot read {}: {error}", file.display()));
-    let source = File::open(file).map_err(unread)?;
-    let mut blocks = Blocks::new(BufReader::new(source));
-    let mut good = 0;
-    let stop = loop {
-        match blocks.next_block().map_err(unread)? {
-            Ok(block) if shown => printed(writeln!(out, "{block}"))?,
-            Ok(_) => {}
-            Err(stop) => break stop,
+    let opened = match open(file)? {
+        Ok(opened) => opened,
+        Err(None) => {
+            printed(writeln!(out, "is empty: a journal not yet begun"))?;
+            return Ok(true);
         }
-        good += 1;
+        Err(Some(words)) => {
+            printed(writeln!(out, "is not to be taken up: {words}"))?;
+            return Ok(false);
+        }
     };
-    let left = blocks.left().map_err(unread)?;
-    printed(writeln!(out, "{}", ending(good, stop, left)))?;
-    Ok(stop == Stop::End)
+    let copies = copied(&opened.copies);
+    printed(writeln!(out, "{}; {copies}", opened.head))?;
+    let (line, good) = opened.all(file, |block| match shown {
+        true => printed(writeln!(out, "{block}")),
+        false => Ok(()),
+    })?;
+    printed(writeln!(out, "{line}"))?;
+    Ok(good)
+}
+
+/// Prints the values that the good blocks of a file leave. Gives whether these are all.
+fn values(file: &Path, out: &mut impl Write) -> Result<bool, End> {
+    let opened = match open(file)? {
+        Ok(opened) => opened,
+        Err(words) => {
+            let words = words.unwrap_or("it is empty".to_string());
+            complain(&format!("{}: {words}", file.display()));
+            return Ok(false);
+        }
+    };
+    let mut values = *opened.head.values();
+    let (line, good) = opened.all(file, |block| {
+        for entry in block.records().flat_map(|record| record.entries) {
+            values[usize::from(entry.item)] = entry.value;
+        }
+        Ok(())
+    })?;
+    for (item, value) in values.iter().enumerate() {
+        printed(writeln!(out, "{item} {value}"))?;
+    }
+    if !good {
+        printed(out.flush())?;
+        complain(&format!("{}: {line}", file.display()));
+    }
+    Ok(good)
+}
+
+/// The slots of the copies in a head.
+fn copied(copies: &[Vec<Block>]) -> String {
+    let slots = copies.iter().filter_map(|copy| {
+        let (first, last) = (copy.first()?.slot(), copy.last()?.slot());
+        Some(format!("{first} to {last}"))
+    });
+    let slots: Vec<String> = slots.collect();
+    match slots.is_empty() {
+        true => "no copies".to_string(),
+        false => format!("copies of slots {}", slots.join(" and ")),
+    }
 }
 
 /// The line of so many good blocks, why they stop, and how many bytes are behind them.
@@ -93,7 +205,7 @@ fn ending(good: u64, stop: Stop, left: u64) -> String {
     let place = format!(
         "after {}, at byte {}",
         many(good, "block"),
-        good * BLOCK as u64
+        HEAD as u64 + good * BLOCK as u64
     );
     match stop {
         Stop::End => format!("ends {place}"),

@@ -1,12 +1,18 @@
 //! The steps at the disk and their order, errors of the disk, and files that are not taken up.
 
 use std::fs::{self, File};
-use std::path::PathBuf;
+use std::path::{Path, PathBuf};
 
 use super::*;
 use crate::disk::told;
+use crate::{Stop, HEAD};
 
+mod cuts;
+mod heads;
+mod rot;
 mod steps;
+
+const GROUP: &str = "grotesque";
 
 /// A path in a folder of its own, which goes with it.
 struct Room(PathBuf);
@@ -14,7 +20,11 @@ struct Room(PathBuf);
 impl Room {
     fn new(name: &str) -> Room {
         let name = format!("stemline-{}-{name}", std::process::id());
-        let room = std::env::temp_dir().join(name);
+        // In memory where that can be: a disk takes its time for each block.
+        let room = match Path::new("/dev/shm").is_dir() {
+            true => Path::new("/dev/shm").join(name),
+            false => std::env::temp_dir().join(name),
+        };
         fs::create_dir_all(&room).unwrap();
         Room(room)
     }
@@ -30,8 +40,13 @@ impl Drop for Room {
     }
 }
 
-fn open(room: &Room, n: u32, own: u32) -> Result<(Durable, Restarted), Failure> {
-    Durable::open(room.journal(), n, own, &[0; ITEMS])
+fn open(room: &Room, n: u32, own: u32) -> Result<(Durable, Reopened), Failure> {
+    Durable::open(room.journal(), GROUP, n, own, &[0; ITEMS])
+}
+
+/// The blocks in the file.
+fn blocks_of(room: &Room) -> Vec<u8> {
+    fs::read(room.journal()).unwrap().split_off(HEAD)
 }
 
 /// What a call says that gives nothing.
@@ -72,7 +87,7 @@ fn a_take_of_several_blocks() {
     assert!(replica.take(&blocks[1]).unwrap().steps.is_empty());
     let taken = replica.take(&blocks[0]).unwrap();
     assert_eq!(taken.steps.len(), 3);
-    assert!(fs::read(room.journal()).unwrap() == blocks.concat());
+    assert!(blocks_of(&room) == blocks.concat());
 }
 
 /// That nothing but looking is possible any more, and what is said then.
@@ -89,8 +104,7 @@ fn over(replica: &mut Durable, block: &[u8]) {
     assert!(said(replica.work()).ends_with(due));
     assert!(said(replica.take(block)).ends_with(due));
     assert!(said(replica.journal.append(&[0; BLOCK]).map_err(Failure::Disk)).ends_with(due));
-    assert!(said(replica.journal.sync().map_err(Failure::Disk)).ends_with(due));
-    assert!(said(replica.journal.cut(0).map_err(Failure::Disk)).ends_with(due));
+    assert!(said(replica.journal.send(&[0; BLOCK]).map_err(Failure::Disk)).ends_with(due));
     assert!(replica.replica == before, "a call went on");
 }
 
@@ -118,7 +132,7 @@ fn a_failed_append() {
     let block = replica.send().unwrap();
     replica.take(&block).unwrap();
     // A work that cannot append.
-    let (mut peer, _) = Replica::restart(2, 1, &[0; ITEMS], &writable).unwrap();
+    let (mut peer, _) = Replica::restart(2, 1, &[0; ITEMS], &writable[HEAD..]).unwrap();
     peer.take(&block).unwrap();
     let next = peer.send().unwrap();
     replica.journal.disk.file = File::open(room.journal()).unwrap();
@@ -144,31 +158,29 @@ fn a_failed_sync() {
 #[test]
 fn back_to_what_is_durable() {
     let room = Room::new("back");
-    let (mut journal, bytes) = Journal::open(room.journal()).unwrap();
-    assert!(bytes.is_empty());
-    journal.append(&[1; BLOCK]).unwrap();
-    journal.sync().unwrap();
-    journal.append(&[2; BLOCK]).unwrap();
-    assert_eq!(fs::read(room.journal()).unwrap().len(), 2 * BLOCK);
-    journal.fail();
-    assert!(fs::read(room.journal()).unwrap() == [1; BLOCK]);
-    drop(journal);
+    let (mut replica, _) = open(&room, 2, 0).unwrap();
+    let blocks = fill(&mut replica, 4);
+    assert!(blocks_of(&room) == blocks.concat());
+    replica.journal.fail();
+    assert!(blocks_of(&room) == blocks[..3].concat());
+    drop(replica);
     // Never less than was there when it was opened.
-    let (mut journal, bytes) = Journal::open(room.journal()).unwrap();
-    assert!(bytes == [1; BLOCK]);
-    journal.append(&[2; BLOCK]).unwrap();
-    journal.fail();
-    assert!(fs::read(room.journal()).unwrap() == [1; BLOCK]);
+    let (mut replica, _) = open(&room, 2, 0).unwrap();
+    replica.journal.append(&blocks[3]).unwrap();
+    replica.journal.fail();
+    assert!(blocks_of(&room) == blocks[..3].concat());
 }
 
 #[test]
 fn files_that_cannot_be_opened() {
     let room = Room::new("open");
     let missing = room.0.join("none/journal");
-    let failed = said(Durable::open(&missing, 2, 0, &[0; ITEMS]));
+    let failed = said(Durable::open(&missing, GROUP, 2, 0, &[0; ITEMS]));
     let due = format!("cannot open the journal {}: ", missing.display());
     assert!(failed.starts_with(&due), "{failed}");
-    assert!(said(Durable::open(&room.0, 2, 0, &[0; ITEMS])).starts_with("cannot open"));
+    assert!(said(Durable::open(&room.0, GROUP, 2, 0, &[0; ITEMS])).starts_with("cannot open"));
+    let device = said(Durable::open("/dev/null", GROUP, 2, 0, &[0; ITEMS]));
+    assert!(device.ends_with(": it is no file on a disk"), "{device}");
     // Open twice.
     let (replica, _) = open(&room, 2, 0).unwrap();
     let failed = said(open(&room, 2, 0));
@@ -191,67 +203,55 @@ fn a_refused_open() {
     assert!(fs::read(room.journal()).unwrap() == [7; 100]);
 }
 
-/// Damages files of six blocks, and opens them as replica `own` of 2 would be: with its blocks taken up, or
-/// an error and nothing changed.
-fn damaged(room: &Room, own: u32, blocks: &[u8], at: usize, extra: usize, taken: Option<u32>) {
-    let mut file = [blocks, &vec![7; extra]].concat();
-    file[at] ^= 1;
-    fs::write(room.journal(), &file).unwrap();
-    match (open(room, 2, own), taken) {
-        (Ok((_, restarted)), Some(taken)) => {
-            assert_eq!(restarted.blocks, taken, "{own}: byte {at}, {extra} more");
-            assert!(fs::read(room.journal()).unwrap() == file[..BLOCK * taken as usize]);
-        }
-        (Err(failure), None) => {
-            let failure = failure.to_string();
-            let due = "is none of the group's, and more than a cut can tear is behind it";
-            assert!(failure.ends_with(due), "{failure}");
-            assert!(failure.starts_with("cannot take up"), "{failure}");
+/// Puts so many bytes behind a journal of six blocks of replica `own` of 2, and opens it: its blocks are
+/// taken up and the rest is cut off, or there is an error and nothing is changed.
+fn torn_by(room: &Room, own: u32, file: &[u8], extra: usize, cut: bool) {
+    let torn = [file, &vec![7; extra]].concat();
+    fs::write(room.journal(), &torn).unwrap();
+    match (open(room, 2, own), cut) {
+        (Ok((_, reopened)), true) => {
+            assert_eq!((reopened.blocks, reopened.cut), (6, extra as u64));
+            let why = match extra {
+                0..BLOCK => Stop::Torn(extra),
+                _ => Stop::Refused(Refusal::WrongCheck),
+            };
+            assert_eq!((reopened.why, reopened.mended), (why, 0));
             assert!(fs::read(room.journal()).unwrap() == file);
         }
-        (given, _) => {
-            let given = given.map(|(_, restarted)| restarted.blocks);
-            panic!("{own}: byte {at}, {extra} more: {given:?}")
+        (Err(failure), false) => {
+            let failure = failure.to_string();
+            let due = "its block 6 is damaged, and more than a cut can tear is behind it: \
+                the block's check does not match (14)";
+            assert!(failure.ends_with(due), "{failure}");
+            assert!(failure.starts_with("cannot take up"), "{failure}");
+            assert!(fs::read(room.journal()).unwrap() == torn);
         }
+        (given, _) => panic!("{own}: {extra} more: {given:?}"),
     }
 }
 
 /// Behind the last good block: what a cut can tear is cut off, more is an error and stays.
 #[test]
 fn torn_and_damaged() {
-    let room = Room::new("damaged");
-    let (mut replica, _) = open(&room, 2, 0).unwrap();
-    let blocks = fill(&mut replica, 6).concat();
-    drop(replica);
-    // Slot 6 is replica 0's, slot 7 replica 1's.
-    let end = blocks.len();
-    for extra in [1, 511, 512] {
-        damaged(&room, 0, &blocks, end, extra, Some(6));
-        damaged(&room, 1, &blocks, end, extra, Some(6));
+    for (own, most) in [(0, 1), (1, 2)] {
+        let room = Room::new(&format!("damaged{own}"));
+        let (mut replica, _) = open(&room, 2, own).unwrap();
+        let mut peer = Replica::new(2, 1 - own, &[0; ITEMS]).unwrap();
+        for slot in 0..6 {
+            let block = match slot % 2 == own {
+                true => replica.send().unwrap(),
+                false => peer.send().unwrap(),
+            };
+            replica.take(&block).unwrap();
+            peer.take(&block).unwrap();
+        }
+        drop(replica);
+        let file = fs::read(room.journal()).unwrap();
+        // Slot 6 is replica 0's, slot 7 replica 1's.
+        for extra in [1, 511, 512, 513, 1_024, 1_025, 1_536] {
+            torn_by(&room, own, &file, extra, extra <= most * BLOCK);
+        }
     }
-    for extra in [513, 1_024] {
-        damaged(&room, 0, &blocks, end, extra, None);
-        damaged(&room, 1, &blocks, end, extra, Some(6));
-    }
-    damaged(&room, 1, &blocks, end, 1_025, None);
-    // Slot 4 was durable before slot 5 followed; slot 5 of replica 1 may be torn, and slot 4 with it.
-    let bad = |slot| BLOCK * slot + 9;
-    damaged(&room, 0, &blocks, bad(5), 0, Some(5));
-    damaged(&room, 0, &blocks, bad(5), 512, Some(5));
-    damaged(&room, 0, &blocks, bad(5), 513, None);
-    damaged(&room, 0, &blocks, bad(4), 0, None);
-    damaged(&room, 1, &blocks, bad(5), 0, Some(5));
-    damaged(&room, 1, &blocks, bad(5), 1, None);
-    damaged(&room, 1, &blocks, bad(4), 0, Some(4));
-    damaged(&room, 1, &blocks, bad(4), 1, None);
-    for own in 0..2 {
-        damaged(&room, own, &blocks, bad(3), 0, None);
-        damaged(&room, own, &blocks, bad(0), 0, None);
-    }
-    // A group of another size.
-    fs::write(room.journal(), &blocks).unwrap();
-    assert!(said(open(&room, 3, 0)).contains("its block 0 is none of the group's"));
-    assert!(fs::read(room.journal()).unwrap() == blocks);
 }
 
 /// For every group and number of good blocks: up to the next own slot, with it.
@@ -260,7 +260,8 @@ fn what_a_cut_tears() {
     for n in 2..=6 {
         for (own, blocks) in (0..n).flat_map(|own| (0..20).map(move |blocks| (own, blocks))) {
             let next = (blocks..).find(|slot| slot % n == own).unwrap();
-            assert_eq!(torn(n, own, blocks), BLOCK * (next + 1 - blocks) as usize);
+            let due = BLOCK as u64 * u64::from(next + 1 - blocks);
+            assert_eq!(crate::journal::torn(n, own, blocks), due);
         }
     }
 }

@@ -1,5 +1,5 @@
-/* Stands between a program and the disk: tells each step on stderr, and lets the fsync fail whose number,
- * from 1 on, STEMLINE_FAIL is. */
+/* Stands between a program and the disk: tells each step on stderr. The fsync fails whose number, from 1 on,
+ * STEMLINE_FAIL is; the write whose number STEMLINE_SHORT is takes 100 bytes, and the next one none. */
 #define _POSIX_C_SOURCE 200809L
 #include <errno.h>
 #include <stdio.h>
@@ -9,19 +9,22 @@
 
 int told_fsync(int file);
 int told_ftruncate(int file, off_t length);
-ssize_t told_write(int file, const void *bytes, size_t length);
+ssize_t told_pwrite(int file, const void *bytes, size_t length, off_t at);
+
+static int asked(const char *name) {
+    const char *number = getenv(name);
+    return number == NULL ? 0 : atoi(number);
+}
 
 int told_fsync(int file) {
     static int count;
     struct stat is;
-    const char *fail = getenv("STEMLINE_FAIL");
     if (fstat(file, &is) == 0 && S_ISDIR(is.st_mode)) {
         fprintf(stderr, "folder\n");
     } else {
         fprintf(stderr, "sync %ld\n", (long)is.st_size);
     }
-    count++;
-    if (fail != NULL && atoi(fail) == count) {
+    if (asked("STEMLINE_FAIL") == ++count) {
         errno = EIO;
         return -1;
     }
@@ -33,9 +36,14 @@ int told_ftruncate(int file, off_t length) {
     return ftruncate(file, length);
 }
 
-ssize_t told_write(int file, const void *bytes, size_t length) {
-    if (length > 0) {
-        fprintf(stderr, "write %ld at %ld\n", (long)length, (long)lseek(file, 0, SEEK_CUR));
+ssize_t told_pwrite(int file, const void *bytes, size_t length, off_t at) {
+    static int count;
+    int number = asked("STEMLINE_SHORT");
+    fprintf(stderr, "write %ld at %ld\n", (long)length, (long)at);
+    count++;
+    if (number > 0 && count == number + 1) {
+        errno = ENOSPC;
+        return -1;
     }
-    return write(file, bytes, length);
+    return pwrite(file, bytes, number > 0 && count == number ? 100 : length, at);
 }

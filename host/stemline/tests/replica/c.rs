@@ -78,6 +78,7 @@ fn object(room: &Path, compiler: &str, standard: &str, file: &str) -> PathBuf {
         command.args(SANITIZERS);
     }
     command.arg("-I").arg(host().join("include"));
+    command.arg("-I").arg(host().join("source"));
     command.arg("-I").arg(host().join("stemline/tests/c"));
     command
         .arg("-c")

@@ -13,10 +13,10 @@ use crate::studio::Studio;
 
 /// A folder, which goes when its test ends. It is in memory where that can be, since a disk takes its time
 /// for each block that is made durable.
-struct Room(PathBuf);
+pub struct Room(pub PathBuf);
 
 impl Room {
-    fn new(name: &str) -> Room {
+    pub fn new(name: &str) -> Room {
         let shared = Path::new("/dev/shm");
         let room = match shared.is_dir() {
             true => shared.join(format!("stemline-{}-{name}", std::process::id())),

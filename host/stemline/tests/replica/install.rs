@@ -8,9 +8,12 @@ use std::sync::Once;
 
 use crate::c::{printed, say};
 
-const FILES: [&str; 5] = [
+const FILES: [&str; 8] = [
     "include/stemline.h",
     "include/stemline_calls.h",
+    "include/stemline_journal.h",
+    "share/stemline/stemline_journal.c",
+    "share/stemline/journal_head.h",
     "lib/libstemline.a",
     "lib/pkgconfig/stemline.pc",
     "share/man/man1/replay.1",

@@ -5,11 +5,12 @@ use std::fs;
 use std::io::Write;
 use std::path::{Path, PathBuf};
 use std::process::{Command, Output, Stdio};
+use std::sync::atomic::{AtomicU32, Ordering};
 
 use model::block::{put_check, BLOCK};
 use model::drive::{start_values, STYLES};
 use model::samples::{block_of, damage, Random};
-use stemline::Replica;
+use stemline::{Durable, Replica, HEAD};
 
 use crate::looks::{digits, read_through, sizes};
 use crate::restarts;
@@ -49,15 +50,81 @@ fn file(name: &str, bytes: &[u8]) -> PathBuf {
     path
 }
 
-/// What `show` and `check` print of a journal: `show` the lines in front, both the last.
+/// The head of a new journal of replica 1 of `n`.
+fn head(n: u32) -> Vec<u8> {
+    static MADE: AtomicU32 = AtomicU32::new(0);
+    let name = format!("journal-head-{}", MADE.fetch_add(1, Ordering::Relaxed));
+    let path = Path::new(env!("CARGO_TARGET_TMPDIR")).join(name);
+    let _ = fs::remove_file(&path);
+    drop(Durable::open(&path, "grotesque", n, 1, &start_values()).unwrap());
+    let head = fs::read(&path).unwrap();
+    fs::remove_file(&path).unwrap();
+    head
+}
+
+/// What `show` and `check` print of a file: both the first and the last, `show` the lines between.
 #[track_caller]
-fn looks(bytes: &[u8], lines: &[&str], last: &str, status: i32) {
-    let path = file("journal-looks", bytes);
-    let due = [lines, &[last, ""]].concat().join("\n");
+fn prints(path: &Path, first: &[&str], lines: &[&str], last: &str, status: i32) {
+    let due = [first, lines, &[last, ""]].concat().join("\n");
     let show = [OsStr::new("show"), path.as_os_str()];
     assert_eq!(run(&show), (due, String::new(), 0));
     let check = [OsStr::new("check"), path.as_os_str()];
-    assert_eq!(run(&check), (format!("{last}\n"), String::new(), status));
+    let due = [first, &[last, ""]].concat().join("\n");
+    assert_eq!(run(&check), (due, String::new(), status));
+}
+
+/// Of the blocks of a journal of 3.
+#[track_caller]
+fn looks(bytes: &[u8], lines: &[&str], last: &str, status: i32) {
+    let path = file("journal-looks", &[&head(3), bytes].concat());
+    let first =
+        "replica 1 of 3 of the group \"grotesque\", version 1, start 1c1d552adf88173d; no copies";
+    prints(&path, &[first], lines, last, status);
+}
+
+/// Files with no head, and with one that is not whole.
+#[test]
+fn heads() {
+    let mut head = head(3);
+    let at = |bytes: &[u8]| file("journal-heads", bytes);
+    prints(&at(b""), &[], &[], "is empty: a journal not yet begun", 0);
+    let missing = "is not to be taken up: it is no journal, or of before there were heads: the mark is missing";
+    prints(&at(b"stems\n"), &[], &[], missing, 1);
+    prints(&at(&block_of(3, 0, &[])), &[], &[], missing, 1);
+    let short = "is not to be taken up: it ends within its head";
+    prints(&at(&head[..HEAD - 1]), &[], &[], short, 1);
+    prints(&at(&head[..100]), &[], &[], short, 1);
+    head[40] ^= 1;
+    let damaged = "is not to be taken up: its head is damaged: the check does not match";
+    prints(&at(&head), &[], &[], damaged, 1);
+}
+
+/// The copies of a head: which slots they have, and that the blocks end before them.
+#[test]
+fn copies() {
+    let path = Path::new(env!("CARGO_TARGET_TMPDIR")).join("journal-copies");
+    let _ = fs::remove_file(&path);
+    let (mut replica, _) = Durable::open(&path, "grotesque", 2, 1, &start_values()).unwrap();
+    let mut peer = Replica::new(2, 0, &start_values()).unwrap();
+    for slot in 0..6 {
+        let block = match slot % 2 {
+            0 => peer.send().unwrap(),
+            _ => replica.send().unwrap(),
+        };
+        peer.take(&block).unwrap();
+        replica.take(&block).unwrap();
+    }
+    drop(replica);
+    let first = "replica 1 of 2 of the group \"grotesque\", version 1, start 1c1d552adf88173d; \
+        copies of slots 4 to 5 and 2 to 3";
+    let (said, _, status) = run(&[OsStr::new("check"), path.as_os_str()]);
+    let last = "ends after 6 blocks, at byte 15360";
+    assert_eq!((said, status), (format!("{first}\n{last}\n"), 0));
+    let good = fs::read(&path).unwrap();
+    fs::write(&path, &good[..HEAD + 5 * BLOCK]).unwrap();
+    let (said, _, status) = run(&[OsStr::new("check"), path.as_os_str()]);
+    let last = "ends after 5 blocks, at byte 14848; the head has a copy of slot 5";
+    assert_eq!((said, status), (format!("{first}\n{last}\n"), 1));
 }
 
 /// Each way in which the blocks of a file stop.
@@ -73,28 +140,28 @@ fn files() {
         "slot 1 of replica 1 of 3: ticket 4 sets 5 = 84, 9 = -3; ticket 6 sets 2 = 1",
         "slot 2 of replica 2 of 3: ticket 1 sets 127 = -2147483648",
     ];
-    looks(b"", &[], "ends after 0 blocks, at byte 0", 0);
+    looks(b"", &[], "ends after 0 blocks, at byte 12288", 0);
     looks(
         &blocks.concat(),
         &lines,
-        "ends after 3 blocks, at byte 1536",
+        "ends after 3 blocks, at byte 13824",
         0,
     );
     looks(
         &blocks[0],
         &lines[..1],
-        "ends after 1 block, at byte 512",
+        "ends after 1 block, at byte 12800",
         0,
     );
     looks(
         &blocks.concat()[..BLOCK + 1],
         &lines[..1],
-        "stops after 1 block, at byte 512, 1 byte before the end: the block is torn: 1 of 512 bytes",
+        "stops after 1 block, at byte 12800, 1 byte before the end: the block is torn: 1 of 512 bytes",
         1,
     );
     let mut stops = |block: [u8; BLOCK], why: &str| {
         blocks[1] = block;
-        let front = "stops after 1 block, at byte 512, 1024 bytes before the end: the block";
+        let front = "stops after 1 block, at byte 12800, 1024 bytes before the end: the block";
         looks(&blocks.concat(), &lines[..1], &format!("{front}{why}"), 1);
     };
     let mut damaged = block_of(3, 1, &[]);
@@ -104,9 +171,37 @@ fn files() {
     stops(damaged, " is not well formed (15)");
     stops(
         block_of(4, 1, &[]),
-        " is of a group of 4, the first of one of 3",
+        " is of a group of 4, the journal of one of 3",
     );
     stops(block_of(3, 4, &[]), " is of slot 4, in the place of slot 1");
+}
+
+/// The values of journals, whole and torn, are those that a restart leaves.
+#[test]
+fn values() {
+    Seeds::new(20).each(|seed| {
+        let mut random = Random::new(seed);
+        let n = 2 + seed as u32 % 5;
+        let bytes = restarts::journal(&mut random, n, STYLES[seed as usize / 5 % 4]);
+        let n = sizes(&bytes)[0];
+        let path = file("journal-values", &[&head(n), &bytes[..]].concat());
+        let (said, complaint, status) = run(&[OsStr::new("values"), path.as_os_str()]);
+        let (replica, restarted) = Replica::restart(n, 0, &start_values(), &bytes).unwrap();
+        let lines = replica.values().iter().enumerate();
+        let due: String = lines
+            .map(|(item, value)| format!("{item} {value}\n"))
+            .collect();
+        assert_eq!(said, due);
+        let whole = bytes.len() == BLOCK * restarted.blocks as usize;
+        assert_eq!((complaint.is_empty(), status), (whole, i32::from(!whole)));
+        assert!(complaint.lines().count() <= 1 && (whole || complaint.contains(": stops after ")));
+    });
+    for (bytes, words) in [(&b""[..], "it is empty"), (b"stems", "the mark is missing")] {
+        let path = file("journal-values-none", bytes);
+        let (said, complaint, status) = run(&[OsStr::new("values"), path.as_os_str()]);
+        assert_eq!((&said[..], status), ("", 1));
+        assert!(complaint.ends_with(&format!("{words}\n")), "{complaint}");
+    }
 }
 
 /// As many lines as a restart commits blocks, and the last; the status by whether they are all.
@@ -116,17 +211,19 @@ fn any_journal() {
         let mut random = Random::new(seed);
         let n = 2 + seed as u32 % 5;
         let bytes = restarts::journal(&mut random, n, STYLES[seed as usize / 5 % 4]);
-        let path = file("journal-any", &bytes);
+        // The size that its first block names.
+        let sizes = sizes(&bytes);
+        let path = file("journal-any", &[&head(sizes[0]), &bytes[..]].concat());
         let (printed, complaints, status) = run(&[OsStr::new("show"), path.as_os_str()]);
         assert_eq!((&complaints[..], status), ("", 0));
         let lines: Vec<&str> = printed.lines().collect();
         let (good, _, _) = read_through(&bytes);
         let due: Vec<String> = good.iter().map(|block| block.to_string()).collect();
-        assert_eq!(lines[..lines.len() - 1], due);
-        let restarted = Replica::restart(sizes(&bytes)[0], 0, &start_values(), &bytes);
+        assert_eq!(lines[1..lines.len() - 1], due);
+        let restarted = Replica::restart(sizes[0], 0, &start_values(), &bytes);
         assert_eq!(due.len(), restarted.unwrap().1.blocks as usize);
         let (last, _, status) = run(&[OsStr::new("check"), path.as_os_str()]);
-        assert_eq!(last.trim_end(), lines[lines.len() - 1]);
+        assert_eq!(last, format!("{}\n{}\n", lines[0], lines[lines.len() - 1]));
         assert_eq!(status, i32::from(due.len() * BLOCK != bytes.len()));
     });
 }
@@ -170,12 +267,14 @@ fn blocks() {
 /// Arguments that are none, and files that cannot be read: one line, and 2.
 #[test]
 fn bad_usage() {
-    let usage = "journal: usage: journal show FILE | journal check FILE | \
+    let usage = "journal: usage: journal show FILE | journal check FILE | journal values FILE | \
         journal block HEX.. | journal block -\n";
     for arguments in [
         &[][..],
         &["show"],
         &["check"],
+        &["values"],
+        &["values", "a", "b"],
         &["block"],
         &["show", "a", "b"],
         &["check", "a", "b"],
@@ -188,7 +287,7 @@ fn bad_usage() {
     let folder = env!("CARGO_TARGET_TMPDIR");
     let none = Path::new(folder).join("no-such-journal");
     for path in [Path::new(folder), &none] {
-        for verb in ["show", "check"] {
+        for verb in ["show", "check", "values"] {
             let (printed, complaint, status) = run(&[OsStr::new(verb), path.as_os_str()]);
             assert_eq!((&printed[..], status), ("", 2));
             let front = format!("journal: cannot read {}: ", path.display());
@@ -202,7 +301,8 @@ fn bad_usage() {
 #[test]
 fn closed_pipes() {
     let blocks = (0..4_000).flat_map(|slot| block_of(2, slot, &[]));
-    let mut bytes: Vec<u8> = blocks.collect();
+    let mut bytes = head(2);
+    bytes.extend(blocks);
     bytes.push(7);
     let path = file("journal-closed", &bytes);
     for (verb, status) in [("show", 0), ("check", 1)] {
@@ -227,7 +327,7 @@ fn full_disk() {
         println!("left out: there is no /dev/full here");
         return;
     }
-    let path = file("journal-full", &block_of(2, 0, &[]));
+    let path = file("journal-full", &head(2));
     for verb in ["show", "check"] {
         let mut command = program(&[OsStr::new(verb), path.as_os_str()]);
         command.stdout(fs::OpenOptions::new().write(true).open(full).unwrap());

@@ -2,6 +2,7 @@
 
 mod altered;
 mod blocks;
+mod build_script;
 mod c;
 mod c_journals;
 mod c_replica;
@@ -15,9 +16,11 @@ mod install;
 mod journal_program;
 mod lengths;
 mod lent;
+mod long;
 mod looks;
 mod manual;
 mod marks;
+mod outcomes;
 mod prototypes;
 mod recorder;
 mod restarts;
@@ -26,6 +29,7 @@ mod seeds;
 mod stations;
 mod story;
 mod takes;
+mod twins;
 
 // What a soak shares with the tests.
 use soak::{both, lines, studio};

@@ -1,6 +1,7 @@
 //! The recorder: it answers as a replica, and what it writes is answered the same by the model's `replay`
 //! and by the proved program.
 
+mod durable;
 mod program;
 mod stations;
 

@@ -2,15 +2,30 @@
 
 use super::*;
 
-/// The steps of an open that leaves so many blocks: of these the last six at most are written anew.
+/// Where a block begins.
+fn place(slot: usize) -> usize {
+    HEAD + BLOCK * slot
+}
+
+/// The steps of an open of replica 0 of 2 that leaves so many blocks: those behind the own one before the
+/// last are written anew, and the copy.
 fn opening(room: &Room, blocks: usize) -> Vec<String> {
-    let (from, to) = (BLOCK * blocks.saturating_sub(6), BLOCK * blocks);
-    vec![
-        format!("folder {}", room.0.display()),
-        format!("cut {to}"),
-        format!("renew {from} to {to}"),
-        "sync".to_string(),
-    ]
+    let mut steps = vec![format!("folder {}", room.0.display())];
+    if blocks == 0 {
+        let make = ["cut 12288", "sync", "write 808 at 0", "sync"];
+        steps.extend(make.map(str::to_string));
+    }
+    steps.push(format!("cut {}", place(blocks)));
+    if blocks > 0 {
+        let last = (blocks - 1) / 2 * 2;
+        let first = last.saturating_sub(1);
+        let bytes = BLOCK * (blocks - first);
+        steps.push(format!("write {bytes} at {}", place(first)));
+        let (bytes, at) = (16 + BLOCK * (last + 1 - first), 4_096 * (1 + last / 2 % 2));
+        steps.push(format!("write {bytes} at {at}"));
+    }
+    steps.push("sync".to_string());
+    steps
 }
 
 /// Appended, made durable, and only then given; what a work or take leaves is appended.
@@ -25,8 +40,13 @@ fn append_then_sync() {
             0 => replica.send().unwrap(),
             _ => peer.send().unwrap(),
         };
+        let write = format!("write 512 at {}", place(slot));
+        let copy = match slot {
+            0 => "write 528 at 4096".to_string(),
+            _ => format!("write 1040 at {}", 4_096 * (1 + slot / 2 % 2)),
+        };
         let due: &[&str] = if slot % 2 == 0 {
-            &["write 512", "sync"]
+            &[&write, &copy, "sync"]
         } else {
             &[]
         };
@@ -40,7 +60,7 @@ fn append_then_sync() {
             }
             _ => drop(replica.take(&block).unwrap()),
         }
-        let due: &[&str] = if slot % 2 == 0 { &[] } else { &["write 512"] };
+        let due: &[&str] = if slot % 2 == 0 { &[] } else { &[&write] };
         assert_eq!(told::steps(), due, "slot {slot}");
     }
     // Looks, and calls that give no block.
@@ -65,18 +85,19 @@ fn an_open_makes_durable() {
     for slots in [1, 5, 6, 7, 20] {
         let room = Room::new("reopen");
         let (mut replica, _) = open(&room, 2, 0).unwrap();
-        let blocks = fill(&mut replica, slots).concat();
+        let blocks = fill(&mut replica, slots);
         drop(replica);
+        let good = fs::read(room.journal()).unwrap();
         for extra in [0, 1, 512] {
-            fs::write(room.journal(), [&blocks[..], &vec![7; extra]].concat()).unwrap();
+            fs::write(room.journal(), [&good[..], &vec![7; extra]].concat()).unwrap();
             told::steps();
             let (mut replica, _) = open(&room, 2, 0).unwrap();
             assert_eq!(told::steps(), opening(&room, slots as usize));
-            assert!(fs::read(room.journal()).unwrap() == blocks);
+            assert!(fs::read(room.journal()).unwrap() == good);
             // What is appended goes behind it.
-            replica.journal.append(&[9; BLOCK]).unwrap();
+            replica.journal.append(&blocks[0]).unwrap();
             drop(replica);
-            assert!(fs::read(room.journal()).unwrap() == [&blocks[..], &[9; BLOCK]].concat());
+            assert!(fs::read(room.journal()).unwrap() == [&good[..], &blocks[0]].concat());
         }
     }
 }
@@ -90,12 +111,19 @@ fn a_send_that_is_not_durable() {
     told::steps();
     told::fail("sync");
     assert!(said(replica.send()).starts_with("cannot sync the journal"));
-    // The block of slot 3 was appended after the last sync.
-    assert_eq!(told::steps(), ["write 512", "sync", "cut 1536"]);
+    // The block of slot 3 was appended after the last sync. The copy is no more to be taken for one.
+    let due = [
+        "write 512 at 14336",
+        "write 1040 at 4096",
+        "sync",
+        "cut 13824",
+        "write 16 at 4096",
+    ];
+    assert_eq!(told::steps(), due);
     over(&mut replica, &blocks[0]);
     assert_eq!(told::steps(), [""; 0]);
     drop(replica);
-    assert!(fs::read(room.journal()).unwrap() == blocks[..3].concat());
+    assert!(blocks_of(&room) == blocks[..3].concat());
     let (_, restarted) = open(&room, 2, 0).unwrap();
     assert_eq!(restarted.last, Some(blocks[2]));
 }
@@ -111,7 +139,8 @@ fn an_open_that_fails() {
     for (word, doing) in [
         ("folder", "open"),
         ("cut", "cut"),
-        ("renew", "renew the end of"),
+        ("write 1024", "renew the end of"),
+        ("write 1040", "put a copy into"),
         ("sync", "sync"),
     ] {
         told::fail(word);
@@ -120,7 +149,7 @@ fn an_open_that_fails() {
             failed.starts_with(&format!("cannot {doing} the journal")),
             "{failed}"
         );
-        assert!(fs::read(room.journal()).unwrap() == blocks.concat());
+        assert!(blocks_of(&room) == blocks.concat());
         told::steps();
         let (_, restarted) = open(&room, 2, 0).unwrap();
         assert_eq!(told::steps(), opening(&room, 5));

@@ -1,0 +1,102 @@
+/* A replica's journal in a file, for C99 and later, and for C++, on Unix.
+ *
+ * Compile host/source/stemline_journal.c with the program. The files are those of
+ * Durable in Rust: what one has written the other opens.
+ *
+ *     stemline_replica r;
+ *     stemline_journal j;
+ *     stemline_reopened found;
+ *     if (stemline_journal_open(&j, &r, path, "grotesque", 3, 0, start, &found) != 0) {
+ *         fprintf(stderr, "%s\n", j.why);     the file is left as it is
+ *     }
+ *
+ * Of a file that is open holds: nothing is handed out that was not made durable.
+ *
+ * - open: takes up what is there, cuts off what a cut of the power tore, puts back
+ *   from the copies in the head what is damaged of the last two rounds, makes it
+ *   durable. The block found.last goes to every replica once more, if it is not
+ *   512 zeros; every other replica hands its last one out once more too.
+ * - send: stemline_replica_send, then stemline_journal_send with its block; only
+ *   where that is 0 the block is handed out.
+ * - work and take: what they give to append goes to stemline_journal_append, in
+ *   order, before the block of the next send.
+ *
+ * Each function answers 0 where it is done. Else it answers -1 and why says in one
+ * line what went wrong: then hand nothing out, close the journal and open it anew;
+ * until then every call answers -1. What was appended since the last good fsync is
+ * cut off again.
+ *
+ * A file is open once at a time, on the whole machine, in C or Rust (flock). Nobody
+ * else may write to it or cut it. It is mapped while it is opened, so that a long
+ * journal takes no memory. Where a limit of the system on the length of files ends
+ * a process by SIGXFSZ, ignore that signal: the write is then an error.
+ *
+ * Tickets above the highest in own blocks are given again after an open: what was
+ * begun or asked before is gone. */
+#ifndef STEMLINE_JOURNAL_H
+#define STEMLINE_JOURNAL_H
+
+#include "stemline.h"
+
+#ifdef __cplusplus
+extern "C" {
+#endif
+
+#define STEMLINE_JOURNAL_VERSION 1  /* of the file; no other is taken up */
+#define STEMLINE_JOURNAL_HEAD 12288 /* bytes in front of the first block */
+#define STEMLINE_GROUP_NAME 255     /* the most bytes of a group's name */
+#define STEMLINE_DIGESTS 64         /* the turns whose digests are kept */
+
+/* What all replicas of a group have in common at a turn: compare it with another's
+ * of the same turn. If it differs, the copies differ: a replica's number is used
+ * twice, or a replica is of another group or start. */
+typedef struct stemline_digest {
+    uint32_t turn, commits;
+    uint64_t digest; /* of the group, its start and all blocks with writesets */
+} stemline_digest;
+
+typedef struct stemline_journal {
+    int file; /* -1 where it is not open */
+    uint32_t n, own;
+    uint32_t blocks, kept; /* in the file, and at the last good fsync */
+    long copied;           /* where a copy was begun since, or 0 */
+    uint32_t since_count;
+    uint8_t since[STEMLINE_REPLICAS][STEMLINE_BLOCK]; /* the blocks behind the last own one */
+    stemline_digest digests[STEMLINE_DIGESTS];        /* that of turn t at t mod 64 */
+    char path[1024];
+    char why[2048]; /* what went wrong */
+} stemline_journal;
+
+/* What an open found and did. */
+typedef struct stemline_reopened {
+    uint32_t blocks; /* taken up */
+    uint32_t mended; /* of them, put back from the copies */
+    uint64_t cut;    /* bytes behind them that are cut off */
+    uint8_t last[STEMLINE_BLOCK]; /* the last own block, or 512 zeros */
+    char cut_why[128];            /* why the blocks stop there */
+} stemline_reopened;
+
+/* Opens the journal of replica own of n of a group, or makes it, and restarts r from
+ * it, with the group's values to start with. A missing or empty file is a new one;
+ * the file of another replica, group, size or start, or one that is damaged, is left
+ * as it is. The name has 1 to 255 bytes and no control characters. */
+int stemline_journal_open(
+    stemline_journal *j, stemline_replica *r, const char *path, const char *group,
+    uint32_t n, uint32_t own, const int32_t start[STEMLINE_ITEMS], stemline_reopened *found);
+
+/* Appends blocks of others, 512 bytes each, as a take gives them. */
+int stemline_journal_append(stemline_journal *j, const uint8_t *blocks, size_t count);
+
+/* Appends the block that a send gave, and makes all durable. */
+int stemline_journal_send(stemline_journal *j, const uint8_t block[STEMLINE_BLOCK]);
+
+/* Whether the digest of a turn is known, and that. */
+bool stemline_journal_digest(const stemline_journal *j, uint32_t turn, stemline_digest *digest);
+
+void stemline_journal_close(stemline_journal *j);
+
+#ifdef __cplusplus
+}
+#endif
+
+#endif

@@ -1,0 +1,438 @@
+/* A replica's journal in a file: see stemline_journal.h. Compile it with the program;
+ * it includes journal_head.h, beside it. The steps are those of
+ * host/stemline/src/journal.rs. */
+#define _DEFAULT_SOURCE /* flock */
+#define _DARWIN_C_SOURCE
+#define _FILE_OFFSET_BITS 64
+#define _POSIX_C_SOURCE 200809L
+#include "stemline_journal.h"
+
+#include <errno.h>
+#include <fcntl.h>
+#include <stdarg.h>
+#include <stdio.h>
+#include <stdlib.h>
+#include <sys/file.h>
+#include <sys/mman.h>
+#include <sys/stat.h>
+#include <unistd.h>
+
+#include "journal_head.h"
+
+/* What the good blocks of a file amount to. */
+typedef struct tally {
+    uint32_t turn;
+    uint32_t round_count;                                 /* the blocks up to the last own one, */
+    uint8_t round[STEMLINE_REPLICAS][STEMLINE_BLOCK];     /* from behind the one before */
+    uint32_t mended_count;
+    uint32_t mended[2 * STEMLINE_REPLICAS];               /* slots that are taken from the copies */
+    const uint8_t *mended_with[2 * STEMLINE_REPLICAS];
+    char stop[128];                                       /* why they stop */
+} tally;
+
+/* Says what went wrong; gives -1. */
+static int fails(stemline_journal *j, const char *doing, const char *words, ...) {
+    va_list more;
+    int at = snprintf(j->why, sizeof j->why, "cannot %s the journal %s: ", doing, j->path);
+    if (at > 0 && (size_t)at < sizeof j->why) {
+        va_start(more, words);
+        vsnprintf(j->why + at, sizeof j->why - (size_t)at, words, more);
+        va_end(more);
+    }
+    return -1;
+}
+
+/* ---- The steps at the disk */
+
+static off_t place(uint32_t slot) {
+    return HEAD + (off_t)STEMLINE_BLOCK * slot;
+}
+
+/* Reads all of that, or fails; a shorter file is an error. */
+static bool read_at(int file, void *bytes, size_t length, off_t at) {
+    uint8_t *to = (uint8_t *)bytes;
+    while (length > 0) {
+        ssize_t count = pread(file, to, length, at);
+        if (count < 0 && errno == EINTR) {
+            continue;
+        }
+        if (count <= 0) {
+            errno = count < 0 ? errno : EIO;
+            return false;
+        }
+        to += count;
+        at += count;
+        length -= (size_t)count;
+    }
+    return true;
+}
+
+/* Writes all of that. A write may take a part; the next one then says why. */
+static bool write_at(int file, const void *bytes, size_t length, off_t at) {
+    const uint8_t *from = (const uint8_t *)bytes;
+    while (length > 0) {
+        ssize_t count = pwrite(file, from, length, at);
+        if (count < 0 && errno == EINTR) {
+            continue;
+        }
+        if (count <= 0) {
+            errno = count < 0 ? errno : EIO;
+            return false;
+        }
+        from += count;
+        at += count;
+        length -= (size_t)count;
+    }
+    return true;
+}
+
+/* The end of a journal's use: without what was appended since the last good fsync the
+ * file is as a cut leaves it, and a copy of that is none. Where this fails too, there
+ * is nothing more to do, and the error is told all the same. */
+static int failed(stemline_journal *j, const char *doing) {
+    int why = errno;
+    if (ftruncate(j->file, place(j->kept)) == 0 && j->copied > 0 && j->kept < j->blocks) {
+        (void)write_at(j->file, zeros, FRONT, j->copied);
+    }
+    stemline_journal_close(j);
+    return fails(j, doing, "%s", strerror(why));
+}
+
+static int make_durable(stemline_journal *j) {
+    if (fsync(j->file) != 0) {
+        return failed(j, "sync");
+    }
+    j->kept = j->blocks;
+    j->copied = 0;
+    return 0;
+}
+
+/* Opens a file or makes it, and locks it. A new one is durable once its folder is. */
+static int open_file(stemline_journal *j, struct stat *is) {
+    j->file = open(j->path, O_RDWR | O_CREAT | O_CLOEXEC, 0666);
+    if (j->file < 0) {
+        return fails(j, "open", "%s", strerror(errno));
+    }
+    if (flock(j->file, LOCK_EX | LOCK_NB) != 0) {
+        return fails(j, "open", "%s", errno == EWOULDBLOCK ? "it is open already" : strerror(errno));
+    }
+    if (fstat(j->file, is) != 0) {
+        return fails(j, "open", "%s", strerror(errno));
+    }
+    if (!S_ISREG(is->st_mode)) {
+        return fails(j, "open", "it is no file on a disk");
+    }
+    char folder[sizeof j->path];
+    strcpy(folder, j->path);
+    char *slash = strrchr(folder, '/');
+    if (slash == NULL) {
+        strcpy(folder, ".");
+    } else {
+        slash[slash == folder] = '\0';
+    }
+    int dir = open(folder, O_RDONLY | O_CLOEXEC);
+    bool synced = dir >= 0 && fsync(dir) == 0;
+    int why = errno;
+    if (dir >= 0) {
+        close(dir);
+    }
+    return synced ? 0 : fails(j, "open", "its folder cannot be made durable: %s", strerror(why));
+}
+
+/* Makes a file with this head and no blocks: first its length, then the head, each
+ * durable before the next. */
+static int make(stemline_journal *j, const uint8_t *head) {
+    bool made = ftruncate(j->file, HEAD) == 0 && fsync(j->file) == 0
+                && write_at(j->file, head, END, 0) && fsync(j->file) == 0;
+    return made ? 0 : fails(j, "make", "%s", strerror(errno));
+}
+
+/* Writes the copy of a round that ends with an own block. */
+static bool write_copy(
+    stemline_journal *j, uint32_t first, uint32_t count, uint8_t (*blocks)[STEMLINE_BLOCK]) {
+    uint8_t page[PAGE];
+    size_t length = FRONT + STEMLINE_BLOCK * (size_t)count;
+    put(page + 8, first, 4);
+    put(page + 12, count, 4);
+    memcpy(page + FRONT, blocks, length - FRONT);
+    put(page, digest(DIGEST_START, page + 8, length - 8), 8);
+    j->copied = copy_place(j->n, first + count - 1);
+    return write_at(j->file, page, length, j->copied);
+}
+
+/* ---- The blocks of a file */
+
+/* A block that stands behind all before. */
+static void note(stemline_journal *j, const uint8_t *block) {
+    stemline_header_values header = stemline_block_header(block, STEMLINE_BLOCK).header;
+    stemline_digest d = j->digests[j->blocks % STEMLINE_DIGESTS];
+    memcpy(j->since[j->since_count++], block, STEMLINE_BLOCK);
+    j->blocks++;
+    d.turn = j->blocks;
+    d.commits += header.count;
+    d.digest = header.count > 0 ? digest(d.digest, block, STEMLINE_BLOCK) : d.digest;
+    j->digests[j->blocks % STEMLINE_DIGESTS] = d;
+}
+
+/* A block of the file: the round is over with an own one. */
+static void add(stemline_journal *j, tally *t, const uint8_t *block) {
+    note(j, block);
+    t->turn++;
+    if ((t->turn - 1) % j->n == j->own) {
+        memcpy(t->round, j->since, sizeof t->round);
+        t->round_count = j->since_count;
+        j->since_count = 0;
+    }
+}
+
+/* Adds the good blocks of the file from the turn on. Gives false where it cannot be read. */
+static bool add_good(stemline_journal *j, tally *t, off_t length) {
+    static const size_t most = 128 * STEMLINE_BLOCK;
+    uint8_t *bytes = (uint8_t *)malloc(most);
+    bool good = bytes != NULL, goes = good;
+    while (goes) {
+        off_t left = length - place(t->turn);
+        size_t count = left <= 0 ? 0 : left < (off_t)most ? (size_t)left : most;
+        good = read_at(j->file, bytes, count, place(t->turn));
+        strcpy(t->stop, "nothing is behind it");
+        for (size_t at = 0; good && goes; at += STEMLINE_BLOCK) {
+            const uint8_t *block = bytes + at;
+            stemline_block_reply read;
+            if (count - at < STEMLINE_BLOCK) {
+                if (count > at && count < most) {
+                    sprintf(t->stop, "the block is torn: %d of 512 bytes", (int)(count - at));
+                }
+                goes = count == most;
+                break;
+            }
+            read = stemline_block_header(block, STEMLINE_BLOCK);
+            if (read.number != 0) {
+                sprintf(t->stop, "%s (%d)", stemline_words(read.number), read.number);
+            } else if (read.header.replicas != j->n) {
+                sprintf(t->stop, "the block is of a group of %d, the journal of one of %d",
+                        read.header.replicas, (int)j->n);
+            } else if (read.header.slot != t->turn) {
+                sprintf(t->stop, "the block is of slot %lu, in the place of slot %lu",
+                        (unsigned long)read.header.slot, (unsigned long)t->turn);
+            } else {
+                add(j, t, block);
+                continue;
+            }
+            goes = false;
+        }
+        goes = goes && good;
+    }
+    free(bytes);
+    return good;
+}
+
+/* Reads the blocks of the file, with those that the copies mend. */
+static int look(stemline_journal *j, tally *t, const uint8_t *front, off_t length) {
+    copy copies[2];
+    uint32_t count = 0;
+    for (long at = PAGE; at < HEAD; at += PAGE) {
+        count += read_copy(front, at, j->n, j->own, &copies[count]);
+    }
+    for (bool goes = true; goes;) {
+        if (!add_good(j, t, length)) {
+            return fails(j, "read", "%s", strerror(errno));
+        }
+        goes = false;
+        for (uint32_t k = 0; k < count && !goes; k++) {
+            const copy *c = &copies[k];
+            while (t->turn >= c->first && t->turn - c->first < c->count) {
+                const uint8_t *block = c->blocks + STEMLINE_BLOCK * (size_t)(t->turn - c->first);
+                t->mended[t->mended_count] = t->turn;
+                t->mended_with[t->mended_count++] = block;
+                add(j, t, block);
+                goes = true;
+            }
+        }
+    }
+    for (uint32_t k = 0; k < count; k++) {
+        uint32_t last = copies[k].first + copies[k].count - 1;
+        if (last >= t->turn) {
+            return fails(j, "take up",
+                         "its block %lu is damaged, and the own block of slot %lu behind it was perhaps "
+                         "handed out: %s",
+                         (unsigned long)t->turn, (unsigned long)last, t->stop);
+        }
+    }
+    /* a cut tears the blocks up to the next own one, which is durable before anything follows */
+    off_t torn = STEMLINE_BLOCK * (off_t)((j->own + j->n - t->turn % j->n) % j->n + 1);
+    if (length - place(t->turn) > torn) {
+        return fails(j, "take up",
+                     "its block %lu is damaged, and more than a cut can tear is behind it: %s",
+                     (unsigned long)t->turn, t->stop);
+    }
+    return 0;
+}
+
+/* Restarts the replica from all that the file has, which is mapped meanwhile. */
+static int restart(
+    stemline_journal *j, stemline_replica *r, const int32_t *start, off_t length, uint8_t *last) {
+    if ((off_t)(size_t)length != length) {
+        return fails(j, "lend", "%s", strerror(EFBIG));
+    }
+    void *map = mmap(NULL, (size_t)length, PROT_READ, MAP_SHARED, j->file, 0);
+    if (map == MAP_FAILED) {
+        return fails(j, "lend", "%s", strerror(errno));
+    }
+    stemline_restart_reply reply = stemline_replica_restart(
+        r, j->n, j->own, start, (const uint8_t *)map + HEAD, (size_t)length - HEAD, last);
+    munmap(map, (size_t)length);
+    return reply.number == 0 && reply.count == j->blocks
+               ? 0
+               : fails(j, "take up", "a restart does not take up the blocks that are read");
+}
+
+/* Cuts off what is behind the good blocks and makes the rest durable. What was read may
+ * be in the system's memory alone, and count there as written: the blocks since the own
+ * one before the last are written once more, and the copy. */
+static int take_up(stemline_journal *j, tally *t) {
+    uint32_t first = j->blocks - j->since_count - t->round_count;
+    bool done = ftruncate(j->file, place(j->blocks)) == 0
+                && write_at(j->file, t->round, STEMLINE_BLOCK * (size_t)t->round_count, place(first))
+                && write_at(j->file, j->since, STEMLINE_BLOCK * (size_t)j->since_count,
+                            place(first + t->round_count))
+                && (t->round_count == 0 || write_copy(j, first, t->round_count, t->round));
+    return done ? make_durable(j) : failed(j, "renew the end of");
+}
+
+static int open_with(
+    stemline_journal *j, stemline_replica *r, const char *group, const int32_t *start,
+    stemline_reopened *found, uint8_t *front, tally *t) {
+    struct stat is;
+    uint8_t due[END], any[END];
+    put_head(due, group, j->n, j->own, start);
+    put_head(any, group, j->n, 0, start);
+    if (open_file(j, &is) != 0) {
+        return -1;
+    }
+    off_t length = is.st_size;
+    size_t read = length < HEAD ? (size_t)length : HEAD;
+    if (!read_at(j->file, front, read, 0)) {
+        return fails(j, "read", "%s", strerror(errno));
+    }
+    char words[1400];
+    if (is_new(front, read, (uint64_t)length, due, words, sizeof words)) {
+        if (make(j, due) != 0) {
+            return -1;
+        }
+        memset(front, 0, HEAD);
+        length = HEAD;
+    } else if (words[0] != '\0') {
+        return fails(j, "take up", "%s", words);
+    }
+    j->digests[0].digest = digest(DIGEST_START, any, CHECK);
+    if (look(j, t, front, length) != 0) {
+        return -1;
+    }
+    j->kept = j->blocks;
+    off_t end = length;
+    for (uint32_t k = 0; k < t->mended_count; k++) {
+        off_t at = place(t->mended[k]);
+        if (!write_at(j->file, t->mended_with[k], STEMLINE_BLOCK, at)) {
+            return fails(j, "mend", "%s", strerror(errno));
+        }
+        end = end < at + STEMLINE_BLOCK ? at + STEMLINE_BLOCK : end;
+    }
+    if (restart(j, r, start, end, found->last) != 0 || take_up(j, t) != 0) {
+        return -1;
+    }
+    found->blocks = j->blocks;
+    found->mended = t->mended_count;
+    found->cut = length > place(j->blocks) ? (uint64_t)(length - place(j->blocks)) : 0;
+    strcpy(found->cut_why, t->stop);
+    return 0;
+}
+
+/* ---- What the header declares */
+
+int stemline_journal_open(
+    stemline_journal *j, stemline_replica *r, const char *path, const char *group,
+    uint32_t n, uint32_t own, const int32_t start[STEMLINE_ITEMS], stemline_reopened *found) {
+    memset(j, 0, sizeof *j);
+    memset(found, 0, sizeof *found);
+    j->file = -1;
+    j->n = n;
+    j->own = own;
+    if (strlen(path) >= sizeof j->path) {
+        strcpy(j->path, "(a path that is too long)");
+        return fails(j, "open", "%s", strerror(ENAMETOOLONG));
+    }
+    strcpy(j->path, path);
+    size_t name = strlen(group);
+    if (name == 0) {
+        return fails(j, "open", "the group has no name");
+    }
+    if (name > STEMLINE_GROUP_NAME) {
+        return fails(j, "open", "the group's name has more than 255 bytes");
+    }
+    for (size_t k = 0; k < name; k++) {
+        if ((unsigned char)group[k] < 32 || group[k] == 127) {
+            return fails(j, "open", "the group's name has a control character");
+        }
+    }
+    if (stemline_replica_make(r, n, own, start) != 0) {
+        return fails(j, "open", "%s", stemline_words(STEMLINE_OUT_OF_RANGE));
+    }
+    uint8_t *front = (uint8_t *)calloc(1, HEAD);
+    tally *t = (tally *)calloc(1, sizeof *t);
+    int opened = front != NULL && t != NULL ? open_with(j, r, group, start, found, front, t)
+                                            : fails(j, "open", "%s", strerror(ENOMEM));
+    free(t);
+    free(front);
+    if (opened != 0) {
+        stemline_journal_close(j);
+    }
+    return opened;
+}
+
+/* Puts a block behind all others. */
+static int append(stemline_journal *j, const uint8_t *block) {
+    if (j->file < 0) {
+        return fails(j, "go on with", "it failed before; open it anew");
+    }
+    if (j->since_count == STEMLINE_REPLICAS) {
+        return fails(j, "append to", "a round has no more blocks");
+    }
+    if (!write_at(j->file, block, STEMLINE_BLOCK, place(j->blocks))) {
+        return failed(j, "append to");
+    }
+    note(j, block);
+    return 0;
+}
+
+int stemline_journal_append(stemline_journal *j, const uint8_t *blocks, size_t count) {
+    int done = 0;
+    for (size_t k = 0; k < count && done == 0; k++) {
+        done = append(j, blocks + STEMLINE_BLOCK * k);
+    }
+    return done;
+}
+
+int stemline_journal_send(stemline_journal *j, const uint8_t block[STEMLINE_BLOCK]) {
+    if (append(j, block) != 0) {
+        return -1;
+    }
+    uint32_t count = j->since_count;
+    j->since_count = 0;
+    if (!write_copy(j, j->blocks - count, count, j->since)) {
+        return failed(j, "put a copy into");
+    }
+    return make_durable(j);
+}
+
+bool stemline_journal_digest(const stemline_journal *j, uint32_t turn, stemline_digest *digest) {
+    *digest = j->digests[turn % STEMLINE_DIGESTS];
+    return digest->turn == turn && turn <= j->blocks;
+}
+
+void stemline_journal_close(stemline_journal *j) {
+    if (j->file >= 0) {
+        (void)flock(j->file, LOCK_UN);
+        close(j->file);
+    }
+    j->file = -1;
+}
