@@ -134,7 +134,7 @@ fn bad_arguments() {
         (
             &["/a b"],
             2,
-            "the PREFIX has a space in it, which no pkg-config file can name",
+            "the PREFIX, from / on, has a character that no pkg-config file can name; letters, digits and /._-+,:@=^~ can be",
         ),
         (&[under], 1, &cannot),
     ] {
@@ -147,6 +147,6 @@ fn bad_arguments() {
         assert_eq!(ran.stdout, b"");
     }
     let help = printed(&install(&["--help"], None));
-    assert!(help.starts_with("usage: scripts/install [PREFIX]\n"));
+    assert!(help.starts_with("usage: scripts/install [--uninstall] [PREFIX]\n"));
     assert!(FILES.iter().all(|file| help.contains(file)), "{help}");
 }
