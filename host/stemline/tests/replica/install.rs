@@ -182,8 +182,8 @@ fn characters() {
     let room = room("characters");
     let words =
         "install: the PREFIX, from / on, has a character that no pkg-config file can name; \
-        letters, digits and /._-+,:@=^~ can be\n";
-    for part in ["a-b_c+d,e:f@g=h^i~j.k0"] {
+        letters, digits and /._-+,@=^~ can be\n";
+    for part in ["a-b_c+d,e@g=h^i~j.k0"] {
         let prefix = room.join(part);
         printed(&install(&[prefix.to_str().unwrap()], None));
         let said = package(&prefix, "--cflags", "Cflags: ");
@@ -191,7 +191,7 @@ fn characters() {
     }
     for bad in [
         "'", "#", "\\", "&", "${y}", " ", "\t", "\n", "\"", "`", "$", "%", "*", "?", "(", ";", "<",
-        "|", "[", "{", "!", "ü",
+        "|", "[", "{", "!", ":", "ü",
     ] {
         for part in [format!("a{bad}b"), format!("a{bad}")] {
             let prefix = room.join(&part);
@@ -234,7 +234,7 @@ fn bad_arguments() {
         (
             &["/a b"],
             2,
-            "the PREFIX, from / on, has a character that no pkg-config file can name; letters, digits and /._-+,:@=^~ can be",
+            "the PREFIX, from / on, has a character that no pkg-config file can name; letters, digits and /._-+,@=^~ can be",
         ),
         (&[under], 1, &cannot),
     ] {
