@@ -299,6 +299,13 @@ static inline uint8_t stemline_replica_load(
     return stemline_load(&r->turn, r->classes, STEMLINE_ITEMS, classes, length);
 }
 
+/* Whether a block waits for the turn: where none does, a work is refused by 21. */
+static inline bool stemline_replica_waits(const stemline_replica *r) {
+    uint32_t n = r->counts.replicas;
+    /* only in altered memory is n out of range; the work says then what is wrong */
+    return n - 1 >= STEMLINE_REPLICAS || r->places[STEMLINE_BLOCK * (r->turn.slot % n)] != 0;
+}
+
 /* What a replica does with a block that arrives: delivers it, then works until
  * nothing waits for the turn. Gives the steps in their order: none where the
  * block is early and has to wait; those of blocks that waited already too, where
@@ -314,14 +321,15 @@ static inline stemline_take_reply stemline_replica_take(
     memset(&reply, 0, sizeof reply);
     reply.number = stemline_replica_deliver(r, bytes, length);
     /* each block that is left leaves its place empty, so there are at most 6 to append */
-    while (reply.number == STEMLINE_ACCEPTED && reply.count < STEMLINE_STEPS
-           && reply.append_count < STEMLINE_REPLICAS) {
+    bool waits = reply.number == STEMLINE_ACCEPTED && stemline_replica_waits(r);
+    while (waits && reply.count < STEMLINE_STEPS && reply.append_count < STEMLINE_REPLICAS) {
         stemline_work_reply work = stemline_replica_work(r, reply.append[reply.append_count]);
         if (work.number != STEMLINE_ACCEPTED) {
             break; /* 21: behind a deliver no work of this struct is refused by another */
         }
         reply.steps[reply.count++] = work;
         reply.append_count = (uint8_t)(reply.append_count + work.append);
+        waits = !work.moved || stemline_replica_waits(r);
     }
     return reply;
 }

@@ -1,7 +1,9 @@
 //! The library beside the model, and a program over journals that is killed, for as long as asked.
 
+use std::fmt::Display;
+use std::io::{self, Write};
 use std::path::{Path, PathBuf};
-use std::process::{Command, ExitCode};
+use std::process::{exit, Command, ExitCode};
 use std::time::{Duration, Instant};
 use std::{env, fs};
 
@@ -24,7 +26,7 @@ Every ten seconds it prints how much was done.
   --seed S     the seed of the first run; each takes the seed after the last (0)
 
 With no option, 1,000,000 calls and 40 kills. The status is 0 where all was the same and nothing was lost,
-1 at the first difference or loss, 2 where it cannot begin.";
+1 at the first difference or loss, 2 where it cannot begin, or can no longer print.";
 
 /// Between two lines of progress.
 const PAUSE: Duration = Duration::from_secs(10);
@@ -69,17 +71,37 @@ fn again(step: Step, room: &Path) -> String {
     }
 }
 
-fn summary(done: &Done) {
-    println!("soak: {done}");
+/// Prints a line. Where that cannot be, nobody learns what is done: the soak ends, and takes its folder with
+/// it.
+fn say(room: Option<&Path>, line: impl Display) {
+    let mut out = io::stdout().lock();
+    let printed = writeln!(out, "{line}").and_then(|()| out.flush());
+    if let Err(error) = printed {
+        room.map(fs::remove_dir_all);
+        complain(format!("cannot print: {error}"));
+        exit(2);
+    }
+}
+
+/// A line on standard error. If it cannot be told there, the status tells it.
+fn complain(words: impl Display) {
+    let _ = writeln!(io::stderr(), "soak: {words}");
+}
+
+fn summary(done: &Done, room: &Path) {
+    // What a loss left is to be looked at.
+    let room = done.difference.is_none().then_some(room);
+    let say = |line: String| say(room, line);
+    say(format!("soak: {done}"));
     if done.seen.calls > 0 {
         let (restarts, refused) = (grouped(done.seen.restarts), runs::refused(&done.seen));
-        println!(
+        say(format!(
             "soak: compared: {restarts} restarts besides; calls refused, by number: {refused}"
-        );
+        ));
     }
     if done.kills > 0 {
         let end = done.difference.map_or("; nothing lost", |_| "");
-        println!("soak: killed: {}{end}", done.met);
+        say(format!("soak: killed: {}{end}", done.met));
     }
 }
 
@@ -100,30 +122,31 @@ fn main() -> ExitCode {
     }
     let words: Vec<String> = env::args().skip(1).collect();
     if words.iter().any(|word| word == "--help") {
-        println!("{HELP}");
+        say(None, HELP);
         return ExitCode::SUCCESS;
     }
     let (plan, room) = match begin(words) {
         Ok(begun) => begun,
         Err(words) => {
-            eprintln!("soak: {words}");
+            complain(words);
             return ExitCode::from(2);
         }
     };
     let mut soak = Soak { room, crash: None };
     let mut said = Instant::now();
+    let folder = soak.room.clone();
     let done = plan.go(&mut soak, |done| {
         if said.elapsed() >= PAUSE {
             said = Instant::now();
-            println!("soak: {done}");
+            say(Some(&folder), format!("soak: {done}"));
         }
     });
-    summary(&done);
+    if let Some(step) = done.difference {
+        complain(again(step, &soak.room));
+    }
+    summary(&done, &soak.room);
     match done.difference {
         None => ExitCode::SUCCESS,
-        Some(step) => {
-            eprintln!("soak: {}", again(step, &soak.room));
-            ExitCode::FAILURE
-        }
+        Some(_) => ExitCode::FAILURE,
     }
 }

@@ -61,6 +61,24 @@ fn bad_words() {
     assert!(text(&ran.stdout).starts_with("usage: scripts/soak "));
 }
 
+/// What cannot be printed is said, with 2, and no folder is left.
+#[test]
+#[cfg(target_os = "linux")]
+fn full_disk() {
+    let room = Path::new(env!("CARGO_TARGET_TMPDIR")).join("full");
+    fs::create_dir_all(&room).unwrap();
+    for words in [&["--help"][..], &["--calls", "1"], &["--kills", "1"]] {
+        let full = OpenOptions::new().write(true).open("/dev/full").unwrap();
+        let mut command = Command::new(PROGRAM);
+        command.args(words).env("TMPDIR", &room).stdout(full);
+        let ran = command.output().unwrap();
+        let said = text(&ran.stderr);
+        assert!(said.starts_with("soak: cannot print: "), "{said}");
+        assert_eq!((said.lines().count(), ran.status.code()), (1, Some(2)));
+        assert_eq!(fs::read_dir(&room).unwrap().count(), 0, "{words:?}");
+    }
+}
+
 /// A group that was killed until each replica's journal has some blocks.
 fn killed(name: &str) -> (Crash, PathBuf) {
     let room = Path::new(env!("CARGO_TARGET_TMPDIR")).join(name);

@@ -10,10 +10,12 @@
 //!   standard error, and the status is then 1.
 //! - `journal block HEX..` prints a line for each block given as hexadecimal digits; `journal block -` for
 //!   those on standard input, one on each line. The status is 1 where one of them is no good block.
+//! - `journal --help` prints these in a line, `journal --version` the version.
 //!
 //! What is wrong is said in a line on standard error. The status is 2 where the arguments are none of
 //! these, and where something cannot be read or printed. No file is locked or changed: the journal of a
-//! replica at work can be looked at too, and may then end in a torn block.
+//! replica at work can be looked at too, and may then end in a torn block. How much is behind the good
+//! blocks is told of a plain file alone: a pipe or a device may never end.
 
 use std::ffi::{OsStr, OsString};
 use std::fs::File;
@@ -25,7 +27,9 @@ use std::{env, iter};
 use stemline::{Block, Blocks, Head, Stop, BLOCK, HEAD};
 
 const USAGE: &str = "usage: journal show FILE | journal check FILE | journal values FILE | \
-    journal block HEX.. | journal block -";
+    journal block HEX.. | journal block - | journal --help | journal --version";
+/// What is kept of a line of the input: much more than the digits of a block.
+const KEPT: usize = 8 * BLOCK;
 
 /// Why the program ends before it is done.
 enum End {
@@ -38,7 +42,12 @@ enum End {
 fn main() -> ExitCode {
     let arguments: Vec<OsString> = env::args_os().skip(1).collect();
     let mut out = BufWriter::new(io::stdout().lock());
-    let done = run(&arguments, &mut out);
+    let done = match start::is_closed() {
+        true => Err(End::Cannot(
+            "cannot print: standard output is closed".to_string(),
+        )),
+        false => run(&arguments, &mut out),
+    };
     let done = match printed(out.flush()) {
         Err(End::Cannot(words)) => Err(End::Cannot(words)),
         _ => done,
@@ -63,15 +72,23 @@ fn run(arguments: &[OsString], out: &mut impl Write) -> Result<bool, End> {
         [verb, dash] if verb == "block" && dash == "-" => blocks(lines(io::stdin().lock()), out),
         [verb, _, ..] if verb == "block" => {
             let digits = words[1..].iter().map(|word| word.to_string_lossy());
-            blocks(digits.map(|digits| Ok(digits.into_owned())), out)
+            blocks(digits.map(|digits| Ok(Some(digits.into_owned()))), out)
+        }
+        [word] if word == "--help" || word == "-h" => {
+            printed(writeln!(out, "{USAGE}")).map(|()| true)
+        }
+        [word] if word == "--version" => {
+            let version = env!("CARGO_PKG_VERSION");
+            printed(writeln!(out, "journal of Stemline {version}")).map(|()| true)
         }
         _ => Err(End::Cannot(USAGE.to_string())),
     }
 }
 
-/// A file that has a head: that, its copies, and the blocks behind.
+/// A file that has a head: that, its length if it is a plain file, its copies, and the blocks behind.
 struct Opened {
     head: Head,
+    length: Option<u64>,
     copies: Vec<Vec<Block>>,
     blocks: Blocks<BufReader<File>>,
 }
@@ -79,7 +96,9 @@ struct Opened {
 /// Opens a file; or gives in words why it is no journal, `None` where it is empty.
 fn open(file: &Path) -> Result<Result<Opened, Option<String>>, End> {
     let unread = unread(file);
-    let mut source = BufReader::new(File::open(file).map_err(unread)?);
+    let source = File::open(file).map_err(unread)?;
+    let about = source.metadata().map_err(unread)?;
+    let mut source = BufReader::new(source);
     let mut front = Vec::new();
     let mut part = source.by_ref().take(HEAD as u64);
     let read = part.read_to_end(&mut front).map_err(unread)?;
@@ -88,6 +107,7 @@ fn open(file: &Path) -> Result<Result<Opened, Option<String>>, End> {
         Ok(_) if read < HEAD => Err(Some("it ends within its head".to_string())),
         Err(words) => Err(Some(words)),
         Ok(head) => Ok(Opened {
+            length: about.is_file().then_some(about.len()),
             copies: head.copies(&front),
             blocks: Blocks::of(source, head.replicas(), 0),
             head,
@@ -117,7 +137,8 @@ impl Opened {
             }
             good += 1;
         };
-        let left = self.blocks.left().map_err(unread)?;
+        let length = self.length;
+        let left = length.map(|length| length.saturating_sub(place(good)));
         let sent = self
             .copies
             .iter()
@@ -196,54 +217,80 @@ fn copied(copies: &[Vec<Block>]) -> String {
     }
 }
 
-/// The line of so many good blocks, why they stop, and how many bytes are behind them.
-fn ending(good: u64, stop: Stop, left: u64) -> String {
+/// The byte of a file behind so many blocks.
+fn place(blocks: u64) -> u64 {
+    HEAD as u64 + blocks * BLOCK as u64
+}
+
+/// The line of so many good blocks, why they stop, and how many bytes are behind them, where that is known.
+fn ending(good: u64, stop: Stop, left: Option<u64>) -> String {
     let many = |count: u64, what: &str| match count {
         1 => format!("1 {what}"),
         _ => format!("{count} {what}s"),
     };
-    let place = format!(
-        "after {}, at byte {}",
-        many(good, "block"),
-        HEAD as u64 + good * BLOCK as u64
-    );
+    let place = format!("after {}, at byte {}", many(good, "block"), place(good));
+    let left = left.map_or(String::new(), |left| {
+        format!(", {} before the end", many(left, "byte"))
+    });
     match stop {
         Stop::End => format!("ends {place}"),
-        _ => format!(
-            "stops {place}, {} before the end: {stop}",
-            many(left, "byte")
-        ),
+        _ => format!("stops {place}{left}: {stop}"),
     }
 }
 
-/// Prints a line for each block in hexadecimal digits. Gives whether all are good.
+/// Prints a line for each block in hexadecimal digits, `None` for more of them than are kept. Gives whether
+/// all are good.
 fn blocks(
-    all: impl Iterator<Item = Result<String, End>>,
+    all: impl Iterator<Item = Result<Option<String>, End>>,
     out: &mut impl Write,
 ) -> Result<bool, End> {
     let mut good = true;
     for (at, digits) in all.enumerate() {
-        match digits?.parse::<Block>() {
+        let read = match digits? {
+            Some(digits) => digits.parse::<Block>().map_err(|error| error.to_string()),
+            None => Err(format!(
+                "a block has {} hexadecimal digits, and this line has more than {KEPT}",
+                2 * BLOCK
+            )),
+        };
+        match read {
             Ok(block) => printed(writeln!(out, "{block}"))?,
-            Err(error) => {
+            Err(words) => {
                 good = false;
                 printed(out.flush())?;
-                complain(&format!("block {}: {error}", at + 1));
+                complain(&format!("block {}: {words}", at + 1));
             }
         }
     }
     Ok(good)
 }
 
-/// The lines of an input of any bytes, without what ends them.
-fn lines(mut input: impl BufRead) -> impl Iterator<Item = Result<String, End>> {
+/// The lines of an input of any bytes, without what ends them; of one that is longer than what is kept
+/// `None`, as soon as that is known, and the rest of it is passed over.
+fn lines(mut input: impl BufRead) -> impl Iterator<Item = Result<Option<String>, End>> {
+    let unread = |error| End::Cannot(format!("cannot read the input: {error}"));
     let mut line = Vec::new();
+    let mut long = false;
     iter::from_fn(move || {
+        if long {
+            long = false;
+            if let Err(error) = input.skip_until(b'\n') {
+                return Some(Err(unread(error)));
+            }
+        }
         line.clear();
-        match input.read_until(b'\n', &mut line) {
+        let mut part = input.by_ref().take(KEPT as u64 + 1);
+        match part.read_until(b'\n', &mut line) {
             Ok(0) => None,
-            Ok(_) => Some(Ok(String::from_utf8_lossy(&line).trim_end().to_string())),
-            Err(error) => Some(Err(End::Cannot(format!("cannot read the input: {error}")))),
+            Ok(_) if line.len() > KEPT && !line.ends_with(b"\n") => {
+                long = true;
+                Some(Ok(None))
+            }
+            Ok(_) => {
+                let text = String::from_utf8_lossy(&line);
+                Some(Ok(Some(text.trim_end().to_string())))
+            }
+            Err(error) => Some(Err(unread(error))),
         }
     })
 }
@@ -258,4 +305,40 @@ fn printed(result: io::Result<()>) -> Result<(), End> {
 /// A line on standard error. If it cannot be told there, the status tells it.
 fn complain(words: &str) {
     let _ = writeln!(io::stderr(), "journal: {words}");
+}
+
+/// Whether standard output was closed when the program was started. Rust's own start opens the null device
+/// in its place, so this is asked before.
+#[cfg(target_os = "linux")]
+mod start {
+    use std::ffi::c_int;
+    use std::sync::atomic::{AtomicBool, Ordering};
+
+    static CLOSED: AtomicBool = AtomicBool::new(false);
+
+    #[used]
+    #[link_section = ".init_array"]
+    static ASK: extern "C" fn() = ask;
+
+    extern "C" fn ask() {
+        extern "C" {
+            fn fcntl(file: c_int, what: c_int, ...) -> c_int;
+        }
+        const F_GETFD: c_int = 1;
+        // SAFETY: it takes two numbers and looks at no memory.
+        let flags = unsafe { fcntl(1, F_GETFD) };
+        CLOSED.store(flags < 0, Ordering::Relaxed);
+    }
+
+    pub fn is_closed() -> bool {
+        CLOSED.load(Ordering::Relaxed)
+    }
+}
+
+/// Elsewhere that is not known.
+#[cfg(not(target_os = "linux"))]
+mod start {
+    pub fn is_closed() -> bool {
+        false
+    }
 }

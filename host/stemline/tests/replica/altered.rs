@@ -4,6 +4,7 @@
 use model::block::{self, Message, BLOCK, MAX_TICKET};
 use model::drive::{start_values, Peers, Subject, STYLES};
 use model::samples::{self, Random};
+use soak::runs::NUMBERS;
 use stemline::ffi::Txn;
 use stemline::{Memory, Refusal, Replica, Station, Taken, ITEMS, NO_NUMBER, STEPS};
 
@@ -233,10 +234,11 @@ fn every_call_returns() {
             numbers[usize::from(answer.0)] += 1;
         }
     });
-    // Every number of the table, which has no 24, is met here too, unless fewer runs are asked for.
-    let met = |number: &usize| numbers[*number] > 0 || *number == 24;
-    let missing: Vec<usize> = (0..26).filter(|number| !met(number)).collect();
-    assert!(seeds.runs < RUNS || missing.is_empty(), "{numbers:?}");
+    // Every number of the table is met here too, unless fewer runs are asked for, and no other is: there is
+    // no 22 any more, and no 24.
+    let met: Vec<usize> = (1..26).filter(|&number| numbers[number] > 0).collect();
+    assert!(numbers[22] == 0 && numbers[24] == 0, "{numbers:?}");
+    assert!(seeds.runs < RUNS || met == NUMBERS, "{numbers:?}");
 }
 
 /// A work that says so leaves the block of the turn in the lent one; any other leaves that as it was.

@@ -260,7 +260,7 @@ fn any_bytes() {
         ("report", 1),
         ("send", 5),
         ("deliver", 7),
-        ("work", 4),
+        ("work", 3),
         ("load", 4),
     ];
     assert_eq!(lines.len(), least.len(), "{said}");

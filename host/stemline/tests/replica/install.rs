@@ -2,13 +2,14 @@
 //! alone.
 
 use std::fs;
+use std::os::unix::fs::symlink;
 use std::path::{Path, PathBuf};
 use std::process::{Command, Output};
 use std::sync::Once;
 
 use crate::c::{printed, say};
 
-const FILES: [&str; 8] = [
+const FILES: [&str; 9] = [
     "include/stemline.h",
     "include/stemline_calls.h",
     "include/stemline_journal.h",
@@ -17,6 +18,7 @@ const FILES: [&str; 8] = [
     "lib/libstemline.a",
     "lib/pkgconfig/stemline.pc",
     "share/man/man1/replay.1",
+    "share/stemline/installed",
 ];
 
 fn top() -> PathBuf {
@@ -102,12 +104,110 @@ fn a_folder_before_the_prefix() {
     }
     let package = fs::read_to_string(root.join("lib/pkgconfig/stemline.pc")).unwrap();
     assert!(package.starts_with("prefix=/prefix\n"), "{package}");
-    let built = top().join("target/bin/replay").is_file();
-    assert_eq!(root.join("bin/replay").is_file(), built);
-    assert_eq!(said.contains("replay is not built"), !built, "{said}");
-    if built {
-        let ran = Command::new(root.join("bin/replay")).output().unwrap();
-        assert_eq!(printed(&ran), "");
+    for (program, built) in [
+        ("replay", "target/bin/replay"),
+        ("journal", "host/target/release/journal"),
+    ] {
+        let built = top().join(built).is_file();
+        let there = root.join("bin").join(program);
+        assert_eq!(there.is_file(), built);
+        let left_out = format!("{program} is not built");
+        assert_eq!(said.contains(&left_out), !built, "{said}");
+        if built {
+            let ran = Command::new(there).arg("--version").output().unwrap();
+            assert_eq!(ran.status.code(), Some(0));
+        }
+    }
+}
+
+/// Prefix and stage are seen from the folder of the caller, and the script may be called through a link.
+#[test]
+fn relative_folders_through_a_link() {
+    let room = room("relative").canonicalize().unwrap();
+    let link = room.join("link");
+    symlink(top().join("scripts/install"), &link).unwrap();
+    let mut script = Command::new("./link");
+    script.current_dir(&room).arg("here").env_remove("DESTDIR");
+    printed(&script.output().unwrap());
+    let package = room.join("here/lib/pkgconfig/stemline.pc");
+    let text = fs::read_to_string(package).unwrap();
+    let first = format!("prefix={}/here", room.display());
+    assert_eq!(text.lines().next(), Some(&first[..]));
+    printed(&script.env("DESTDIR", "stage").output().unwrap());
+    let staged = format!("stage{}/here/include/stemline.h", room.display());
+    assert!(room.join(staged).is_file());
+}
+
+/// What was installed is taken away, and nothing else.
+#[test]
+fn uninstall() {
+    let prefix = room("uninstall");
+    let name = prefix.to_str().unwrap();
+    let gone = install(&["--uninstall", name], None);
+    let none =
+        format!("install: nothing to take away: there is no {name}/share/stemline/installed\n");
+    assert_eq!(
+        (gone.status.code(), &gone.stderr[..]),
+        (Some(1), none.as_bytes())
+    );
+    printed(&install(&[name], None));
+    printed(&install(&[name], None));
+    let other = prefix.join("include/other.h");
+    fs::write(&other, "").unwrap();
+    let said = printed(&install(&["--uninstall", name], None));
+    for file in FILES {
+        assert!(!prefix.join(file).exists(), "{file}");
+    }
+    assert!(said.contains("took away") && other.is_file());
+    assert!(fs::read_dir(prefix.join("bin")).unwrap().next().is_none());
+    // A list that somebody changed.
+    printed(&install(&[name], None));
+    for line in [
+        "../other",
+        "/etc/passwd",
+        "include/stemline/../../../x.h",
+        "",
+    ] {
+        fs::write(prefix.join("share/stemline/installed"), format!("{line}\n")).unwrap();
+        let refused = install(&["--uninstall", name], None);
+        assert_eq!(refused.status.code(), Some(1), "{line}");
+        assert!(prefix.join("include/stemline.h").is_file());
+    }
+}
+
+/// Of each character of a prefix: what `pkg-config` says of it can be handed to a compiler as it is, or it is
+/// refused, and nothing is written.
+#[test]
+fn characters() {
+    let room = room("characters");
+    let words =
+        "install: the PREFIX, from / on, has a character that no pkg-config file can name; \
+        letters, digits and /._-+,@=^~ can be\n";
+    for part in ["a-b_c+d,e@g=h^i~j.k0"] {
+        let prefix = room.join(part);
+        printed(&install(&[prefix.to_str().unwrap()], None));
+        let said = package(&prefix, "--cflags", "Cflags: ");
+        assert_eq!(said, format!("-I{}/include", prefix.display()));
+    }
+    for bad in [
+        "'", "#", "\\", "&", "${y}", " ", "\t", "\n", "\"", "`", "$", "%", "*", "?", "(", ";", "<",
+        "|", "[", "{", "!", ":", "ü",
+    ] {
+        for part in [format!("a{bad}b"), format!("a{bad}")] {
+            let prefix = room.join(&part);
+            let ran = install(&[prefix.to_str().unwrap()], None);
+            let said = String::from_utf8(ran.stderr).unwrap();
+            assert_eq!((ran.status.code(), &said[..]), (Some(2), words), "{part}");
+            assert!(!prefix.exists(), "{part}");
+            // From a folder of such a name.
+            fs::create_dir_all(&prefix).unwrap();
+            let mut script = Command::new(top().canonicalize().unwrap().join("scripts/install"));
+            script
+                .current_dir(&prefix)
+                .arg("here")
+                .env_remove("DESTDIR");
+            assert_eq!(script.output().unwrap().status.code(), Some(2), "{part}");
+        }
     }
 }
 
@@ -134,7 +234,7 @@ fn bad_arguments() {
         (
             &["/a b"],
             2,
-            "the PREFIX has a space in it, which no pkg-config file can name",
+            "the PREFIX, from / on, has a character that no pkg-config file can name; letters, digits and /._-+,@=^~ can be",
         ),
         (&[under], 1, &cannot),
     ] {
@@ -147,6 +247,6 @@ fn bad_arguments() {
         assert_eq!(ran.stdout, b"");
     }
     let help = printed(&install(&["--help"], None));
-    assert!(help.starts_with("usage: scripts/install [PREFIX]\n"));
+    assert!(help.starts_with("usage: scripts/install [--uninstall] [PREFIX]\n"));
     assert!(FILES.iter().all(|file| help.contains(file)), "{help}");
 }

@@ -25,6 +25,7 @@ mod prototypes;
 mod recorder;
 mod restarts;
 mod scenes;
+mod scripts;
 mod seeds;
 mod stations;
 mod story;

@@ -35,8 +35,9 @@ fn every_call() {
 
 #[test]
 fn every_number() {
-    // There is no 24.
-    for number in (1..=23).chain([25]) {
+    // There is no 22 any more, and no 24.
+    assert!(!PAGE.contains("\n22  ") && !PAGE.contains("\n24  "));
+    for number in (1..=21).chain([23, 25]) {
         let words = Refusal::from_number(number).unwrap().words();
         let line = format!("\n{number:2}  {words}\n");
         assert!(PAGE.contains(&line), "{line}");

@@ -1,7 +1,7 @@
 //! Recorded lists through the proved program, by `scripts/recorded`.
 
 use std::path::{Path, PathBuf};
-use std::process::{Command, Output};
+use std::process::{Command, Output, Stdio};
 use std::{fs, iter};
 
 use model::drive::start_values;
@@ -125,5 +125,33 @@ fn wrong_use_of_the_script() {
         assert_eq!(output.status.code(), Some(2), "{files:?}");
         let words = String::from_utf8(output.stderr).unwrap();
         assert_eq!(words.lines().count(), 1, "{words}");
+    }
+}
+
+/// Files of any name, by a script that is called through a link.
+#[test]
+fn names_of_files() {
+    let room = Path::new(env!("CARGO_TARGET_TMPDIR")).join("recorded names");
+    let _ = fs::remove_dir_all(&room);
+    fs::create_dir_all(&room).unwrap();
+    let link = room.join("link");
+    std::os::unix::fs::symlink(top().join("scripts/recorded"), &link).unwrap();
+    for names in [
+        ["-", "answers"],
+        ["calls", "-"],
+        ["-x", "a=b"],
+        ["--", "a\\n"],
+    ] {
+        fs::write(room.join(names[0]), "M 0 2 0 0\nB 0\n").unwrap();
+        fs::write(room.join(names[1]), "0\n0 1\n").unwrap();
+        let mut script = Command::new("./link");
+        script.current_dir(&room).args(names).stdin(Stdio::null());
+        let said = script.output().unwrap();
+        let text = String::from_utf8(said.stdout).unwrap();
+        assert_eq!(
+            text, "2 calls, all answered as by the program\n",
+            "{names:?}"
+        );
+        assert_eq!(said.status.code(), Some(0), "{names:?}");
     }
 }
