@@ -9,6 +9,7 @@ mod group;
 mod history;
 mod observer;
 mod orders;
+mod own_writesets;
 mod refusals;
 mod restart_faults;
 mod restarts;

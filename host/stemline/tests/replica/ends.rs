@@ -6,7 +6,6 @@ use model::drive::{start_values, Subject};
 use model::replica::{self as second, Stage, SLOTS};
 use model::samples::block_of;
 use model::trace::{Answer, Call};
-use stemline::ffi::Txn;
 use stemline::{Replica, Station};
 
 use crate::both::{same, Both};
@@ -122,51 +121,8 @@ fn the_last_slots() {
     }
 }
 
-/// An own block is back, but a transaction of it is gone, or at another stage, for each row of the table and
-/// each writeset of the block: it is committed and nobody ends, as the model does it, and one that is open
-/// stays so.
-#[test]
-fn own_writesets_not_open_as_sent() {
-    for done in 0..6 {
-        for stage in [None, Some(Stage::Active), Some(Stage::Asked)] {
-            let mut both = with_own_block();
-            for _ in 0..done {
-                assert!(both.call(&Call::Work).is_ok());
-            }
-            let ticket = done + 1;
-            let mut memory = both.library.memory().clone();
-            let rows = memory.table.iter_mut();
-            let row = rows.into_iter().find(|row| row.ticket == ticket).unwrap();
-            let at = both.model.open.iter().position(|t| t.ticket == ticket);
-            match stage {
-                None => {
-                    *row = Txn::default();
-                    both.model.open.remove(at.unwrap());
-                }
-                Some(stage) => {
-                    row.stage = stage as u32;
-                    both.model.open[at.unwrap()].stage = stage;
-                }
-            }
-            let mut both = Both::of(Replica::from_memory(memory), both.model);
-            let (before, values) = (both.report(), *both.library.values());
-            let Ok(Answer::Work(work)) = both.call(&Call::Work) else {
-                panic!("{stage:?} {done}: refused");
-            };
-            assert_eq!((work.ticket, work.aborted.len()), (ticket, 0));
-            let after = both.report();
-            assert_eq!(after.commits, before.commits + 1);
-            assert_eq!(
-                (after.open, after.committed, after.aborted),
-                (before.open, before.committed, before.aborted)
-            );
-            assert_ne!(*both.library.values(), values, "{stage:?} {done}");
-        }
-    }
-}
-
 /// A replica 0 of 2 with its own block of six writesets back at its place.
-fn with_own_block() -> Both {
+pub fn with_own_block() -> Both {
     let mut both = Both::new(2, 0, &start_values());
     for ticket in 1..=6 {
         both.call(&Call::Begin).unwrap();

@@ -21,6 +21,7 @@ mod looks;
 mod manual;
 mod marks;
 mod outcomes;
+mod own_writesets;
 mod prototypes;
 mod recorder;
 mod restarts;
