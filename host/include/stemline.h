@@ -114,6 +114,7 @@ static inline const char *stemline_words(int number) {
  * item, for everybody to look at; only calls change anything. */
 typedef struct stemline_replica {
     stemline_txn table[STEMLINE_TABLE]; /* one row for each open transaction */
+    stemline_group group;
     stemline_turn turn;
     stemline_counts counts;
     uint32_t queue[STEMLINE_QUEUE];        /* tickets asked and not yet sent, zeros behind */
@@ -140,6 +141,12 @@ typedef struct stemline_take_reply {
     uint8_t append[STEMLINE_REPLICAS][STEMLINE_BLOCK]; /* for the journal, in order, zeros behind */
 } stemline_take_reply;
 
+/* Whose slot it is in a group of n: the number of the replica that sends for it. */
+static inline uint32_t stemline_owner(uint32_t slot, uint32_t n) {
+    /* only in altered memory is n 0; a slot mod 0 is then the slot itself */
+    return n == 0 ? slot : slot % n;
+}
+
 /* ---- The calls at a replica
  *
  * r is not null; an array that is given beside it does not lie in it. */
@@ -156,7 +163,7 @@ static inline size_t stemline_lent_places(uint32_t n) {
 static inline uint8_t stemline_replica_make(
     stemline_replica *r, uint32_t n, uint32_t own, const int32_t start[STEMLINE_ITEMS]) {
     return stemline_make(
-        r->table, STEMLINE_TABLE, &r->turn, &r->counts, n, own, start, STEMLINE_ITEMS,
+        r->table, STEMLINE_TABLE, &r->group, &r->turn, &r->counts, n, own, start, STEMLINE_ITEMS,
         r->queue, STEMLINE_QUEUE, r->items, STEMLINE_WRITTEN, r->writes, STEMLINE_WRITTEN,
         r->snapshots, STEMLINE_SNAPSHOTS, r->values, STEMLINE_ITEMS, r->stamps, STEMLINE_ITEMS,
         r->classes, STEMLINE_ITEMS, r->places, stemline_lent_places(n), r->outbox, STEMLINE_BLOCK);
@@ -173,7 +180,7 @@ static inline uint8_t stemline_replica_make(
 static inline uint8_t stemline_replica_make_station(
     stemline_replica *r, uint32_t n, const int32_t start[STEMLINE_ITEMS]) {
     return stemline_make_station(
-        r->table, STEMLINE_TABLE, &r->turn, &r->counts, n, start, STEMLINE_ITEMS,
+        r->table, STEMLINE_TABLE, &r->group, &r->turn, &r->counts, n, start, STEMLINE_ITEMS,
         r->queue, STEMLINE_QUEUE, r->items, STEMLINE_WRITTEN, r->writes, STEMLINE_WRITTEN,
         r->snapshots, STEMLINE_SNAPSHOTS, r->values, STEMLINE_ITEMS, r->stamps, STEMLINE_ITEMS,
         r->classes, STEMLINE_ITEMS, r->places, stemline_lent_places(n), r->outbox, STEMLINE_BLOCK);
@@ -190,7 +197,7 @@ static inline stemline_restart_reply stemline_replica_restart(
     stemline_replica *r, uint32_t n, uint32_t own, const int32_t start[STEMLINE_ITEMS],
     const uint8_t *journal, size_t length, uint8_t block[STEMLINE_BLOCK]) {
     return stemline_restart(
-        r->table, STEMLINE_TABLE, &r->turn, &r->counts, n, own, start, STEMLINE_ITEMS,
+        r->table, STEMLINE_TABLE, &r->group, &r->turn, &r->counts, n, own, start, STEMLINE_ITEMS,
         r->queue, STEMLINE_QUEUE, r->items, STEMLINE_WRITTEN, r->writes, STEMLINE_WRITTEN,
         r->snapshots, STEMLINE_SNAPSHOTS, r->values, STEMLINE_ITEMS, r->stamps, STEMLINE_ITEMS,
         r->classes, STEMLINE_ITEMS, r->places, stemline_lent_places(n), r->outbox, STEMLINE_BLOCK,
@@ -224,9 +231,9 @@ static inline stemline_read_reply stemline_replica_read(
 static inline uint8_t stemline_replica_write(
     stemline_replica *r, uint32_t ticket, uint32_t item, int32_t value) {
     return stemline_write(
-        r->table, STEMLINE_TABLE, &r->turn, &r->counts, ticket, r->items, STEMLINE_WRITTEN,
+        r->table, STEMLINE_TABLE, &r->group, &r->turn, &r->counts, ticket, r->items, STEMLINE_WRITTEN,
         r->writes, STEMLINE_WRITTEN, r->stamps, STEMLINE_ITEMS, r->classes, STEMLINE_ITEMS,
-        r->places, stemline_lent_places(r->counts.replicas), item, value);
+        r->places, stemline_lent_places(r->group.replicas), item, value);
 }
 
 /* Requests commit: a transaction without writes ends on the spot, any other
@@ -248,10 +255,9 @@ static inline stemline_report_reply stemline_replica_report(const stemline_repli
 /* Whether a send would be accepted now: the turn is a slot of this replica, its
  * block for that slot is not sent yet, and slots are left. Never at a station. */
 static inline bool stemline_replica_is_turn(const stemline_replica *r) {
-    uint32_t slot = r->turn.slot, n = r->counts.replicas, own = r->counts.own;
-    /* only in altered memory is n 0; a slot mod 0 is then the slot itself */
-    uint32_t owner = n == 0 ? slot : slot % n;
-    return own != STEMLINE_NO_NUMBER && slot < STEMLINE_SLOTS && owner == own && r->turn.sent == 0;
+    uint32_t slot = r->turn.slot, own = r->group.own;
+    return own != STEMLINE_NO_NUMBER && slot < STEMLINE_SLOTS
+        && stemline_owner(slot, r->group.replicas) == own && r->turn.sent == 0;
 }
 
 /* Writes the block for the own slot, with all that is asked, be it nothing. It
@@ -259,7 +265,7 @@ static inline bool stemline_replica_is_turn(const stemline_replica *r) {
  * group, this one too. Refused by 25, 13, 11, 12. */
 static inline uint8_t stemline_replica_send(stemline_replica *r, uint8_t block[STEMLINE_BLOCK]) {
     return stemline_send(
-        r->table, STEMLINE_TABLE, &r->turn, &r->counts, r->queue, STEMLINE_QUEUE,
+        r->table, STEMLINE_TABLE, &r->group, &r->turn, r->queue, STEMLINE_QUEUE,
         r->items, STEMLINE_WRITTEN, r->writes, STEMLINE_WRITTEN, r->outbox, STEMLINE_BLOCK,
         block, STEMLINE_BLOCK);
 }
@@ -270,7 +276,7 @@ static inline uint8_t stemline_replica_send(stemline_replica *r, uint8_t block[S
 static inline uint8_t stemline_replica_deliver(
     stemline_replica *r, const uint8_t *bytes, size_t length) {
     return stemline_deliver(
-        &r->turn, &r->counts, r->places, stemline_lent_places(r->counts.replicas),
+        &r->group, &r->turn, r->places, stemline_lent_places(r->group.replicas),
         r->outbox, STEMLINE_BLOCK, bytes, length);
 }
 
@@ -281,9 +287,9 @@ static inline uint8_t stemline_replica_deliver(
 static inline stemline_work_reply stemline_replica_work(
     stemline_replica *r, uint8_t block[STEMLINE_BLOCK]) {
     return stemline_work(
-        r->table, STEMLINE_TABLE, &r->turn, &r->counts, r->queue, STEMLINE_QUEUE,
+        r->table, STEMLINE_TABLE, &r->group, &r->turn, &r->counts, r->queue, STEMLINE_QUEUE,
         r->items, STEMLINE_WRITTEN, r->values, STEMLINE_ITEMS, r->stamps, STEMLINE_ITEMS,
-        r->places, stemline_lent_places(r->counts.replicas), block, STEMLINE_BLOCK);
+        r->places, stemline_lent_places(r->group.replicas), block, STEMLINE_BLOCK);
 }
 
 /* Gives each of the 128 items a conflict class, 1 to 8, in the place of the ones
@@ -301,9 +307,9 @@ static inline uint8_t stemline_replica_load(
 
 /* Whether a block waits for the turn: where none does, a work is refused by 21. */
 static inline bool stemline_replica_waits(const stemline_replica *r) {
-    uint32_t n = r->counts.replicas;
+    uint32_t n = r->group.replicas;
     /* only in altered memory is n out of range; the work says then what is wrong */
-    return n - 1 >= STEMLINE_REPLICAS || r->places[STEMLINE_BLOCK * (r->turn.slot % n)] != 0;
+    return n - 1 >= STEMLINE_REPLICAS || r->places[STEMLINE_BLOCK * stemline_owner(r->turn.slot, n)] != 0;
 }
 
 /* What a replica does with a block that arrives: delivers it, then works until

@@ -86,9 +86,13 @@ typedef struct stemline_turn {
     uint8_t applying; /* mark: a block of another replica is committed in part */
 } stemline_turn;
 
-typedef struct stemline_counts {
+/* What a replica knows of its group. A make or a restart sets it, and no other call. */
+typedef struct stemline_group {
     uint8_t replicas; /* n */
     uint8_t own;      /* the replica's own number; STEMLINE_NO_NUMBER for a station */
+} stemline_group;
+
+typedef struct stemline_counts {
     uint32_t commits; /* writesets committed, own and others' */
     uint8_t done;     /* writesets committed of the block at the turn */
     uint32_t tickets; /* tickets given */
@@ -185,7 +189,8 @@ typedef struct stemline_entry_values {
  * nothing that a station answers. */
 
 uint8_t stemline_make(
-    stemline_txn *table, size_t table_length, stemline_turn *turn, stemline_counts *counts,
+    stemline_txn *table, size_t table_length, stemline_group *group,
+    stemline_turn *turn, stemline_counts *counts,
     uint32_t n, uint32_t own, const int32_t *start, size_t start_length,
     uint32_t *queue, size_t queue_length, uint8_t *items, size_t items_length,
     int32_t *writes, size_t writes_length, int32_t *snapshots, size_t snapshots_length,
@@ -194,7 +199,8 @@ uint8_t stemline_make(
     uint8_t *places, size_t places_length, uint8_t *outbox, size_t outbox_length);
 
 uint8_t stemline_make_station(
-    stemline_txn *table, size_t table_length, stemline_turn *turn, stemline_counts *counts,
+    stemline_txn *table, size_t table_length, stemline_group *group,
+    stemline_turn *turn, stemline_counts *counts,
     uint32_t n, const int32_t *start, size_t start_length,
     uint32_t *queue, size_t queue_length, uint8_t *items, size_t items_length,
     int32_t *writes, size_t writes_length, int32_t *snapshots, size_t snapshots_length,
@@ -203,7 +209,8 @@ uint8_t stemline_make_station(
     uint8_t *places, size_t places_length, uint8_t *outbox, size_t outbox_length);
 
 stemline_restart_reply stemline_restart(
-    stemline_txn *table, size_t table_length, stemline_turn *turn, stemline_counts *counts,
+    stemline_txn *table, size_t table_length, stemline_group *group,
+    stemline_turn *turn, stemline_counts *counts,
     uint32_t n, uint32_t own, const int32_t *start, size_t start_length,
     uint32_t *queue, size_t queue_length, uint8_t *items, size_t items_length,
     int32_t *writes, size_t writes_length, int32_t *snapshots, size_t snapshots_length,
@@ -222,7 +229,8 @@ stemline_read_reply stemline_read(
     const int32_t *snapshots, size_t snapshots_length, uint32_t item);
 
 uint8_t stemline_write(
-    stemline_txn *table, size_t table_length, const stemline_turn *turn, stemline_counts *counts,
+    stemline_txn *table, size_t table_length, const stemline_group *group,
+    const stemline_turn *turn, stemline_counts *counts,
     uint32_t ticket, uint8_t *items, size_t items_length, int32_t *writes, size_t writes_length,
     const uint32_t *stamps, size_t stamps_length, const uint8_t *classes, size_t classes_length,
     const uint8_t *places, size_t places_length, uint32_t item, int32_t value);
@@ -239,17 +247,18 @@ stemline_report_reply stemline_report(
     const stemline_counts *counts);
 
 uint8_t stemline_send(
-    stemline_txn *table, size_t table_length, stemline_turn *turn, const stemline_counts *counts,
+    stemline_txn *table, size_t table_length, const stemline_group *group, stemline_turn *turn,
     uint32_t *queue, size_t queue_length, const uint8_t *items, size_t items_length,
     const int32_t *writes, size_t writes_length, uint8_t *outbox, size_t outbox_length,
     uint8_t *block, size_t block_length);
 
 uint8_t stemline_deliver(
-    const stemline_turn *turn, const stemline_counts *counts, uint8_t *places, size_t places_length,
+    const stemline_group *group, const stemline_turn *turn, uint8_t *places, size_t places_length,
     const uint8_t *outbox, size_t outbox_length, const uint8_t *bytes, size_t bytes_length);
 
 stemline_work_reply stemline_work(
-    stemline_txn *table, size_t table_length, stemline_turn *turn, stemline_counts *counts,
+    stemline_txn *table, size_t table_length, const stemline_group *group,
+    stemline_turn *turn, stemline_counts *counts,
     uint32_t *queue, size_t queue_length, const uint8_t *items, size_t items_length,
     int32_t *values, size_t values_length, uint32_t *stamps, size_t stamps_length,
     uint8_t *places, size_t places_length, uint8_t *block, size_t block_length);

@@ -170,6 +170,14 @@ static bool is_new(
     return false;
 }
 
+/* ---- What a cut tears */
+
+/* The most bytes of it behind so many good blocks: those of the slots up to the next own one, which is
+ * durable before anything follows. */
+static long torn(uint32_t n, uint32_t own, uint32_t blocks) {
+    return STEMLINE_BLOCK * (long)((own + n - stemline_owner(blocks, n)) % n + 1);
+}
+
 /* ---- The copies */
 
 /* The blocks of consecutive slots, the last of them an own one. */
@@ -200,7 +208,7 @@ static bool read_copy(const uint8_t *front, long at, uint32_t n, uint32_t own, c
     put(check, digest(DIGEST_START, page + 8, FRONT - 8 + STEMLINE_BLOCK * (size_t)c->count), 8);
     uint32_t last = c->first + c->count - 1;
     uint32_t first = last < n ? 0 : last - (n - 1);
-    bool good = memcmp(page, check, 8) == 0 && c->first == first && last % n == own
+    bool good = memcmp(page, check, 8) == 0 && c->first == first && stemline_owner(last, n) == own
                 && copy_place(n, last) == at;
     for (uint32_t k = 0; good && k < c->count; k++) {
         good = good_block(c->blocks + STEMLINE_BLOCK * (size_t)k, n, c->first + k);

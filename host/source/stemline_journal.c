@@ -178,7 +178,7 @@ static void note(stemline_journal *j, const uint8_t *block) {
 static void add(stemline_journal *j, tally *t, const uint8_t *block) {
     note(j, block);
     t->turn++;
-    if ((t->turn - 1) % j->n == j->own) {
+    if (stemline_owner(t->turn - 1, j->n) == j->own) {
         memcpy(t->round, j->since, sizeof t->round);
         t->round_count = j->since_count;
         j->since_count = 0;
@@ -258,9 +258,7 @@ static int look(stemline_journal *j, tally *t, const uint8_t *front, off_t lengt
                          (unsigned long)t->turn, (unsigned long)last, t->stop);
         }
     }
-    /* a cut tears the blocks up to the next own one, which is durable before anything follows */
-    off_t torn = STEMLINE_BLOCK * (off_t)((j->own + j->n - t->turn % j->n) % j->n + 1);
-    if (length - place(t->turn) > torn) {
+    if (length - place(t->turn) > torn(j->n, j->own, t->turn)) {
         return fails(j, "take up",
                      "its block %lu is damaged, and more than a cut can tear is behind it: %s",
                      (unsigned long)t->turn, t->stop);

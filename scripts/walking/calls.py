@@ -3,9 +3,9 @@
 from dataclasses import dataclass
 
 # how a parameter is lent or passed
-TABLE_MUT, TABLE, TURN_MUT, TURN, COUNTS_MUT, COUNTS = "table-mut", "table", "turn-mut", "turn", "counts-mut", "counts"
+TABLE_MUT, TABLE, GROUP_MUT, GROUP, TURN_MUT, TURN, COUNTS_MUT, COUNTS = "table-mut", "table", "group-mut", "group", "turn-mut", "turn", "counts-mut", "counts"
 U32, I32 = "u32", "i32"
-MUTABLE = (TABLE_MUT, TURN_MUT, COUNTS_MUT)
+MUTABLE = (TABLE_MUT, GROUP_MUT, TURN_MUT, COUNTS_MUT)
 
 
 def mut(elem):
@@ -19,10 +19,10 @@ def shared(elem):
 # the fields of what a call by value returns, in order
 FIELDS = {
     "Begun": ["reply", "counts", "row"], "Asked": ["reply", "counts", "row"], "Changed": ["number", "counts", "row"],
-    "Made": ["number", "turn", "counts"], "Restarted": ["reply", "turn", "counts"], "Sent": ["number", "turn", "rows"], "Worked": ["reply", "turn", "counts", "ended"],
+    "Made": ["number", "group", "turn", "counts"], "Restarted": ["reply", "group", "turn", "counts"], "Sent": ["number", "turn", "rows"], "Worked": ["reply", "turn", "counts", "ended"],
 }
 # the fields of the counts, and of the replies, that a walk reads
-COUNT = {"tickets": 4, "read_only": 6, "aborted": 7, "withdrawn": 8}
+COUNT = {"tickets": 2, "read_only": 4, "aborted": 5, "withdrawn": 6}
 
 
 @dataclass
@@ -33,7 +33,7 @@ class Call:
     reply: str  # what the exported function returns
     params: list
     refusal: str = ""  # the function that answers a wrong table, empty where the call answers 1 itself or has no table
-    before: str = ""  # the parts of the memory, {t} the table, {h} the turn and {c} the counts
+    before: str = ""  # the parts of the memory, {t} the table, {g} the group, {h} the turn and {c} the counts
     step: str = ""  # the engine's step, {m} the memory
     at_row: str = ""  # the engine's step at the row `at`, of a call that finds its row
     after: str = ""  # the parts after the call; empty where nothing changes
@@ -55,6 +55,11 @@ class Call:
         return self.name in ("write", "send")
 
     @property
+    def group_read(self):
+        """Whether it reads a field of the group that it copied out: the own number."""
+        return self.replicas_only or self.name == "work"
+
+    @property
     def crate(self):
         return self.by_value.split(".")[0]
 
@@ -65,13 +70,17 @@ class Call:
     def kind(self, i):
         return self.params[i][1]
 
-    # table, turn and counts stand in front; the rest is handed on
+    # table, group, turn and counts stand in front; the rest is handed on
     def lent(self, kinds):
         return next((i for i, (_, k) in enumerate(self.params) if k in kinds), None)
 
     @property
     def table(self):
         return self.lent((TABLE, TABLE_MUT))
+
+    @property
+    def group(self):
+        return self.lent((GROUP, GROUP_MUT))
 
     @property
     def turn(self):
@@ -84,10 +93,10 @@ class Call:
     @property
     def holds(self):
         """What the call holds itself: name and parameter, in order."""
-        return [(n, i) for n, i in [("table", self.table), ("turn", self.turn), ("counts", self.counts)] if i is not None]
+        return [(n, i) for n, i in [("table", self.table), ("group", self.group), ("turn", self.turn), ("counts", self.counts)] if i is not None]
 
     def changes(self, what):
-        i = {"table": self.table, "turn": self.turn, "counts": self.counts}[what]
+        i = {"table": self.table, "group": self.group, "turn": self.turn, "counts": self.counts}[what]
         return i is not None and self.kind(i) in MUTABLE
 
     @property
@@ -131,6 +140,10 @@ class Call:
     def makes(self):
         """Whether it makes a replica or a station: it is passed nothing of one that was there, and speaks of every one."""
         return self.name in ("make", "restart", "station")
+
+    @property
+    def group_passed(self):
+        return self.group is not None and not self.makes
 
     @property
     def turn_passed(self):
@@ -182,24 +195,24 @@ CALLS = {
     for call in [
         Call(
             "make", "call_make.make", "Made", "u8",
-            [("table", TABLE_MUT), ("turn", TURN_MUT), ("counts", COUNTS_MUT), ("size", U32), ("me", U32), ("start", shared("i32")), ("queue", mut("u32")),
+            [("table", TABLE_MUT), ("group", GROUP_MUT), ("turn", TURN_MUT), ("counts", COUNTS_MUT), ("size", U32), ("me", U32), ("start", shared("i32")), ("queue", mut("u32")),
              ("items", mut("u8")), ("writes", mut("i32")), ("snapshots", mut("i32")), ("values", mut("i32")), ("stamps", mut("u32")),
              ("classes", mut("u8")), ("places", mut("u8")), ("outbox", mut("u8"))],
-            "", "allParts {h} {c} {t} " + ALL, "makeStep {m} size me start", "", "allParts {h} {c} {t} " + LATER, "number",
+            "", "allParts {g} {h} {c} {t} " + ALL, "makeStep {m} size me start", "", "allParts {g} {h} {c} {t} " + LATER, "number",
         ),
         Call(
             "station", "call_make.make_station", "Made", "u8",
-            [("table", TABLE_MUT), ("turn", TURN_MUT), ("counts", COUNTS_MUT), ("size", U32), ("start", shared("i32")), ("queue", mut("u32")),
+            [("table", TABLE_MUT), ("group", GROUP_MUT), ("turn", TURN_MUT), ("counts", COUNTS_MUT), ("size", U32), ("start", shared("i32")), ("queue", mut("u32")),
              ("items", mut("u8")), ("writes", mut("i32")), ("snapshots", mut("i32")), ("values", mut("i32")), ("stamps", mut("u32")),
              ("classes", mut("u8")), ("places", mut("u8")), ("outbox", mut("u8"))],
-            "", "allParts {h} {c} {t} " + ALL, "stationStep {m} size start", "", "allParts {h} {c} {t} " + LATER, "number",
+            "", "allParts {g} {h} {c} {t} " + ALL, "stationStep {m} size start", "", "allParts {g} {h} {c} {t} " + LATER, "number",
         ),
         Call(
             "restart", "call_restart.restart", "Restarted", "RestartReply",
-            [("table", TABLE_MUT), ("turn", TURN_MUT), ("counts", COUNTS_MUT), ("size", U32), ("me", U32), ("start", shared("i32")), ("queue", mut("u32")),
+            [("table", TABLE_MUT), ("group", GROUP_MUT), ("turn", TURN_MUT), ("counts", COUNTS_MUT), ("size", U32), ("me", U32), ("start", shared("i32")), ("queue", mut("u32")),
              ("items", mut("u8")), ("writes", mut("i32")), ("snapshots", mut("i32")), ("values", mut("i32")), ("stamps", mut("u32")),
              ("classes", mut("u8")), ("places", mut("u8")), ("outbox", mut("u8")), ("journal", shared("u8")), ("block", mut("u8"))],
-            "no_restart", "allParts {h} {c} {t} " + ALL, "restartStep {m} size me start journal block", "", "allParts {h} {c} {t} " + LATER, "restartReply",
+            "no_restart", "allParts {g} {h} {c} {t} " + ALL, "restartStep {m} size me start journal block", "", "allParts {g} {h} {c} {t} " + LATER, "restartReply",
         ),
         Call(
             "begin", "call_client.begin", "Begun", "BeginReply",
@@ -213,10 +226,10 @@ CALLS = {
         ),
         Call(
             "write", "call_write.write", "Changed", "u8",
-            [("table", TABLE_MUT), ("turn", TURN), ("counts", COUNTS_MUT), ("ticket", U32), ("items", mut("u8")), ("writes", mut("i32")), ("stamps", shared("u32")),
+            [("table", TABLE_MUT), ("group", GROUP), ("turn", TURN), ("counts", COUNTS_MUT), ("ticket", U32), ("items", mut("u8")), ("writes", mut("i32")), ("stamps", shared("u32")),
              ("classes", shared("u8")), ("places", shared("u8")), ("item", U32), ("value", I32)],
-            "", "writeParts m {h} {c} {t} items writes stamps classes places", "writeStep {m} ticket item value", "writeRow {m} at item value",
-            "writeParts m {h} {c} {t} items′ writes′ stamps classes places", "number",
+            "", "writeParts m {g} {h} {c} {t} items writes stamps classes places", "writeStep {m} ticket item value", "writeRow {m} at item value",
+            "writeParts m {g} {h} {c} {t} items′ writes′ stamps classes places", "number",
         ),
         Call(
             "ask", "call_client.ask", "Asked", "AskReply",
@@ -233,21 +246,21 @@ CALLS = {
         ),
         Call(
             "send", "call_send.send", "Sent", "u8",
-            [("table", TABLE_MUT), ("turn", TURN_MUT), ("counts", COUNTS), ("queue", mut("u32")), ("items", shared("u8")), ("writes", shared("i32")),
+            [("table", TABLE_MUT), ("group", GROUP), ("turn", TURN_MUT), ("queue", mut("u32")), ("items", shared("u8")), ("writes", shared("i32")),
              ("outbox", mut("u8")), ("block", mut("u8"))],
-            "", "sendParts m {h} {c} {t} queue items writes outbox", "sendStep {m} block", "", "sendParts m {h} {c} {t} queue′ items writes outbox′", "number",
+            "", "sendParts m {g} {h} {t} queue items writes outbox", "sendStep {m} block", "", "sendParts m {g} {h} {t} queue′ items writes outbox′", "number",
         ),
         Call(
             "deliver", "call_deliver.deliver", "u8", "u8",
-            [("turn", TURN), ("counts", COUNTS), ("places", mut("u8")), ("outbox", shared("u8")), ("bytes", shared("u8"))],
+            [("group", GROUP), ("turn", TURN), ("places", mut("u8")), ("outbox", shared("u8")), ("bytes", shared("u8"))],
         ),
         Call("load", "call_classes.load_classes", "u8", "u8", [("turn", TURN), ("classes", mut("u8")), ("given", shared("u8"))]),
         Call(
             "work", "call_work.work", "Worked", "WorkReply",
-            [("table", TABLE_MUT), ("turn", TURN_MUT), ("counts", COUNTS_MUT), ("queue", mut("u32")), ("items", shared("u8")), ("values", mut("i32")),
+            [("table", TABLE_MUT), ("group", GROUP), ("turn", TURN_MUT), ("counts", COUNTS_MUT), ("queue", mut("u32")), ("items", shared("u8")), ("values", mut("i32")),
              ("stamps", mut("u32")), ("places", mut("u8")), ("block", mut("u8"))],
-            "no_work", "workParts m {h} {c} {t} queue items values stamps places", "withBlock block workStep {m}", "",
-            "workParts m {h} {c} {t} queue′ items values′ stamps′ places′", "workReply",
+            "no_work", "workParts m {g} {h} {c} {t} queue items values stamps places", "withBlock block workStep {m}", "",
+            "workParts m {g} {h} {c} {t} queue′ items values′ stamps′ places′", "workReply",
         ),
     ]
 }

@@ -14,7 +14,7 @@ NOTHING = {
     "RestartReply": "record { number = 1; count = 0 }",
     "u8": "1",
 }
-HELD = {"table": "List Txn", "turn": "Turn", "counts": "Counts"}
+HELD = {"table": "List Txn", "group": "Group", "turn": "Turn", "counts": "Counts"}
 
 
 def typ(kind):
@@ -44,13 +44,13 @@ class Facts:
         self.muts = [(n + "′", typ(k)) for n, k in (call.params[i] for i in call.rest if call.is_mut(i))]
 
     def before(self, table="table"):
-        return self.call.before.format(t=table, h="turn", c="counts")
+        return self.call.before.format(t=table, g="group", h="turn", c="counts")
 
     def after(self, **now):
         """The parts after the call, by what changed."""
-        now = {"table": "table", "turn": "turn", "counts": "counts"} | now
+        now = {what: what for what in HELD} | now
         form = self.call.after or self.call.before
-        return form.format(t=now["table"], h=now["turn"], c=now["counts"])
+        return form.format(t=now["table"], g=now["group"], h=now["turn"], c=now["counts"])
 
     @property
     def step(self):
@@ -66,7 +66,7 @@ class Facts:
     def on(self):
         call = self.call
         lead = [("at", "ℕ")] * (call.by_row is not None) + [("t", "Txn")] * call.row_passed + [("rows", "List Txn")] * call.by_rows
-        lead += [("turn", "Turn")] * call.turn_passed + [("counts", "Counts")] * call.counts_passed
+        lead += [("group", "Group")] * call.group_passed + [("turn", "Turn")] * call.turn_passed + [("counts", "Counts")] * call.counts_passed
         names = lead + self.passed + [("r", den(call.result))] + self.muts
         table = "rows" if call.by_rows else "table"
         all_of = call.every + "(table : List Txn) → t ≡ rowAt table at → " * (call.row_passed and not call.by_rows)
@@ -81,8 +81,8 @@ class Facts:
             elif field in HELD:
                 now[field] = f"(r .{field})"
         if call.makes:
-            all_of, number = "(turn : Turn) (counts : Counts) (table : List Txn) → ", "(r .number)" if call.reply == "u8" else "(r .reply .number)"
-            now = {what: f"(ifMade {number} {new} {what})" for what, new in [("turn", "(r .turn)"), ("counts", "(r .counts)"), ("table", "(replicate 6 closed)")]}
+            all_of, number = "(group : Group) (turn : Turn) (counts : Counts) (table : List Txn) → ", "(r .number)" if call.reply == "u8" else "(r .reply .number)"
+            now = {what: f"(ifMade {number} {new} {what})" for what, new in [("group", "(r .group)"), ("turn", "(r .turn)"), ("counts", "(r .counts)"), ("table", "(replicate 6 closed)")]}
         lent = "(set rows at t)" if call.row_passed and call.by_rows else table
         outcome = (call.at_row if call.by_row else call.step).format(m=f"({self.before(lent)})")
         claim = f"{all_of}{self.claim(reply_of(call), self.after(**now), outcome)}"
@@ -120,7 +120,7 @@ class Facts:
         lam = "λ m. " * (not call.makes)
         parts = "(refl, refl), refl" if call.lent_block else "refl, refl"
         args = [n for n, _ in self.holds + self.rest] + [f"({no_reply(call)})"] + call.changing + [n[:-1] for n, _ in self.muts]
-        ours, passed, known = (f" → {NUMBERED}", " ours", "ne-eqb (counts .own) 255 ours, ") if call.replicas_only else ("", "", "")
+        ours, passed, known = (f" → {NUMBERED}", " ours", "ne-eqb (group .own) 255 ours, ") if call.replicas_only else ("", "", "")
         return (
             f"pub {call.name}-not : {types}{ours} → (length table ≡ 6 → ⊥) → {self.name}Did {' '.join(args)}\n"
             f"{call.name}-not {names}{passed} other = {lam}rw ({known}called-other {self.called()} other) ({parts})\n"
@@ -133,15 +133,15 @@ class Facts:
         parts = "(refl, refl), refl" if call.lent_block else "refl, refl"
         args = [n for n, _ in self.holds + self.rest] + ["25"] + call.changing + [n[:-1] for n, _ in self.muts]
         return (
-            f"pub {call.name}-station : {types} → counts .own ≡ 255 → {self.name}Did {' '.join(args)}\n"
-            f"{call.name}-station {names} none = λ m. rw (eq-eqb (counts .own) 255 none) ({parts})\n"
+            f"pub {call.name}-station : {types} → group .own ≡ 255 → {self.name}Did {' '.join(args)}\n"
+            f"{call.name}-station {names} none = λ m. rw (eq-eqb (group .own) 255 none) ({parts})\n"
         )
 
     # ---- six rows, and nothing changes but what was handed on: what the call by value says
     def looked(self):
         call = self.call
         types, names = self.binder([("r", den(call.result))])
-        lead = ["(rowOf ticket table)", "(rowAt table (rowOf ticket table))"] * call.row_passed + ["(loaded table)"] * call.by_rows + ["turn"] * call.turn_passed + ["counts"] * call.counts_passed
+        lead = ["(rowOf ticket table)", "(rowAt table (rowOf ticket table))"] * call.row_passed + ["(loaded table)"] * call.by_rows + ["group"] * call.group_passed + ["turn"] * call.turn_passed + ["counts"] * call.counts_passed
         on = " ".join(lead + [n for n, _ in self.passed] + ["r"])
         said = "(rw (loaded-six table six) at said) m" if call.by_rows else "said m table refl"
         return (
@@ -155,19 +155,21 @@ class Facts:
 
 
 # a replica's own number
-NUMBERED = "(counts .own ≡ 255 → ⊥)"
+NUMBERED = "(group .own ≡ 255 → ⊥)"
 
 # what the contract of a call by value says beside what it gives
 BESIDE = {
     "write": "(6 ≤ at → r .row ≡ t)",
-    "make": "(r .turn ≡ turnZero) × (r .counts ≡ ifMade (r .number) (countsFor size me) (countsFor 0 0))",
-    "station": "(r .turn ≡ turnZero) × (r .counts ≡ ifMade (r .number) (countsFor size noNumber) (countsFor 0 0))",
+    "make": "(r .group ≡ ifMade (r .number) (groupOf size me) (groupOf 0 0)) × (r .turn ≡ turnZero) × (r .counts ≡ countsZero)",
+    "station": "(r .group ≡ ifMade (r .number) (groupOf size noNumber) (groupOf 0 0)) × (r .turn ≡ turnZero) × (r .counts ≡ countsZero)",
+    "restart": "(r .group ≡ ifMade (r .reply .number) (groupOf size me) (groupOf 0 0)) × (r .turn ≡ ifMade (r .reply .number) (restartedMemory size me start (blocksIn size journal) .turn) turnZero)"
+               " × (r .counts ≡ ifMade (r .reply .number) (restartedMemory size me start (blocksIn size journal) .counts) countsZero)",
 }
 
 # what a call that is lent no table says
 TABLELESS = {
-    "deliver": """abbrev pub DeliverOn : Turn → Counts → List ℕ → List ℕ → List ℕ → ℕ → List ℕ → Type 0
-DeliverOn turn counts places outbox bytes r places′ = (m : Memory) → Gives number (deliverStep (deliverParts m turn counts places outbox) bytes) r (deliverParts m turn counts places′ outbox)
+    "deliver": """abbrev pub DeliverOn : Group → Turn → List ℕ → List ℕ → List ℕ → ℕ → List ℕ → Type 0
+DeliverOn group turn places outbox bytes r places′ = (m : Memory) → Gives number (deliverStep (deliverParts m group turn places outbox) bytes) r (deliverParts m group turn places′ outbox)
 """,
     "load": """abbrev pub LoadOn : Turn → List ℕ → List ℕ → ℕ → List ℕ → Type 0
 LoadOn turn classes given r classes′ = (m : Memory) → Gives number (loadStep (loadParts m turn classes) given) r (loadParts m turn classes′)
@@ -180,10 +182,10 @@ SAYS = "-- What each call says by value (`On`), what it says of the lent parts (
 # the modules that the facts may use, and what of each; a file uses what it names
 MODULES = [
     ("Rattle.memory.specs.Rows", "closed, endRows, rowOf, rowAt"),
-    ("Rattle.engine.specs.Make", "turnZero, countsFor, makeStep"),
+    ("Rattle.engine.specs.Make", "turnZero, countsZero, makeStep"),
     ("Rattle.engine.specs.Station", "stationStep"),
     ("Rattle.engine.specs.Calls", "unlessStation"),
-    ("Rattle.engine.specs.Restart", "restartStep"),
+    ("Rattle.engine.specs.Restart", "blocksIn, restartedMemory, restartStep"),
     ("Rattle.engine.specs.Client", "beginRow, beginStep, readRow, readStep, writeRow, writeStep, askRow, askStep, withdrawRow, withdrawStep, reportStep"),
     ("Rattle.engine.specs.Moves", "sendStep, deliverStep, workStep"),
     ("Rattle.engine.specs.Classes", "loadStep"),
@@ -200,8 +202,8 @@ MODULES = [
 ]
 PLAIN = [
     ("Prim.Native.Nat", "ℕ, _≤_"), ("mathlib.Core.Path", "_≡_, refl"), ("mathlib.Core.Bool", "false"), ("mathlib.Core.List", "List"), ("borrow.Author.Tests", "eq-eqb, ne-eqb"), ("lib.IntN", "ℤ, pos"),
-    ("lib.ListN", "length, set, replicate"), ("Rattle.memory.specs.declared.Counts", "Counts"), ("Rattle.memory.specs.declared.Turn", "Turn"),
-    ("Rattle.memory.specs.declared.Txn", "Txn"), ("Rattle.memory.specs.Memory", "Memory, noNumber"),
+    ("lib.ListN", "length, set, replicate"), ("Rattle.memory.specs.declared.Counts", "Counts"), ("Rattle.memory.specs.declared.Group", "Group"), ("Rattle.memory.specs.declared.Turn", "Turn"),
+    ("Rattle.memory.specs.declared.Txn", "Txn"), ("Rattle.memory.specs.Memory", "Memory, noNumber, groupOf"),
 ]
 
 

@@ -1,6 +1,6 @@
 """The names that a proof gives to parameters, their types and their machine values."""
 
-from .calls import COUNTS, COUNTS_MUT, I32, TABLE, TABLE_MUT, U32
+from .calls import COUNTS, COUNTS_MUT, GROUP, GROUP_MUT, I32, TABLE, TABLE_MUT, U32
 from .mir import place
 
 DIGITS = "₀₁₂₃₄₅₆₇₈₉"
@@ -41,14 +41,14 @@ class Names:
         self.count = len(call.params)
 
     def var(self, i):
-        held = {self.call.table: "ys", self.call.turn: "h", self.call.counts: "c"}
+        held = {self.call.table: "ys", self.call.group: "g", self.call.turn: "h", self.call.counts: "c"}
         return held.get(i) or self.call.params[i][0]
 
     def elem(self, i):
         kind = self.call.kind(i)
         if isinstance(kind, tuple):
             return kind[1]
-        return {TABLE: "R", TABLE_MUT: "R", COUNTS: "N.R", COUNTS_MUT: "N.R"}.get(kind, "U.R")
+        return {TABLE: "R", TABLE_MUT: "R", GROUP: "P.R", GROUP_MUT: "P.R", COUNTS: "N.R", COUNTS_MUT: "N.R"}.get(kind, "U.R")
 
     def row(self, i):
         """The type of a parameter that is no reference."""
@@ -66,7 +66,7 @@ class Names:
         if isinstance(kind, tuple):
             return f"RefT (List {DENOTED[kind[1]]})"
         if call.is_ref(i):
-            return {call.table: "RefT (List Txn)", call.turn: "RefT Turn", call.counts: "RefT Counts"}[i]
+            return {call.table: "RefT (List Txn)", call.group: "RefT Group", call.turn: "RefT Turn", call.counts: "RefT Counts"}[i]
         return {U32: "ℕ", I32: "ℤ"}[kind]
 
     def value(self, i, now=None):

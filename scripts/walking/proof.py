@@ -2,7 +2,7 @@
 
 import re
 
-from .calls import COUNTS_MUT, TABLE_MUT, TURN_MUT, U32
+from .calls import COUNTS_MUT, GROUP_MUT, TABLE_MUT, TURN_MUT, U32
 from .facts import HELD, den, no_reply
 from .mir import items
 from .names import listed, nested, nested_type, sub
@@ -77,7 +77,7 @@ class Proof(Walk):
         stays = []
         for i in range(self.count):
             j = call.refs.index(i) if call.is_ref(i) else 0
-            held = {TABLE_MUT: f"stay-slice ({j} ∷ []) tt (plain (λ _. R))"} | {k: f"stay-ref ({j} ∷ []) tt (plain (λ _. {self.elem(i)}))" for k in (TURN_MUT, COUNTS_MUT)}
+            held = {TABLE_MUT: f"stay-slice ({j} ∷ []) tt (plain (λ _. R))"} | {k: f"stay-ref ({j} ∷ []) tt (plain (λ _. {self.elem(i)}))" for k in (GROUP_MUT, TURN_MUT, COUNTS_MUT)}
             stays.append(held.get(call.kind(i), "handed _ _"))
         text += f"abbrev stayed : Stays (own.ended .signature .params) (own.ended .kept)\nstayed = {nested(stays)}\n\n"
         for callee in self.callees:
@@ -101,7 +101,7 @@ class Proof(Walk):
         """What the callees by value are asked."""
         call, text = self.call, ""
         lead = [(self.found, f"vint w64 {self.found}")] * (call.by_row is not None) + [(f"rowAt ys {self.found}", "v₂")] * call.row_passed
-        lead += [("loaded ys", "v₅")] * call.by_rows + [("h", "v₃")] * call.turn_passed + [("c", "v₇")] * call.counts_passed
+        lead += [("loaded ys", "v₅")] * call.by_rows + [("g", "v₉")] * call.group_passed + [("h", "v₃")] * call.turn_passed + [("c", "v₇")] * call.counts_passed
         behind = " .1" * call.ticketed  # the ticket is not handed on
         text += f"  abbrev κs₁ : Lfts {len(self.rest_refs)}\n  κs₁ = {self.lifetimes(self.rest_refs)}\n\n"
         text += f"  abbrev a₁ : Args call.signature κs₁\n  a₁ = {''.join(f'({x}, ' for x, _ in lead)}rest{behind}{')' * len(lead)}\n\n"
@@ -111,6 +111,7 @@ class Proof(Walk):
         parts = {  # by the machine value: what it is a value of
             "v₂": ("R", f"(rowAt ys {self.found})", "makes 𝓤 H A"),
             "v₅": ("(Array R 6)", "(loaded ys)", "array-makes 𝓤 H A W R (makes 𝓤 H A) 6"),
+            "v₉": ("P.R", "g", "P.makes 𝓤 H A"),
             "v₃": ("U.R", "h", "U.makes 𝓤 H A"),
             "v₇": ("N.R", "c", "N.makes 𝓤 H A"),
         }
@@ -131,7 +132,7 @@ class Proof(Walk):
         return text
 
     def items_at_end(self, now, rest):
-        """What is held at the end, table, turn and counts as they are now, and the rest."""
+        """What is held at the end, as it is now, and the rest."""
         call, out = self.call, []
         for what, i in call.holds:
             at, k = f"b{sub(i)} o{sub(i)} κ{sub(i)} γ{sub(i)}", "Mut" if call.changes(what) else "Shr"
@@ -166,7 +167,7 @@ class Proof(Walk):
             kind = call.kind(i)
             last.append(self.var(i) + "′" if call.is_mut(i) else "tt")
             fit.append("long" if kind == TABLE_MUT else "tt")
-        its = self.items_at_end({"table": "ys′", "turn": "h′", "counts": "c′"}, self.lefts("′"))
+        its = self.items_at_end({"table": "ys′", "group": "g′", "turn": "h′", "counts": "c′"}, self.lefts("′"))
         steps = " ".join(self.joining())
         given = " ".join(f"({n} : {t})" for n, t in names)
         text = f"  -- the end: what is left of table and turn, and what is said of the rest\n  ends : {given} → {' → '.join(did)}\n      → ent 𝓤 (⋆ 𝓤 H A ({its})) (Post v)\n"
@@ -222,7 +223,7 @@ class Proof(Walk):
             last.append(self.var(i) if call.is_mut(i) else "tt")
             fits.append("refl" if call.is_mut(i) else "tt")
         table = call.changes("table")
-        its, k = self.items_at_end({"table": "ys", "turn": "h", "counts": "c"}, "Rest"), 2 * call.held
+        its, k = self.items_at_end({"table": "ys", "group": "g", "turn": "h", "counts": "c"}, "Rest"), 2 * call.held
         back = " ∷ ".join([str(i) for i in range(1, k + 1)] + ["0", "[]"])
         changed = [self.var(i) for what, i in call.holds if call.changes(what)] + [self.var(i) for i in self.muts]
         args = ["r"] + changed + ["is"] + ["refl"] * table
@@ -255,7 +256,7 @@ class Proof(Walk):
                 tells.append({U32: "uint-tells w32"}.get(kind, "sint-tells w32"))
             if kind == TABLE_MUT:
                 goes.append(f"goes-slice 𝓤 H A W {n} {call.refs.index(i)} tt (plain (λ _. R))")
-            elif kind in (TURN_MUT, COUNTS_MUT):
+            elif kind in (GROUP_MUT, TURN_MUT, COUNTS_MUT):
                 goes.append(f"goes-ref 𝓤 H A W {n} {call.refs.index(i)} tt (plain (λ _. {self.elem(i)}))")
             else:
                 goes.append(f"goes-handed 𝓤 H A W {n} {self.slot(i)} yes")
@@ -299,7 +300,7 @@ def used(uses, body):
 
 def occurs(name, body):
     name = name.strip("_") if name.startswith("_") else name
-    return re.search(r"(?<![\w·\-#′])" + re.escape(name) + r"(?![\w·\-′₀-₉])", body) is not None
+    return re.search(r"(?<![\w·\-#′])" + re.escape(name) + r"(?![\w·\-→′₀-₉])", body) is not None
 
 
 def text(call, function):

@@ -23,7 +23,9 @@ HELPERS = {  # by the name in a proof
     "put": Helper("put", "Put", law="put"), "end": Helper("end", "End", law="end"), "stage": Helper("set_stage", "SetStage", law="stage"),
     "writes": Helper("set_writes", "SetWrites", law="writes"),
     "ended": Helper("end_rows", "EndRows", law="end-rows"), "mark": Helper("mark_rows", "MarkRows", law="mark"),
-    "copy": Helper("copy_turn", "CopyOut", "U.turn", "copy-out"), "turn": Helper("set_turn", "StoreAll", "U.turn", "store-all"),
+    "copy": Helper("copy_turn", "CopyOut", "U.turn", "copy-out"), "turn": Helper("replace_turn", "StoreAll", "U.turn", "store-all"),
+    "sent": Helper("mark_sent", "Changes", "U.turn markSent", "changes"), "step": Helper("step_turn", "StepTurn", law="step"),
+    "grouped": Helper("copy_group", "CopyOut", "P.group", "copy-out"), "group": Helper("set_group", "StoreAll", "P.group", "store-all"),
     "copied": Helper("copy_counts", "CopyOut", "N.counts", "copy-out"), "counts": Helper("set_counts", "StoreAll", "N.counts", "store-all"),
     "tickets": Helper("set_tickets", "StoreOne", "N.counts N.tickets", "store-one"), "read-only": Helper("set_read_only", "StoreOne", "N.counts N.read-only", "store-one"),
     "aborted": Helper("set_aborted", "StoreOne", "N.counts N.aborted", "store-one"), "withdrawn": Helper("set_withdrawn", "StoreOne", "N.counts N.withdrawn", "store-one"),
@@ -45,7 +47,7 @@ class Walk(Names):
         self.result_in = None  # the local that has what the call by value gave
         self.reply_in = None  # the local that has the reply
         self.reply_is = f"(fields{call.field('reply')})" if call.result not in ("u8", call.reply) and call.reply != "u8" else "is"
-        self.now = {"table": "ys", "turn": "h", "counts": "c"}  # what is held, as it is now
+        self.now = {"table": "ys", "group": "g", "turn": "h", "counts": "c"}  # what is held, as it is now
         self.long = "refl"  # that the table is as long as it was
         self.tests = []  # what the tests so far say
         self.compared = {}  # by the local that a comparison is in: how, and with what
@@ -59,13 +61,13 @@ class Walk(Names):
     def said(self):
         """What the call by value says, of r and the last values ws."""
         call = self.call
-        lead = [self.found] * (call.by_row is not None) + [f"(rowAt ys {self.found})"] * call.row_passed + ["(loaded ys)"] * call.by_rows + ["h"] * call.turn_passed + ["c"] * call.counts_passed
+        lead = [self.found] * (call.by_row is not None) + [f"(rowAt ys {self.found})"] * call.row_passed + ["(loaded ys)"] * call.by_rows + ["g"] * call.group_passed + ["h"] * call.turn_passed + ["c"] * call.counts_passed
         rest = [self.var(i) for i in call.passed]
         return f"{call.name.capitalize()}On {' '.join(lead + rest + ['r'] + [self.last(i) for i in self.muts])}"
 
     @property
     def leading(self):
-        return (self.call.by_row is not None) + self.call.row_passed + self.call.by_rows + self.call.turn_passed + self.call.counts_passed
+        return (self.call.by_row is not None) + self.call.row_passed + self.call.by_rows + self.call.group_passed + self.call.turn_passed + self.call.counts_passed
 
     def last(self, i):
         return "(ws" + " .1" * (self.leading + i - self.call.passed[0]) + " .0)"
@@ -107,8 +109,8 @@ class Walk(Names):
         return "slice-shared R b₀ o₀ κ₀ q₀ γ₀ ys W room₀ vals tells (copies 𝓤 H A W)"
 
     def spot(self, what):
-        """Where turn or counts lie, and all that a reference to them has."""
-        i = sub({"turn": self.call.turn, "counts": self.call.counts}[what])
+        """Where group, turn or counts lie, and all that a reference to them has."""
+        i = sub({"group": self.call.group, "turn": self.call.turn, "counts": self.call.counts}[what])
         return f"b{i} o{i}", f"b{i} o{i} κ{i} q{i} γ{i}"
 
     def writes_table(self, name, after, long, args, operands, local, before=""):
@@ -214,10 +216,10 @@ class Walk(Names):
         """The call that does the work: what is left of the parameters is handed on to it."""
         call = self.call
         self.bring(["rest", "toks"])
-        values = ["v₂"] * call.row_passed + ["v₅"] * call.by_rows + ["v₃"] * call.turn_passed + ["v₇"] * call.counts_passed
+        values = ["v₂"] * call.row_passed + ["v₅"] * call.by_rows + ["v₉"] * call.group_passed + ["v₃"] * call.turn_passed + ["v₇"] * call.counts_passed
         facts = [v.replace("v", "is") for v in values]
-        if call.replicas_only:  # the counts were read on the way
-            values, facts = [v.replace("v₇", "(N.val c)") for v in values], [f.replace("is₇", "is₈") for f in facts]
+        if call.group_read:
+            values, facts = [v.replace("v₉", "(P.val g)") for v in values], [f.replace("is₉", "is₈") for f in facts]
         to = f"(to-call {' '.join(values)})"
         fits = ["(is₁ .1)"] * (call.by_row is not None)
         self.say("-- the call by value")
@@ -264,11 +266,13 @@ class Walk(Names):
             self.lend(self.table_read, "load", table, "Is (Array R 6) (loaded ys) (u ∷ [])", operands, "v₅ is₅", "(array-lawful 𝓤 H A W R (lawful 𝓤 H A W) 6 .typed (loaded ys) _ is₅ .0)", local)
         elif name == "copy_turn":
             self.copies_record("turn", "copy", "U", "h", "₃", operands, local)
+        elif name == "copy_group":
+            self.copies_record("group", "grouped", "P", "g", "₉", operands, local)
+            if call.group_read:
+                self.say(f"rewrite ! {self.at(local, len(self.front))} (λ (w : Val). ‵ (fat fullShare J′.mir l{local} 0 w)) (ap only (P.tells g _ is₉)) refl $")
+                self.say("let is₈ = subst (λ (vs : List Val). Is P.R g vs) (P.tells g _ is₉) is₉ in")
         elif name == "copy_counts":
             self.copies_record("counts", "copied", "N", "c", "₇", operands, local)
-            if call.replicas_only:  # its fields are read
-                self.say(f"rewrite ! {self.at(local, len(self.front))} (λ (w : Val). ‵ (fat fullShare Q′.mir l{local} 0 w)) (ap only (N.tells c _ is₇)) refl $")
-                self.say("let is₈ = subst (λ (vs : List Val). Is N.R c vs) (N.tells c _ is₇) is₇ in")
         elif name == "put":
             after, row = f"(set ys {index} (r .row))", call.field("row")
             self.writes_table("put", after, f"(length-set ys {index} (r .row))", f"{index} (is₁ .1) (r .row) (D′.the-laws{row} .val (T.the-type .to (r .row)))", operands, local, f" (fields{row})")
@@ -290,9 +294,19 @@ class Walk(Names):
                 self.writes_table("ended", "(endRows (r .ended) ys)", "(ended-length (r .ended) ys)", f"(r .ended) (D′.the-laws{ended} .val (map (λ (b : Bool). b) (r .ended)))", operands, local, f" (is-marks (r .ended) _ (fields{ended}))")
         elif name == "mark_rows":
             self.writes_table("mark", "(map sendRow ys)", "(length-map ys sendRow)", "", operands, local)
-        elif name == "set_turn":
+        elif name == "mark_sent":
+            self.writes_record("turn", "sent", "U", "h", "(markSent h)", "", operands, local)
+        elif name == "step_turn":
+            fields = f"LL.owed Y.the-type Y′.the-laws (r .reply) _ {self.reply_is}"
+            own = "LL.owed J.the-type J′.the-laws g _ is₈ .1 .0 .1"
+            self.writes_record("turn", "step", "U", "h", "(stepTurn (r .reply .moved) (eqb (r .reply .sender) (g .own)) h)",
+                               f"(r .reply .moved) (r .reply .sender) ({fields} .1 .0 .1) (g .own) ({own})", operands, local)
+        elif name == "replace_turn":
             way = call.field("turn")
             self.writes_record("turn", "turn", "U", "h", "(r .turn)", f"(r .turn) (D′.the-laws{way} .val (K.the-type .to (r .turn)))", operands, local, f" (fields{way})")
+        elif name == "set_group":
+            way = call.field("group")
+            self.writes_record("group", "group", "P", "g", "(r .group)", f"(r .group) (D′.the-laws{way} .val (J.the-type .to (r .group)))", operands, local, f" (fields{way})")
         elif name == "set_counts":
             way = call.field("counts")
             self.writes_record("counts", "counts", "N", "c", "(r .counts)", f"(r .counts) (D′.the-laws{way} .val (Q.the-type .to (r .counts)))", operands, local, f" (fields{way})")
@@ -330,7 +344,7 @@ class Walk(Names):
         """It has no number: the answer is 25."""
         self.say("-- a station")
         self.assign(0, then[1][2])
-        self.leave(f"ends-not _ 25 (refl, omega arith) ({self.call.name}-station {self.given_all} (eqb→eq (c .own) 255 none)))", "returns-within ! Post refl")
+        self.leave(f"ends-not _ 25 (refl, omega arith) ({self.call.name}-station {self.given_all} (eqb→eq (g .own) 255 none)))", "returns-within ! Post refl")
 
     def test(self, statement):
         """An early return, where the test holds."""
@@ -339,7 +353,7 @@ class Walk(Names):
         if self.result_in is None and self.numbered_by(local):
             self.say(f"when ! (load ! (from ! (stop !)) (look ! {self.at(local, len(self.front))} refl)) (λ none.")
             self.at_station(statement[2])
-            over, fails, shown = "ours₀", "let ours = missed (c .own) 255 ours₀ in", []
+            over, fails, shown = "ours₀", "let ours = missed (g .own) 255 ours₀ in", []
         elif self.result_in is None:
             self.say(f"when ! (load ! (from ! (stop !)) (look ! {self.at(local, len(self.front))} refl)) (λ other.")
             self.wrong_table(statement[2])

@@ -60,7 +60,6 @@ module _ (n : ℕ) (start : List ℤ) (m : Memory) (s : Sound n m) (t : ℕ) whe
         (rw (model-ends (view m .transactions) t _ (find-row m (s .shape) t (p .row)) (p .active) (ap isEmpty (no-writes r (rowIn m (rowNo m t)) (m .txns .items) (m .txns .writes) e))))
         refl refl
         (record {
-          own = refl;
           done = refl;
           commits = refl;
           tickets = refl;
@@ -101,7 +100,6 @@ module _ (n : ℕ) (start : List ℤ) (m : Memory) (s : Sound n m) (t : ℕ) whe
         (some-writes r (rowIn m (rowNo m t)) (m .txns .items) (m .txns .writes) (p .row) (s .shape .lengths .items) (s .shape .lengths .writes) z)))
         refl refl
         (record {
-          own = refl;
           done = refl;
           commits = refl;
           tickets = refl;

@@ -112,7 +112,7 @@ module _ (n : ℕ) (start : List ℤ) (m : Memory) (s : Sound n m) where
         client-owes n start m begin (joined (storeOf m) (view m .transactions)) (beginAt m r) (withTickets (m .counts) (m .counts .tickets + 1)) y
         (rw (model-begins (setup n start) (storeOf m) (view m .transactions) spare (p .tickets)))
         refl refl
-        (record { own = refl; done = refl; commits = refl; tickets = refl; queue = refl; txns = members })
+        (record { done = refl; commits = refl; tickets = refl; queue = refl; txns = members })
 
   pub begin-owes : Owed n start m begin (step m begin)
   unfolding beginRefusal

@@ -28,7 +28,6 @@ module _ (n : ℕ) (start : List ℤ) (m : Memory) (c : Call) where
 
   -- the transactions became those of the model
   pub record ClientAlike (d : ClientOutcome ℤ) (k : Counts) (x : Transactions) : Type 0 where
-    pub own : k .own ≡ m .counts .own
     pub done : k .done ≡ m .counts .done
     pub commits : k .commits ≡ m .counts .commits
     pub tickets : k .tickets ≡ d .transactions .tickets
@@ -37,7 +36,7 @@ module _ (n : ℕ) (start : List ℤ) (m : Memory) (c : Call) where
 
   client-alike : (d : ClientOutcome ℤ) (k : Counts) (x : Transactions) → ClientAlike d k x → Alike (fromClient (view m) d .replica) (view (withTxns m k x))
   client-alike d k x a = record {
-    own = a .own;
+    own = refl;
     cursor = rw (a .done);
     commits = a .commits;
     values = refl;

@@ -107,18 +107,18 @@ module _ (n : ℕ) (start : List ℤ) (m : Memory) (S : Sound n m) (b : List ℕ
     below = rw (S .size) at (k .high)
 
     -- an own block, the turn's being sent, is for the turn
-    turns : headerOf b .sender ≡ m .counts .own → isOn (m .turn .sent) ≡ true → slot ≡ m .turn .slot
+    turns : headerOf b .sender ≡ m .group .own → isOn (m .turn .sent) ≡ true → slot ≡ m .turn .slot
     turns o u = at-turn n (m .turn .slot) slot (k .low) below (sym (rw (k .replicas, S .size) at (sender-owns b (k .taken))) ∙ o ∙ sym (rw (S .size) at (S .sent .turn u)))
 
-    own-sent : eqb (messageIn b .sender) (m .counts .own) && not (sentForTurn (setup n start) (view m) (messageIn b)) ≡ false
+    own-sent : eqb (messageIn b .sender) (m .group .own) && not (sentForTurn (setup n start) (view m) (messageIn b)) ≡ false
     own-sent =
         rw (sender-said b, slot-said b)
-        (own-by (eqb (headerOf b .sender) (m .counts .own)) (isOwnBlock m b) _ (sent-here m b e)
+        (own-by (eqb (headerOf b .sender) (m .group .own)) (isOwnBlock m b) _ (sent-here m b e)
         (λ o h. let u = k .own (eqb-true _ _ o) .0 in
         joined u (joined (eq-eqb slot (m .turn .slot) (turns (eqb-true _ _ o) u)) refl)))
 
     model : Rattle.protocol.specs.System.step (setup n start) (view m) (meant (deliver b))
-        ≡ outcome (replica (m .counts .own) (view m .cursor) (view m .store) (view m .transactions) (keptBlocks (setup n start) (view m) (messageIn b))) (accepted (messageIn b))
+        ≡ outcome (replica (m .group .own) (view m .cursor) (view m .store) (view m .transactions) (keptBlocks (setup n start) (view m) (messageIn b))) (accepted (messageIn b))
     model =
         model-keeps (setup n start) (view m) (messageIn b)
         (rw (slot-said b) (le-ltb _ _ (k .low)))

@@ -58,20 +58,20 @@ module _ (n : ℕ) (m : Memory) (s : Sound n m) (l : List ℕ) (H : length l ≡
   b = blockAtTurn m
 
   abbrev mine : Bool
-  mine = eqb (getD (blockAtTurn m) 1 0) (m .counts .own)
+  mine = eqb (getD (blockAtTurn m) 1 0) (m .group .own)
 
   module _ (k : Working m) where
     long : length b ≡ 512
     long = is-taken b (s .shape .places .waits (m .turn .slot) (omega arith) (omega (arith, s .shape .ranges .least)) (k .waits) .0) .long
 
-    owns : getD b 1 0 ≡ ownerOf (m .counts .replicas) (m .turn .slot)
+    owns : getD b 1 0 ≡ ownerOf (m .group .replicas) (m .turn .slot)
     owns = sender-owns m (s .shape) (s .sent) (k .waits)
 
     mark : sentAlready m ≡ mine
     mark =
-        same-by (getD b 1 0) (m .counts .own)
-        (λ e. is-outbox m (s .shape) (s .sent) (k .waits) (sym owns ∙ e) .0 ∙ sym (eq-eqb (getD b 1 0) (m .counts .own) e))
-        (λ d. not-so (sentAlready m) (λ t. d (owns ∙ s .sent .turn t)) ∙ sym (ne-eqb (getD b 1 0) (m .counts .own) d))
+        same-by (getD b 1 0) (m .group .own)
+        (λ e. is-outbox m (s .shape) (s .sent) (k .waits) (sym owns ∙ e) .0 ∙ sym (eq-eqb (getD b 1 0) (m .group .own) e))
+        (λ d. not-so (sentAlready m) (λ t. d (owns ∙ s .sent .turn t)) ∙ sym (ne-eqb (getD b 1 0) (m .group .own) d))
 
     left : (last : Bool) → length (l ++ cond last (cond mine [] b) []) ≡ 512 * blocksAt (cond last (advance (m .turn)) (cond mine (m .turn) (markApplying (m .turn))))
     left last = turn-filled l b (m .turn) mine last long (bumps m (s .shape) .slot) mark H

@@ -128,29 +128,29 @@ module _ (n : ℕ) (start : List ℤ) (m : Memory) (s : Sound n m) where
   b = blockAtTurn m
 
   module _ (k : Working m) where
-    waits : (blockRefusal b ≡ 0) × (headerOf b .slot ≡ m .turn .slot) × (headerOf b .replicas ≡ m .counts .replicas)
+    waits : (blockRefusal b ≡ 0) × (headerOf b .slot ≡ m .turn .slot) × (headerOf b .replicas ≡ m .group .replicas)
     waits = s .shape .places .waits (m .turn .slot) (omega arith) (omega (arith, s .shape .ranges .least)) (k .waits)
 
     turn-good : isGood n b ≡ true
     turn-good = is-good n b (waits .0) (waits .2 ∙ s .size)
 
     found : placeAt (m .blocks .places) (m .turn .slot % n) ≡ some (messageIn b)
-    found = subst (λ (r : ℕ). placeAt (m .blocks .places) (m .turn .slot % r) ≡ some (messageIn b)) (s .size) (place-taken (m .counts .replicas) (m .turn .slot) (m .blocks .places) (k .waits))
+    found = subst (λ (r : ℕ). placeAt (m .blocks .places) (m .turn .slot % r) ≡ some (messageIn b)) (s .size) (place-taken (m .group .replicas) (m .turn .slot) (m .blocks .places) (k .waits))
 
     next-appends : Appends work (passNext m)
     unfolding passNext heard appended
-    next-appends = rw found (left-block n b turn-good (eqb (getD b 1 0) (m .counts .own)) true (m .turn .slot) _ (bumps m (s .shape) .slot))
+    next-appends = rw found (left-block n b turn-good (eqb (getD b 1 0) (m .group .own)) true (m .turn .slot) _ (bumps m (s .shape) .slot))
 
     slot-after : (last mine : Bool) → cond last (advance (m .turn)) (cond mine (m .turn) (markApplying (m .turn))) .slot ≡ cond last (suc (m .turn .slot)) (m .turn .slot)
     slot-after true mine = bumps m (s .shape) .slot
     slot-after false true = refl
     slot-after false false = refl
 
-    writeset-appends : 1 ≤ recordAt b (m .counts .done) .ticket → Appends work (commitWriteset m (eqb (getD b 1 0) (m .counts .own)) (writesetAt b (m .counts .done)))
+    writeset-appends : 1 ≤ recordAt b (m .counts .done) .ticket → Appends work (commitWriteset m (eqb (getD b 1 0) (m .group .own)) (writesetAt b (m .counts .done)))
     unfolding commitWriteset heard appended
     writeset-appends h =
         rw (ne-eqb (recordAt b (m .counts .done) .ticket) 0 (λ e. let w : ⊥ = omega arith in w), found)
-        (left-block n b turn-good (eqb (getD b 1 0) (m .counts .own)) (isLast m) (m .turn .slot) _ (slot-after (isLast m) (eqb (getD b 1 0) (m .counts .own))))
+        (left-block n b turn-good (eqb (getD b 1 0) (m .group .own)) (isLast m) (m .turn .slot) _ (slot-after (isLast m) (eqb (getD b 1 0) (m .group .own))))
 
   sent-good : (l : List ℕ) → sendRefusal m l ≡ 0 → isGood n (blockOf (messageFor m)) ≡ true
   unfolding headerOf messageOf messageFor

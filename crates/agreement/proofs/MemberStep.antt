@@ -47,22 +47,22 @@ turned-away-at n start k m c i h = refuses-at i h refl (alike-same (viewAt k m))
 
 -- ---- a replica
 
-pub view-own : (k : ℕ) (m : Memory) → m .counts .own ≡ k → viewAt k m ≡ view m
+pub view-own : (k : ℕ) (m : Memory) → m .group .own ≡ k → viewAt k m ≡ view m
 view-own k m e = ap (λ (j : ℕ). viewAt j m) (sym e)
 
-module _ (n : ℕ) (start : List ℤ) (k : ℕ) (m : Memory) (q : m .counts .own ≡ k) where
-  pub replica-owes : (c : Call) (o : Outcome) → o .memory .counts .own ≡ k → Owed n start m c o → OwedAt n start k m (call c) o
+module _ (n : ℕ) (start : List ℤ) (k : ℕ) (m : Memory) (q : m .group .own ≡ k) where
+  pub replica-owes : (c : Call) (o : Outcome) → o .memory .group .own ≡ k → Owed n start m c o → OwedAt n start k m (call c) o
   replica-owes c o f (refuses i h e L) = refuses-at i h e (rw (view-own k m q, view-own k (o .memory) f) L)
   replica-owes c o f (follows e L) = follows-at (rw (view-own k m q) e) (rw (view-own k m q, view-own k (o .memory) f) L)
 
-  restarted-owes : (j b : List ℕ) (o : Outcome) → o .memory .counts .own ≡ k → RestartOwed n start m j b o → OwedAt n start k m (restart j b) o
+  restarted-owes : (j b : List ℕ) (o : Outcome) → o .memory .group .own ≡ k → RestartOwed n start m j b o → OwedAt n start k m (restart j b) o
   restarted-owes j b o f (turned-away i h e L) = refuses-at i h e (rw (view-own k m q, view-own k (o .memory) f) L)
   restarted-owes j b o f (restores e L) = follows-at (rw (view-own k m q) e) (rw (view-own k m q, view-own k (o .memory) f) L)
 
   pub replica-restarts : (j b : List ℕ) → OwedAt n start k m (restart j b) (restartStep m n k start j b)
   replica-restarts j b =
       restarted-owes j b (restartStep m n k start j b)
-      (restart-by (λ (o : Outcome). o .memory .counts .own ≡ k) m n k start j b (λ e. restarted-own n k start (blocksIn n j)) (λ e. q)) (restart-owes n start m j b k q)
+      (restart-by (λ (o : Outcome). o .memory .group .own ≡ k) m n k start j b (λ e. restarted-own n k start (blocksIn n j)) (λ e. q)) (restart-owes n start m j b k q)
 
 -- ---- a station
 
@@ -71,15 +71,15 @@ sender-among : (n : ℕ) (b : List ℕ) → 0 < n → blockRefusal b ≡ 0 → h
 unfolding ownerOf
 sender-among n b above e r = rw (sender-seen b, taken-block b e .sender, r) (mod-lt (headerOf b .slot) above)
 
-module _ (n : ℕ) (start : List ℤ) (most : n ≤ 6) (k : ℕ) (m : Memory) (s : Sound n m) (above : n ≤ k) (no-own : m .counts .own ≡ noNumber) where
+module _ (n : ℕ) (start : List ℤ) (most : n ≤ 6) (k : ℕ) (m : Memory) (s : Sound n m) (above : n ≤ k) (no-own : m .group .own ≡ noNumber) where
   any-replica : 0 < n
   any-replica = omega (arith, s .shape .ranges .least, s .size)
 
   station : isStation m ≡ true
-  station = eq-eqb (m .counts .own) noNumber no-own
+  station = eq-eqb (m .group .own) noNumber no-own
 
   -- a message from a replica is met neither under its own number nor under the group's
-  foreign : (a : Message ℤ) → a .sender < n → (a .sender ≡ m .counts .own → ⊥) × (a .sender ≡ k → ⊥)
+  foreign : (a : Message ℤ) → a .sender < n → (a .sender ≡ m .group .own → ⊥) × (a .sender ≡ k → ⊥)
   foreign a h = ((λ e. let q = no-own in omega arith), (λ e. omega arith))
 
   -- the message at the turn is from a replica
@@ -92,7 +92,7 @@ module _ (n : ℕ) (start : List ℤ) (most : n ≤ 6) (k : ℕ) (m : Memory) (s
       let q : messageIn b ≡ a = (let q = sym (place-taken n (m .turn .slot) (m .blocks .places) z) ∙ e in cc) in
       rw (← q) (sender-among n b any-replica (rw (s .size) at (w .0)) (rw (s .size) at (w .2))))
 
-  under : (c : Call) (o : Outcome) → Foreign (setup n start) (m .counts .own) (view m) (meant c) → Foreign (setup n start) k (view m) (meant c) → Owed n start m c o → OwedAt n start k m (call c) o
+  under : (c : Call) (o : Outcome) → Foreign (setup n start) (m .group .own) (view m) (meant c) → Foreign (setup n start) k (view m) (meant c) → Owed n start m c o → OwedAt n start k m (call c) o
   under c o d e (refuses i h q L) = refuses-at i h q (alike-numbered k (view m) (view (o .memory)) L)
   under c o d e (follows q L) =
       let z = step-under (setup n start) k (view m) (meant c) d e in

@@ -66,8 +66,8 @@ module _ (n : ℕ) (start : List ℤ) (least : 2 ≤ n) (most : n ≤ 6) (long :
 
   -- member k is a replica with that number, or a station, which has none
   pub data Standing (k : ℕ) (m : Memory) : Type 0 where
-    as-replica : k < n → m .counts .own ≡ k → Standing k m
-    as-station : n ≤ k → m .counts .own ≡ noNumber → Standing k m
+    as-replica : k < n → m .group .own ≡ k → Standing k m
+    as-station : n ≤ k → m .group .own ≡ noNumber → Standing k m
 
   -- the memory of member k
   pub record SoundAt (k : ℕ) (m : Memory) : Type 0 where
@@ -75,7 +75,7 @@ module _ (n : ℕ) (start : List ℤ) (least : 2 ≤ n) (most : n ≤ 6) (long :
     pub stands : Standing k m
 
   -- with the same number
-  stands-on : (k : ℕ) (m o : Memory) → o .counts .own ≡ m .counts .own → Standing k m → Standing k o
+  stands-on : (k : ℕ) (m o : Memory) → o .group .own ≡ m .group .own → Standing k m → Standing k o
   stands-on k m o e (as-replica h q) = as-replica h (e ∙ q)
   stands-on k m o e (as-station h q) = as-station h (e ∙ q)
 

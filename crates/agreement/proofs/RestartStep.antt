@@ -92,16 +92,16 @@ module _ (n : ℕ) (start : List ℤ) (m : Memory) (journal block : List ℕ) wh
   pub given-back : (k : ℕ) → givenIn (lastOwn k (replicate 512 0) (blocksIn n journal)) ≡ lastOf k (map messageIn (blocksIn n journal))
   given-back k = given-last n k (replicate 512 0) bs good ∙ rw zeros-none (given-none (lastOf k (map messageIn bs)))
 
-  pub restart-event : heard n (restart journal block) (restarted (length (blocksIn n journal)) (lastOwn (m .counts .own) (replicate 512 0) (blocksIn n journal)))
+  pub restart-event : heard n (restart journal block) (restarted (length (blocksIn n journal)) (lastOwn (m .group .own) (replicate 512 0) (blocksIn n journal)))
       ≡ step (setup n start) (view m) (Rattle.protocol.specs.System.Call.restart (lentMessages n journal)) .event
   unfolding heard step
   restart-event =
-      rw (given-back (m .counts .own), read-messages) refl
+      rw (given-back (m .group .own), read-messages) refl
 
   pub restart-alike : Alike (step (setup n start) (view m) (Rattle.protocol.specs.System.Call.restart (lentMessages n journal)) .replica)
-      (view (restartedMemory n (m .counts .own) start (blocksIn n journal)))
+      (view (restartedMemory n (m .group .own) start (blocksIn n journal)))
   unfolding step
-  restart-alike = rw (← read-messages) (restored-alike n (m .counts .own) start bs good few)
+  restart-alike = rw (← read-messages) (restored-alike n (m .group .own) start bs good few)
 
   -- what the outcome o of a restart owes
   pub data RestartOwed (o : Outcome) : Type 0 where
@@ -110,12 +110,12 @@ module _ (n : ℕ) (start : List ℤ) (m : Memory) (journal block : List ℕ) wh
         → Alike (step (setup n start) (view m) (Rattle.protocol.specs.System.Call.restart (lentMessages n journal)) .replica) (view (o .memory)) → RestartOwed o
 
   -- lent the replica's own number
-  pub restart-owes : (k : ℕ) → m .counts .own ≡ k → RestartOwed (restartStep m n k start journal block)
+  pub restart-owes : (k : ℕ) → m .group .own ≡ k → RestartOwed (restartStep m n k start journal block)
   unfolding heard
   restart-owes k e =
       subst (λ (i : ℕ). RestartOwed (restartStep m n i start journal block)) e
-      (restart-by RestartOwed m n (m .counts .own) start journal block (λ z. restores restart-event restart-alike)
-      (λ z. turned-away (restartRefusal m n (m .counts .own) start block) (not-nine m n (m .counts .own) start block) refl (alike-same (view m))))
+      (restart-by RestartOwed m n (m .group .own) start journal block (λ z. restores restart-event restart-alike)
+      (λ z. turned-away (restartRefusal m n (m .group .own) start block) (not-nine m n (m .group .own) start block) refl (alike-same (view m))))
 
 -- ---- what holds of the memory
 

@@ -172,10 +172,10 @@ module _ (n : ℕ) (start : List ℤ) (least : 2 ≤ n) (most : n ≤ 6) (long :
   fresh-kept = record { sound = made-sound n start least most long owes; disks = λ k h. no-block n }
 
   -- replica k's number is its own
-  pub own-is : (k : ℕ) (m : Memory) → Good k m → k < n → m .counts .own ≡ k
+  pub own-is : (k : ℕ) (m : Memory) → Good k m → k < n → m .group .own ≡ k
   own-is k m s below = go (s .stands)
     where
-      go : Standing n start least most long owes k m → m .counts .own ≡ k
+      go : Standing n start least most long owes k m → m .group .own ≡ k
       go (as-replica h q) = q
       go (as-station h q) = absurd (let w : ⊥ = omega arith in w)
 

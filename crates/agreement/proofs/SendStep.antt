@@ -115,6 +115,6 @@ send-owes n start m s b = send-by (Owed n start m (send b)) m b accepted (λ k h
     accepted : sendRefusal m b ≡ 0 → Owed n start m (send b) (sendNow m)
     accepted e =
         let p = send-passed m b e in
-        let f : ownerOf n (m .turn .slot) ≡ m .counts .own = rw (← s .size) (p .owner) in
+        let f : ownerOf n (m .turn .slot) ≡ m .group .own = rw (← s .size) (p .owner) in
         let q = sends (setup n start) (view m) (p .slot) f (p .unsent) in
         Owed.follows (rw q (ap handedOut (handed m (s .shape) (theorems .round-trip (messageFor m) (sendable n m s b e) .message)))) (rw q (alike-sent m))

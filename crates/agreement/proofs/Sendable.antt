@@ -31,7 +31,7 @@ use Rattle.agreement.proofs.View.{Sound}
 
 pub record SendPassed (m : Memory) : Type 0 where
   pub slot : m .turn .slot < maxSlots
-  pub owner : ownerOf (m .counts .replicas) (m .turn .slot) ≡ m .counts .own
+  pub owner : ownerOf (m .group .replicas) (m .turn .slot) ≡ m .group .own
   pub unsent : isOn (m .turn .sent) ≡ false
 
 pub send-passed : (m : Memory) (b : List ℕ) → sendRefusal m b ≡ 0 → SendPassed m
@@ -169,9 +169,9 @@ sendable n m s b e =
     rw (length-map w f) (kind-fits (length w) (omega (arith, length-waiting (m .txns .queue), S .lengths .queue))) in
     record {
       fields = joined k
-          (joined (within-in 2 6 (m .counts .replicas) (S .ranges .least) (S .ranges .most))
+          (joined (within-in 2 6 (m .group .replicas) (S .ranges .least) (S .ranges .most))
           (joined (le-leb (m .turn .slot) maxSlot (omega (arith, p .slot)))
-          (joined (eq-eqb (m .counts .own) _ (sym (p .owner)))
+          (joined (eq-eqb (m .group .own) _ (sym (p .owner)))
           (joined (records-fit f w (λ k h. let a = asked-row m S k h in writeset-fits m S (getD w k 0) (a .0) (a .1)))
           (tickets-differ f (writeset-ticket (m .txns)) w (line-once m S))))));
       values = all-fit f w (λ k h. let a = asked-row m S k h in writeset-values m S (getD w k 0) (a .0) (a .1) (s .fits));

@@ -35,7 +35,7 @@ Fits l = (i : ℕ) → signed32 (getD l i (pos 0)) ≡ true
 
 -- all but the shape and what is sent
 record Rest (n : ℕ) (m : Memory) : Type 0 where
-  size : m .counts .replicas ≡ n
+  size : m .group .replicas ≡ n
   fits : Fits (m .txns .writes)
 
 -- ---- a value put into the list

@@ -73,7 +73,7 @@ abbrev pub blocksOf : Memory → Blocks ℤ
 blocksOf m = record { places = placeAt (m .blocks .places); outbox = some (messageIn (m .blocks .outbox)) }
 
 abbrev pub view : Memory → Replica ℤ
-view m = replica (m .counts .own) (cursorOf m) (storeOf m) (transactions (m .counts .tickets) (openTxns (m .txns)) (waiting (m .txns .queue))) (blocksOf m)
+view m = replica (m .group .own) (cursorOf m) (storeOf m) (transactions (m .counts .tickets) (openTxns (m .txns)) (waiting (m .txns .queue))) (blocksOf m)
 
 -- as member k's: a replica's number is its own, a station's is the group's
 abbrev pub viewAt : ℕ → Memory → Replica ℤ
@@ -84,7 +84,7 @@ pub record Sound (n : ℕ) (m : Memory) : Type 0 where
   pub over : ℕ
   pub shape : Shape over m
   pub sent : SentShape m
-  pub size : m .counts .replicas ≡ n
+  pub size : m .group .replicas ≡ n
   pub fits : (i : ℕ) → signed32 (getD (m .txns .writes) i (pos 0)) ≡ true
 
 -- ---- the calls

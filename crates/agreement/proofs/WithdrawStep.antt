@@ -40,7 +40,6 @@ module _ (n : ℕ) (start : List ℤ) (m : Memory) (s : Sound n m) where
       (rw (model-withdraws (view m .transactions) t _ (find-row m (s .shape) t (p .row)) (p .active)))
       refl refl
       (record {
-        own = refl;
         done = refl;
         commits = refl;
         tickets = refl;

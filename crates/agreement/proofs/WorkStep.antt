@@ -106,7 +106,7 @@ owed-by n start m o q e a b = follows (rw e a) (rw e b)
 
 module _ (start : List ℤ) {over : ℕ} (m : Memory) (S : Shape over m) (Q : SentShape m) (k : Working m) where
   abbrev n : ℕ
-  n = m .counts .replicas
+  n = m .group .replicas
 
   abbrev b : List ℕ
   b = blockAtTurn m
@@ -165,7 +165,7 @@ module _ (start : List ℤ) {over : ℕ} (m : Memory) (S : Shape over m) (Q : Se
     -- all but the transactions
     commit-alike : (mine : Bool) (txns : List (Transaction ℤ)) (queue : List ℕ) → SameMembers txns (openTxns (committed m mine mine (isLast m) w .txns))
         → waiting (committed m mine mine (isLast m) w .txns .queue) ≡ queue
-        → Alike (replica (m .counts .own) (cursorAfter count (cursorOf m)) (storeAfter (map writeOf (w .entries)) (storeOf m))
+        → Alike (replica (m .group .own) (cursorAfter count (cursorOf m)) (storeAfter (map writeOf (w .entries)) (storeOf m))
         (transactions (m .counts .tickets) txns queue) (blocksAfter (setup n start) count (cursorOf m) (blocksOf m))) (view (committed m mine mine (isLast m) w))
     commit-alike mine txns queue same left = record {
       own = refl;
@@ -192,7 +192,7 @@ module _ (start : List ℤ) {over : ℕ} (m : Memory) (S : Shape over m) (Q : Se
     row = rowOf (w .ticket) table
 
     -- the replica's own: its row is open as sent
-    own-owes : getD b 1 0 ≡ m .counts .own → Owed n start m work (commitWriteset m true w)
+    own-owes : getD b 1 0 ≡ m .group .own → Owed n start m work (commitWriteset m true w)
     unfolding commitWriteset
     own-owes e =
         let its = own-sent m S Q (k .waits) some e in
@@ -232,7 +232,7 @@ module _ (start : List ℤ) {over : ℕ} (m : Memory) (S : Shape over m) (Q : Se
         ∙ sym (queue-kept gone (waiting (m .txns .queue))))
 
     -- another's: the transactions that it hits are aborted
-    other-owes : (getD b 1 0 ≡ m .counts .own → ⊥) → Owed n start m work (commitWriteset m false w)
+    other-owes : (getD b 1 0 ≡ m .group .own → ⊥) → Owed n start m work (commitWriteset m false w)
     unfolding commitWriteset
     other-owes d =
         owed-by n start m (commitWriteset m false w) _
@@ -242,19 +242,19 @@ module _ (start : List ℤ) {over : ℕ} (m : Memory) (S : Shape over m) (Q : Se
         ∙ ap (Rattle.protocol.specs.Replica.Event.committed (messageIn b .sender) (w .ticket)) (sym hit))
         (commit-alike false _ _ members queue)
 
-    by-sender : (mine : Bool) → eqb (getD b 1 0) (m .counts .own) ≡ mine → Owed n start m work (commitWriteset m mine w)
-    by-sender true e = own-owes (eqb-true (getD b 1 0) (m .counts .own) e)
-    by-sender false e = other-owes (eqb-false (getD b 1 0) (m .counts .own) e)
+    by-sender : (mine : Bool) → eqb (getD b 1 0) (m .group .own) ≡ mine → Owed n start m work (commitWriteset m mine w)
+    by-sender true e = own-owes (eqb-true (getD b 1 0) (m .group .own) e)
+    by-sender false e = other-owes (eqb-false (getD b 1 0) (m .group .own) e)
 
 never-nine : (m : Memory) → workRefusal m ≡ 9 → ⊥
 unfolding workRefusal
 never-nine m = not-first 9 _ refl
 
-owes-here : (start : List ℤ) {over : ℕ} (m : Memory) → Shape over m → SentShape m → Owed (m .counts .replicas) start m work (Rattle.engine.specs.Step.step m work)
+owes-here : (start : List ℤ) {over : ℕ} (m : Memory) → Shape over m → SentShape m → Owed (m .group .replicas) start m work (Rattle.engine.specs.Step.step m work)
 unfolding heard
 owes-here start m S Q =
-    work-by (Owed (m .counts .replicas) start m work) m (λ z h. next-owes start m S Q (working m S z) h) (λ z h. by-sender start m S Q (working m S z) h _ refl)
-    (λ z. refused-owes (m .counts .replicas) start m work (workRefusal m) (never-nine m))
+    work-by (Owed (m .group .replicas) start m work) m (λ z h. next-owes start m S Q (working m S z) h) (λ z h. by-sender start m S Q (working m S z) h _ refl)
+    (λ z. refused-owes (m .group .replicas) start m work (workRefusal m) (never-nine m))
 
 pub work-owes : (n : ℕ) (start : List ℤ) (m : Memory) → Sound n m → Owed n start m work (Rattle.engine.specs.Step.step m work)
 work-owes n start m s = subst (λ (k : ℕ). Owed k start m work (Rattle.engine.specs.Step.step m work)) (s .size) (owes-here start m (s .shape) (s .sent))

@@ -115,7 +115,7 @@ owes-by : (n : ℕ) (start : List ℤ) (m : Memory) (t i : ℕ) (v : ℤ) (a : A
 unfolding Rattle.protocol.specs.System.step
 owes-by n start m t i v a y ended l e h s q g =
     client-owes n start m (write t i v) (answered (transactions (m .counts .tickets) l (waiting (m .txns .queue))) e) (outcome a (withTxns m (withAborted (m .counts) ended) y))
-    (withAborted (m .counts) ended) y (rw h) s refl (record { own = refl; done = refl; commits = refl; tickets = refl; queue = ap waiting q; txns = g })
+    (withAborted (m .counts) ended) y (rw h) s refl (record { done = refl; commits = refl; tickets = refl; queue = ap waiting q; txns = g })
 
 -- ---- the row in the view
 

@@ -13,7 +13,6 @@ use Rattle.block.specs.Message.{ownerOf}
 use Rattle.block.specs.Answers.{firstOf, blockRefusal, headerOf}
 use Rattle.block.proofs.BoolLaws.{joined}
 use Rattle.block.proofs.AnswerLaws.{is-taken}
-use Rattle.memory.specs.declared.Counts.{Counts}
 use Rattle.memory.specs.declared.Turn.{Turn}
 use Rattle.memory.specs.Memory.{Blocks, Memory, isStation, maxSlots}
 use Rattle.memory.specs.Turns.{isEmpty, emptied}
@@ -36,13 +35,13 @@ use Rattle.engine.proofs.ShapeWriteset.{committed}
 
 -- the turn has passed slot s, or a block waits in its place
 abbrev pub HasCome : ℕ → Memory → Type 0
-HasCome s m = (s < m .turn .slot) ⊎ ((s < m .turn .slot + m .counts .replicas) × (isEmpty (m .counts .replicas) s (m .blocks .places) ≡ false))
+HasCome s m = (s < m .turn .slot) ⊎ ((s < m .turn .slot + m .group .replicas) × (isEmpty (m .group .replicas) s (m .blocks .places) ≡ false))
 
 -- turn and places are as they were
-same : (s : ℕ) (m n : Memory) → n .turn .slot ≡ m .turn .slot → n .counts .replicas ≡ m .counts .replicas → n .blocks .places ≡ m .blocks .places → HasCome s m → HasCome s n
+same : (s : ℕ) (m n : Memory) → n .turn .slot ≡ m .turn .slot → n .group ≡ m .group → n .blocks .places ≡ m .blocks .places → HasCome s m → HasCome s n
 same s m n t r b h = rw (t, r, b) h
 
-kept : (s : ℕ) (m n : Memory) → n .turn ≡ m .turn → n .counts .replicas ≡ m .counts .replicas → n .blocks ≡ m .blocks → HasCome s m → HasCome s n
+kept : (s : ℕ) (m n : Memory) → n .turn ≡ m .turn → n .group ≡ m .group → n .blocks ≡ m .blocks → HasCome s m → HasCome s n
 kept s m n t r b = same s m n (ap (λ (x : Turn). x .slot) t) r (ap (λ (x : Blocks). x .places) b)
 
 module _ {over : ℕ} (m : Memory) (S : Shape over m) (s : ℕ) (C : HasCome s m) where
@@ -59,27 +58,27 @@ module _ {over : ℕ} (m : Memory) (S : Shape over m) (s : ℕ) (C : HasCome s m
       go (inr w) =
           less-by s (m .turn .slot) inl (λ l. same-by s (headerOf b .slot)
           (λ z. clash (k .empty) (rw z at (w .1)))
-          (λ d. let e = delivered.beside m b S k s l (w .0) d in inr (w .0, empty-same (m .counts .replicas) s _ (m .blocks .places) e ∙ w .1)))
+          (λ d. let e = delivered.beside m b S k s l (w .0) d in inr (w .0, empty-same (m .group .replicas) s _ (m .blocks .places) e ∙ w .1)))
 
   -- the turn went up, and its place is empty
-  turned : (n : Memory) → Working m → n .turn .slot ≡ suc (m .turn .slot) → n .counts .replicas ≡ m .counts .replicas
-      → n .blocks .places ≡ emptied (m .counts .replicas) (m .turn .slot) (m .blocks .places) → HasCome s n
+  turned : (n : Memory) → Working m → n .turn .slot ≡ suc (m .turn .slot) → n .group ≡ m .group
+      → n .blocks .places ≡ emptied (m .group .replicas) (m .turn .slot) (m .blocks .places) → HasCome s n
   turned n w t r b = rw (t, r, b) (go C)
     where
       go : HasCome s m
-          → (s < suc (m .turn .slot)) ⊎ ((s < suc (m .turn .slot) + m .counts .replicas) × (isEmpty (m .counts .replicas) s (emptied (m .counts .replicas) (m .turn .slot) (m .blocks .places)) ≡ false))
+          → (s < suc (m .turn .slot)) ⊎ ((s < suc (m .turn .slot) + m .group .replicas) × (isEmpty (m .group .replicas) s (emptied (m .group .replicas) (m .turn .slot) (m .blocks .places)) ≡ false))
       go (inl h) = inl (omega arith)
       go (inr q) =
           less-by s (suc (m .turn .slot)) inl (λ l.
           let u = q .0 in
           let e = beside m S w s l u in
-          inr (omega arith, empty-same (m .counts .replicas) s _ (m .blocks .places) e ∙ q .1))
+          inr (omega arith, empty-same (m .group .replicas) s _ (m .blocks .places) e ∙ q .1))
 
   come-worked : HasCome s (step m work .memory)
   unfolding passNext commitWriteset
   come-worked = work-by (λ (o : Outcome). HasCome s (o .memory)) m
       (λ e k. turned (passNext m .memory) (working m S e) (bumps m S .slot) refl refl)
-      (λ e k. by (working m S e) (eqb (getD (blockAtTurn m) 1 0) (m .counts .own)) (isLast m))
+      (λ e k. by (working m S e) (eqb (getD (blockAtTurn m) 1 0) (m .group .own)) (isLast m))
       (λ e. C)
     where
       by : Working m → (mine last : Bool) → HasCome s (committed m mine mine last (writesetAt (blockAtTurn m) (m .counts .done)))
@@ -88,17 +87,17 @@ module _ {over : ℕ} (m : Memory) (S : Shape over m) (s : ℕ) (C : HasCome s m
       by w false false = C
 
   pub come-each : (c : Call) → HasCome s (step m c .memory)
-  come-each begin = let f = frames .begins m in kept s m (step m begin .memory) (f .kept .turn) (ap (λ (x : Counts). x .replicas) (f .counts)) (f .kept .blocks) C
+  come-each begin = let f = frames .begins m in kept s m (step m begin .memory) (f .kept .turn) (f .kept .group) (f .kept .blocks) C
   come-each (read t i) = let f = frames .reads m t i in rw f C
-  come-each (write t i v) = let f = frames .writes m t i v in kept s m (step m (write t i v) .memory) (f .kept .turn) (ap (λ (x : Counts). x .replicas) (f .counts)) (f .kept .blocks) C
-  come-each (ask t) = let f = frames .asks m t in kept s m (step m (ask t) .memory) (f .kept .turn) (ap (λ (x : Counts). x .replicas) (f .counts)) (f .kept .blocks) C
-  come-each (withdraw t) = let f = frames .withdraws m t in kept s m (step m (withdraw t) .memory) (f .kept .turn) (ap (λ (x : Counts). x .replicas) (f .counts)) (f .kept .blocks) C
+  come-each (write t i v) = let f = frames .writes m t i v in kept s m (step m (write t i v) .memory) (f .kept .turn) (f .kept .group) (f .kept .blocks) C
+  come-each (ask t) = let f = frames .asks m t in kept s m (step m (ask t) .memory) (f .kept .turn) (f .kept .group) (f .kept .blocks) C
+  come-each (withdraw t) = let f = frames .withdraws m t in kept s m (step m (withdraw t) .memory) (f .kept .turn) (f .kept .group) (f .kept .blocks) C
   come-each report = let f = frames .reports m in rw f C
   come-each (send b) = send-by (λ (o : Outcome). HasCome s (o .memory)) m b (λ e. come-sent) (λ k e d. C)
   come-each (deliver b) = deliver-by (λ (o : Outcome). HasCome s (o .memory)) m b (λ e. come-delivered b (deliver-passed m b e)) (λ e. C)
   come-each work = come-worked
   come-each (load l) = let f = frames .loads m l in
-      kept s m (step m (load l) .memory) (ap (λ (x : Memory). x .turn) f) (ap (λ (x : Memory). x .counts .replicas) f) (ap (λ (x : Memory). x .blocks) f) C
+      kept s m (step m (load l) .memory) (ap (λ (x : Memory). x .turn) f) (ap (λ (x : Memory). x .group) f) (ap (λ (x : Memory). x .blocks) f) C
 
 -- ---- a block given
 
@@ -111,8 +110,8 @@ bytes-same (x ∷ xs) = joined (eq-eqb x x refl) (bytes-same xs)
 -- it is good, of this group, not ahead of the window, and the one sent where it is the replica's own and the turn has not passed its slot
 pub record Givable (m : Memory) (b : List ℕ) : Type 0 where
   pub taken : blockRefusal b ≡ 0
-  pub replicas : headerOf b .replicas ≡ m .counts .replicas
-  pub high : headerOf b .slot < m .turn .slot + m .counts .replicas
+  pub replicas : headerOf b .replicas ≡ m .group .replicas
+  pub high : headerOf b .slot < m .turn .slot + m .group .replicas
   pub ours : slotPast m b ≡ false → notSentHere m b ≡ false
 
 module _ {over : ℕ} (m : Memory) (S : Shape over m) (b : List ℕ) (G : Givable m b) where
@@ -120,7 +119,7 @@ module _ {over : ℕ} (m : Memory) (S : Shape over m) (b : List ℕ) (G : Givabl
   unfolding deliverNow
   here k = inr (
     G .high,
-    empty-block (m .counts .replicas) (headerOf b .slot) _ ∙ ap (λ (x : List ℕ). eqb (getD x 0 0) 0) (delivered.same m b S k)
+    empty-block (m .group .replicas) (headerOf b .slot) _ ∙ ap (λ (x : List ℕ). eqb (getD x 0 0) 0) (delivered.same m b S k)
         ∙ ne-eqb (getD b 0 0) 0 (λ z. let t = taken-block b (G .taken) in omega (arith, t .kind (λ y. omega arith))),
   )
 
@@ -131,7 +130,7 @@ module _ {over : ℕ} (m : Memory) (S : Shape over m) (b : List ℕ) (G : Givabl
   unfolding deliverRefusal firstOf
   none-refused p t =
       let k = is-taken b (G .taken) in
-      let g : otherGroup m b ≡ false = rw (eq-eqb (headerOf b .replicas) (m .counts .replicas) (G .replicas)) in
+      let g : otherGroup m b ≡ false = rw (eq-eqb (headerOf b .replicas) (m .group .replicas) (G .replicas)) in
       let h : slotAhead m b ≡ false = lt-leb _ _ (G .high) in
       rw (lent, k .checks, k .forms, g, p, h, G .ours p, t) refl
 
@@ -140,7 +139,7 @@ module _ {over : ℕ} (m : Memory) (S : Shape over m) (b : List ℕ) (G : Givabl
   unfolding deliverRefusal firstOf
   given-number =
       let k = is-taken b (G .taken) in
-      let g : otherGroup m b ≡ false = rw (eq-eqb (headerOf b .replicas) (m .counts .replicas) (G .replicas)) in
+      let g : otherGroup m b ≡ false = rw (eq-eqb (headerOf b .replicas) (m .group .replicas) (G .replicas)) in
       let h : slotAhead m b ≡ false = lt-leb _ _ (G .high) in
       bool-by (slotPast m b)
       (λ p. inr (inl (rw (lent, k .checks, k .forms, g, p) refl)))
@@ -164,13 +163,13 @@ module _ {over : ℕ} (m : Memory) (S : Shape over m) where
       joined (eq-eqb _ _ (S .lengths .places)) (joined (eq-eqb _ _ (S .lengths .items)) (joined (eq-eqb _ _ (S .lengths .queue)) (joined (eq-eqb _ _ (S .lengths .values)) (eq-eqb _ _ (S .lengths .stamps))))) in
       rw (l, w) refl
 
-  can-send : (b : List ℕ) → length b ≡ 512 → m .turn .slot < maxSlots → ownerOf (m .counts .replicas) (m .turn .slot) ≡ m .counts .own → sentAlready m ≡ false → sendRefusal m b ≡ 0
+  can-send : (b : List ℕ) → length b ≡ 512 → m .turn .slot < maxSlots → ownerOf (m .group .replicas) (m .turn .slot) ≡ m .group .own → sentAlready m ≡ false → sendRefusal m b ≡ 0
   unfolding sendRefusal firstOf
   can-send b h t o u =
       let l : sendLent m b ≡ true =
       joined (joined (eq-eqb _ _ (S .lengths .items)) (eq-eqb _ _ (S .lengths .writes))) (joined (eq-eqb _ _ (S .lengths .queue)) (joined (eq-eqb _ _ (S .lengths .outbox)) (eq-eqb _ _ h))) in
       let e : slotsSpent m ≡ false = lt-leb _ _ t in
-      let f : othersTurn m ≡ false = rw (eq-eqb (ownerOf (m .counts .replicas) (m .turn .slot)) (m .counts .own) o) in
+      let f : othersTurn m ≡ false = rw (eq-eqb (ownerOf (m .group .replicas) (m .turn .slot)) (m .group .own) o) in
       rw (l, e, f, u) refl
 
   pub works : nothingWaits m ≡ false → numberOf (step m work .answer) ≡ 0
@@ -178,15 +177,15 @@ module _ {over : ℕ} (m : Memory) (S : Shape over m) where
   works w = refusals .number m work ∙ can-work w
 
   -- who owns a slot has a number
-  owns-numbered : ownerOf (m .counts .replicas) (m .turn .slot) ≡ m .counts .own → isStation m ≡ false
+  owns-numbered : ownerOf (m .group .replicas) (m .turn .slot) ≡ m .group .own → isStation m ≡ false
   unfolding ownerOf
   owns-numbered o =
       let a = S .ranges .least in
       let b = S .ranges .most in
-      let c = mod-lt (m .turn .slot) {m = m .counts .replicas} (omega arith) in
-      ne-eqb (m .counts .own) 255 (λ z. omega arith)
+      let c = mod-lt (m .turn .slot) {m = m .group .replicas} (omega arith) in
+      ne-eqb (m .group .own) 255 (λ z. omega arith)
 
-  pub sends : (b : List ℕ) → length b ≡ 512 → m .turn .slot < maxSlots → ownerOf (m .counts .replicas) (m .turn .slot) ≡ m .counts .own → sentAlready m ≡ false
+  pub sends : (b : List ℕ) → length b ≡ 512 → m .turn .slot < maxSlots → ownerOf (m .group .replicas) (m .turn .slot) ≡ m .group .own → sentAlready m ≡ false
       → numberOf (step m (send b) .answer) ≡ 0
   unfolding refusalOf
   sends b h t o u = refusals .number m (send b) ∙ rw (owns-numbered o) (can-send b h t o u)

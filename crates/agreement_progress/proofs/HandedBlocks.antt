@@ -65,7 +65,7 @@ one-more n k B x N b m = go (List·Memᴰ·append-cases B m)
     go (inl q) = inl q
     go (inr q) = inr (last (List·Memᴰ·cases-cons q))
 
-module _ (n k : ℕ) (m : Memory) (B : List (List ℕ)) (s : Sound n m) (own : m .counts .own ≡ k) (L : SentLast k m B)
+module _ (n k : ℕ) (m : Memory) (B : List (List ℕ)) (s : Sound n m) (own : m .group .own ≡ k) (L : SentLast k m B)
     (marked : (b : List ℕ) → Mem b B → headerOf b .sender ≡ k → headerOf b .slot ≡ m .turn .slot → sentAlready m ≡ true) where
   -- nothing is handed out, and turn and block sent are as they were
   quiet : (o : Outcome) → blocksAfter B (o .answer) ≡ B → SentLast k (o .memory) B → Hands n k B o
@@ -116,7 +116,7 @@ module _ (n k : ℕ) (m : Memory) (B : List (List ℕ)) (s : Sound n m) (own : m
   hands-call (deliver b) = deliver-by (Hands n k B) m b (λ e. quiet _ refl L) (λ e. quiet _ refl L)
   hands-call work = work-by (Hands n k B) m
       (λ e q. quiet (passNext m) refl (λ t. clash {b = false} t refl))
-      (λ e q. quiet _ refl (worked-last (eqb (getD (blockAtTurn m) 1 0) (m .counts .own)) (isLast m) (writesetAt (blockAtTurn m) (m .counts .done))))
+      (λ e q. quiet _ refl (worked-last (eqb (getD (blockAtTurn m) 1 0) (m .group .own)) (isLast m) (writesetAt (blockAtTurn m) (m .counts .done))))
       (λ e. quiet _ refl L)
   hands-call (load l) = load-by (Hands n k B) m l (λ e. quiet _ refl L) (λ e. quiet _ refl L)
 

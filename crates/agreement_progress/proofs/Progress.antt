@@ -80,10 +80,10 @@ module _ (n : ℕ) (start : List ℤ) (least : 2 ≤ n) (most : n ≤ 6) (long :
     held : (k : ℕ) → k < n → FilledAt n start least most long k (mem cs k) (at cs .disks k .journal)
     held = filled-after n start least most long cs f
 
-    size-at : (k : ℕ) → k < n → mem cs k .counts .replicas ≡ n
+    size-at : (k : ℕ) → k < n → mem cs k .group .replicas ≡ n
     size-at k h = held k h .sound .sound .size
 
-    own-at : (k : ℕ) → k < n → mem cs k .counts .own ≡ k
+    own-at : (k : ℕ) → k < n → mem cs k .group .own ≡ k
     own-at k h = own-is n start least most long (owes n start) k (mem cs k) (stood k) h
 
     reach : (k : ℕ) → mem cs k .turn .slot ≤ length (D cs)
@@ -173,7 +173,7 @@ module _ (n : ℕ) (start : List ℤ) (least : 2 ≤ n) (most : n ≤ 6) (long :
   none-from b G e = let a = owner-of b G in let l = mod-lt (headerOf b .slot) {m = n} (omega arith) in omega arith
 
   -- a station's call; it has no restart
-  station-hands : (B : List (List ℕ)) → ((b : List ℕ) → Mem b B → GoodBlock n b) → (k : ℕ) (m : Memory) → Sound n m → n ≤ k → m .counts .own ≡ noNumber → (d : GroupCall) → MayBeAt n k d
+  station-hands : (B : List (List ℕ)) → ((b : List ℕ) → Mem b B → GoodBlock n b) → (k : ℕ) (m : Memory) → Sound n m → n ≤ k → m .group .own ≡ noNumber → (d : GroupCall) → MayBeAt n k d
       → Hands n noNumber B (performed n start k m d)
   station-hands B good k m s above e (call d) h =
       hands n noNumber m B s e (λ t b q o z. absurd (none-from b (good b q) o)) (λ b q o z. absurd (none-from b (good b q) o)) start (call d)
@@ -212,8 +212,8 @@ module _ (n : ℕ) (start : List ℤ) (least : 2 ≤ n) (most : n ≤ 6) (long :
 
     -- an own block that the turn has not passed is the one sent for it
     ours : slotPast (mem cs k) b ≡ false → notSentHere (mem cs k) b ≡ false
-    ours u = bool-by (eqb (headerOf b .sender) (mem cs k .counts .own))
-        (λ e. let o : headerOf b .sender ≡ k = eqb-true (headerOf b .sender) (mem cs k .counts .own) e ∙ own-at cs f p k h in
+    ours u = bool-by (eqb (headerOf b .sender) (mem cs k .group .own))
+        (λ e. let o : headerOf b .sender ≡ k = eqb-true (headerOf b .sender) (mem cs k .group .own) e ∙ own-at cs f p k h in
         let w : ownerOf n (headerOf b .slot) ≡ k = sym (owner-of b good) ∙ o in
         let l = known cs f p b m in
         let a = past cs f p k (headerOf b .slot) l w in
@@ -313,7 +313,7 @@ module _ (n : ℕ) (start : List ℤ) (least : 2 ≤ n) (most : n ≤ 6) (long :
     where
       waits : (b : List ℕ) → headerOf b .slot ≡ now k .turn .slot → HasCome (headerOf b .slot) (now k) → nothingWaits (now k) ≡ false
       waits b e (inl q) = absurd (let z : ⊥ = omega arith in z)
-      waits b e (inr w) = subst (λ (s : ℕ). isEmpty (now k .counts .replicas) s (now k .blocks .places) ≡ false) e (w .1)
+      waits b e (inr w) = subst (λ (s : ℕ). isEmpty (now k .group .replicas) s (now k .blocks .places) ≡ false) e (w .1)
 
   -- every turn is the first slot that nobody has handed out
   level : (t : ℕ) → ((k : ℕ) → k < n → now k .turn .slot ≡ t) → length down ≤ t → t < maxSlots → Goes
@@ -323,7 +323,7 @@ module _ (n : ℕ) (start : List ℤ) (least : 2 ≤ n) (most : n ≤ 6) (long :
       let u : t % n < n = mod-lt t {m = n} (omega arith) in
       let e = all (t % n) u in
       let R = held n start least most long cs f p (t % n) u in
-      let o : ownerOf (now (t % n) .counts .replicas) (now (t % n) .turn .slot) ≡ now (t % n) .counts .own = rw (R .sound .sound .size, e, own-at n start least most long cs f p (t % n) u) in
+      let o : ownerOf (now (t % n) .group .replicas) (now (t % n) .turn .slot) ≡ now (t % n) .group .own = rw (R .sound .sound .size, e, own-at n start least most long cs f p (t % n) u) in
       let s : sentAlready (now (t % n)) ≡ false = not-so (sentAlready (now (t % n))) (λ q. let z = sent-known n start least most long cs f p (t % n) u q in omega arith) in
       (t % n, u, inl (λ lent z. sends (now (t % n)) (R .sound .sound .shape) lent z (omega arith) o s))
 

@@ -58,13 +58,17 @@ unfoldable pub ticketsDiffer : List Record → Bool
 ticketsDiffer [] = true
 ticketsDiffer (r ∷ rs) = ticketAbsent (r .ticket) rs && ticketsDiffer rs
 
+-- the sender is the slot's owner
+abbrev pub fromOwner : Message → Bool
+fromOwner m = eqb (m .sender) (ownerOf (m .replicas) (m .slot))
+
 -- all that document 01 asks of a block's fields
 unfoldable pub valid : Message → Bool
 valid m =
     kindFits (m .kind) (length (m .records))
     && (within 2 6 (m .replicas)
     && (leb (m .slot) maxSlot
-    && (eqb (m .sender) (ownerOf (m .replicas) (m .slot))
+    && (fromOwner m
     && (recordsFit (m .records) && ticketsDiffer (m .records)))))
 
 -- each value is a signed 32-bit number; of four bytes it always is

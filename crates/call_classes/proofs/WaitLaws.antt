@@ -35,10 +35,10 @@ module _ (m : Memory) (item : ℕ) where
   unfolding mustWait
   wait-off h = rw h refl
 
-  pub wait-short : length (m .blocks .places) < placeStart (m .counts .replicas) (m .turn .slot) + 512 → false ≡ mustWait m item
+  pub wait-short : length (m .blocks .places) < placeStart (m .group .replicas) (m .turn .slot) + 512 → false ≡ mustWait m item
   unfolding mustWait classToCome
   wait-short h =
-      let p = placeStart (m .counts .replicas) (m .turn .slot) in
+      let p = placeStart (m .group .replicas) (m .turn .slot) in
       let a = length-take (p + 512) (m .blocks .places) in
       let b = length-drop p (take (p + 512) (m .blocks .places)) in
       and-none (isApplying m) (ltb 1 (getD (blockAtTurn m) 0 0)) _

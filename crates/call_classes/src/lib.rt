@@ -11,10 +11,11 @@ ghost use Rattle.call_reply.specs.Parts.{loadParts};
 ghost use Rattle.call_reply.specs.Replies.{Gives, number};
 use block_reader::entry_at;
 use call_commit::entry_count;
-use call_reply::blocks::byte_at;
-use call_reply::blocks::copy_bytes;
 use memory::Counts;
+use memory::Group;
 use memory::Turn;
+use memory::bytes::byte_at;
+use memory::bytes::copy_bytes;
 use memory::cursor::place_start;
 
 // Whether record j has an item of the class.
@@ -53,14 +54,21 @@ fn class_from(classes: &[u8], class: u8, block: &[u8], from: usize) -> bool
 }
 
 // Whether a write of the item must wait. The classes are looked at only while the applying mark is on.
-pub fn must_wait(turn: Turn, counts: Counts, classes: &[u8], places: &[u8], item: u32) -> bool
-    ensures { λ r. ⌜ ((m : Memory) → m .turn ≡ turn → m .counts ≡ counts → m .store .classes ≡ now (classes .entry) → m .blocks .places ≡ now (places .entry) →
+pub fn must_wait(
+    group: Group,
+    turn: Turn,
+    counts: Counts,
+    classes: &[u8],
+    places: &[u8],
+    item: u32,
+) -> bool
+    ensures { λ r. ⌜ ((m : Memory) → m .group ≡ group → m .turn ≡ turn → m .counts ≡ counts → m .store .classes ≡ now (classes .entry) → m .blocks .places ≡ now (places .entry) →
         r ≡ mustWait m item) ⌝ }
 {
     if turn.applying == 0 {
         return false;
     }
-    let at = place_start(counts.replicas, turn.slot);
+    let at = place_start(group, turn.slot);
     let end = at + 512;
     if places.len() < end {
         return false;

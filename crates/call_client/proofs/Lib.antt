@@ -2,5 +2,4 @@
 pub mod BeginLaws
 pub mod ReadLaws
 pub mod AskLaws
-pub mod RowLaws
 pub mod Tables

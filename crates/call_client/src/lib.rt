@@ -26,13 +26,11 @@ use memory::Turn;
 use memory::Txn;
 use memory::rows::bump;
 use memory::rows::copy_values;
+use memory::rows::free;
 use memory::rows::index_of;
 use memory::rows::open_count;
 use memory::rows::queue_end;
 use memory::rows::write_count;
-use rows::free;
-
-pub mod rows;
 
 fn not_begun(number: u8, t: Txn, counts: Counts) -> Begun
     ensures { λ r. ⌜ r ≡ record { reply = record { number = number; ticket = 0 }; counts = counts; row = t } ⌝ }

@@ -16,7 +16,7 @@ use Rattle.block.specs.declared.Read.the-variants as read
 use Rattle.block.specs.Answers.{Refusal, refuse, firstOf, blockRefusal, headerOf, noHeader, blockRead, numberAndHeader}
 use Rattle.block.proofs.AnswerLaws.{is-taken}
 use Rattle.block.proofs.BoolLaws.{both}
-use Rattle.memory.specs.declared.Counts.{Counts}
+use Rattle.memory.specs.declared.Group.{Group}
 use Rattle.memory.specs.declared.Turn.{Turn}
 use Rattle.memory.specs.Memory.{Memory, withBlocks}
 use Rattle.memory.specs.Turns.{isOn, placeStart}
@@ -126,58 +126,58 @@ module _ (m : Memory) (bytes : List ℕ) where
       -- what is left to test, from the header
       past : deliverRefusal m bytes
           ≡ firstOf
-          (refuse 16 (not (eqb (h .replicas) (m .counts .replicas)))
+          (refuse 16 (not (eqb (h .replicas) (m .group .replicas)))
           ∷ refuse 17 (ltb (h .slot) (m .turn .slot))
-          ∷ refuse 18 (leb (m .turn .slot + m .counts .replicas) (h .slot))
-          ∷ refuse 19 (eqb (h .sender) (m .counts .own) && not (isOn (m .turn .sent) && sameBytes bytes (m .blocks .outbox)))
-          ∷ refuse 20 (not (eqb (getD (m .blocks .places) (placeStart (m .counts .replicas) (h .slot)) 0) 0))
+          ∷ refuse 18 (leb (m .turn .slot + m .group .replicas) (h .slot))
+          ∷ refuse 19 (eqb (h .sender) (m .group .own) && not (isOn (m .turn .sent) && sameBytes bytes (m .blocks .outbox)))
+          ∷ refuse 20 (not (eqb (getD (m .blocks .places) (placeStart (m .group .replicas) (h .slot)) 0) 0))
           ∷ [])
       unfolding deliverRefusal firstOf
       past = let t = is-taken bytes taken in rw (long, t .checks, t .forms, head)
 
-      pub refused-group : (h .replicas ≡ m .counts .replicas → ⊥) → 16 ≡ deliverRefusal m bytes
+      pub refused-group : (h .replicas ≡ m .group .replicas → ⊥) → 16 ≡ deliverRefusal m bytes
       unfolding firstOf
-      refused-group d = rw (past, ne-eqb (h .replicas) (m .counts .replicas) d)
+      refused-group d = rw (past, ne-eqb (h .replicas) (m .group .replicas) d)
 
-      module _ (group : h .replicas ≡ m .counts .replicas) where
+      module _ (group : h .replicas ≡ m .group .replicas) where
         pub refused-past : h .slot < m .turn .slot → 17 ≡ deliverRefusal m bytes
         unfolding firstOf
-        refused-past l = rw (past, eq-eqb (h .replicas) (m .counts .replicas) group, lt-ltb (h .slot) (m .turn .slot) l)
+        refused-past l = rw (past, eq-eqb (h .replicas) (m .group .replicas) group, lt-ltb (h .slot) (m .turn .slot) l)
 
         module _ (low : m .turn .slot ≤ h .slot) where
-          pub refused-ahead : m .counts .replicas ≤ h .slot - m .turn .slot → 18 ≡ deliverRefusal m bytes
+          pub refused-ahead : m .group .replicas ≤ h .slot - m .turn .slot → 18 ≡ deliverRefusal m bytes
           unfolding firstOf
           refused-ahead l =
               rw (
                 past,
-                eq-eqb (h .replicas) (m .counts .replicas) group,
+                eq-eqb (h .replicas) (m .group .replicas) group,
                 le-ltb (h .slot) (m .turn .slot) low,
-                le-leb (m .turn .slot + m .counts .replicas) (h .slot) (omega arith),
+                le-leb (m .turn .slot + m .group .replicas) (h .slot) (omega arith),
               )
 
-          module _ (high : h .slot - m .turn .slot < m .counts .replicas) (own : Bool)
-              (foreign : own ≡ eqb (h .sender) (m .counts .own) && not (isOn (m .turn .sent) && sameBytes bytes (m .blocks .outbox))) where
+          module _ (high : h .slot - m .turn .slot < m .group .replicas) (own : Bool)
+              (foreign : own ≡ eqb (h .sender) (m .group .own) && not (isOn (m .turn .sent) && sameBytes bytes (m .blocks .outbox))) where
             pub refused-own : own ≡ true → 19 ≡ deliverRefusal m bytes
             unfolding firstOf
             refused-own e =
                 rw (
                   past,
-                  eq-eqb (h .replicas) (m .counts .replicas) group,
+                  eq-eqb (h .replicas) (m .group .replicas) group,
                   le-ltb (h .slot) (m .turn .slot) low,
-                  lt-leb (m .turn .slot + m .counts .replicas) (h .slot) (omega arith),
+                  lt-leb (m .turn .slot + m .group .replicas) (h .slot) (omega arith),
                   ← foreign,
                   e,
                 )
 
-            module _ (here : own ≡ false) (at : ℕ) (place : at ≡ placeStart (m .counts .replicas) (h .slot)) where
+            module _ (here : own ≡ false) (at : ℕ) (place : at ≡ placeStart (m .group .replicas) (h .slot)) where
               last : deliverRefusal m bytes ≡ firstOf (refuse 20 (not (eqb (getD (m .blocks .places) at 0) 0)) ∷ [])
               unfolding firstOf
               last =
                   rw (
                     past,
-                    eq-eqb (h .replicas) (m .counts .replicas) group,
+                    eq-eqb (h .replicas) (m .group .replicas) group,
                     le-ltb (h .slot) (m .turn .slot) low,
-                    lt-leb (m .turn .slot + m .counts .replicas) (h .slot) (omega arith),
+                    lt-leb (m .turn .slot + m .group .replicas) (h .slot) (omega arith),
                     ← foreign,
                     here,
                     ← place,
@@ -200,10 +200,10 @@ place-in n slot places outbox bytes long some at e =
     omega (arith, place-fits n slot some, lengths-long n places outbox bytes long .places)
 
 -- a group whose block is not refused has replicas
-pub group-some : (turn : Turn) (counts : Counts) (places outbox bytes : List ℕ) (n : ℕ)
-    → ((m : Memory) → n ≡ deliverRefusal (deliverParts m turn counts places outbox) bytes) → n ≡ 0 → 0 < counts .replicas
-group-some turn counts places outbox bytes n f z =
-    let m = deliverParts (madeMemory 0 0 []) turn counts places outbox in
+pub group-some : (group : Group) (turn : Turn) (places outbox bytes : List ℕ) (n : ℕ)
+    → ((m : Memory) → n ≡ deliverRefusal (deliverParts m group turn places outbox) bytes) → n ≡ 0 → 0 < group .replicas
+group-some group turn places outbox bytes n f z =
+    let m = deliverParts (madeMemory 0 0 []) group turn places outbox in
     let k = deliver-passed m bytes (sym (f (madeMemory 0 0 [])) ∙ z) in
     omega (arith, k .low, k .high)
 
@@ -218,7 +218,7 @@ put-paste at places bytes h =
     rw (e, drop-drop 512 at places, take-all 512 bytes (omega arith)) (sym (append-assoc (take at places) bytes (drop (at + 512) places)))
 
 pub deliver-kept : (m : Memory) (bytes : List ℕ) (n : ℕ) → n ≡ deliverRefusal m bytes → n ≡ 0 → (h : Header) → h ≡ headerOf bytes
-    → (at : ℕ) → at ≡ placeStart (m .counts .replicas) (h .slot) → (ys : List ℕ) → ys ≡ bytes
+    → (at : ℕ) → at ≡ placeStart (m .group .replicas) (h .slot) → (ys : List ℕ) → ys ≡ bytes
     → outcome kept (withBlocks m (record { places = putMid at (at + 512 - at) (m .blocks .places) ys; outbox = m .blocks .outbox })) ≡ deliverStep m bytes
 unfolding deliverStep deliverNow
 deliver-kept m bytes n e z h head at place ys q =

@@ -4,7 +4,7 @@ ghost use mathlib.Core.Bool.{true, _&&_, not};
 ghost use lib.Dec.{eqb};
 ghost use lib.ListN.{length};
 ghost use Rattle.block.specs.Answers.{headerOf, blockRefusal};
-ghost use Rattle.memory.specs.Memory.{Memory};
+ghost use Rattle.memory.specs.Memory.{Memory, span};
 ghost use Rattle.memory.specs.Turns.{isOn};
 ghost use Rattle.engine.specs.Moves.{sameBytes, deliverRefusal, deliverStep};
 ghost use Rattle.call_reply.specs.Parts.{deliverParts};
@@ -13,9 +13,9 @@ ghost use Rattle.call_deliver.specs.Lengths.{lengthsFit};
 use block::Header;
 use block::Read;
 use block_reader::read_block;
-use call_reply::blocks::copy_bytes;
-use memory::Counts;
+use memory::Group;
 use memory::Turn;
+use memory::bytes::copy_bytes;
 use memory::cursor::place_start;
 
 // The lengths of N places of 512 bytes, of the block sent last and of the block that arrives.
@@ -63,32 +63,32 @@ fn not_sent_here(turn: Turn, own: u8, sender: u8, outbox: &[u8], bytes: &[u8]) -
 
 // Why a block that was read is refused, 0 where it is not. The slot is compared by its distance from the turn, since turn + N may not fit.
 fn refusal(
+    group: Group,
     turn: Turn,
-    counts: Counts,
     header: Header,
     places: &[u8],
     outbox: &[u8],
     bytes: &[u8],
 ) -> u8
-    requires { ⌜ (lengthsFit (counts .replicas) (length (now places)) (length (now outbox)) (length (now bytes)) ≡ true)
+    requires { ⌜ (lengthsFit (span group) (length (now places)) (length (now outbox)) (length (now bytes)) ≡ true)
         × (blockRefusal (now bytes) ≡ 0)
         × (header ≡ headerOf (now bytes)) ⌝ }
     ensures { λ r. ⌜ ((m : Memory) →
-        r ≡ deliverRefusal (deliverParts m turn counts (now (places .entry)) (now (outbox .entry))) (now (bytes .entry))) ⌝ }
+        r ≡ deliverRefusal (deliverParts m group turn (now (places .entry)) (now (outbox .entry))) (now (bytes .entry))) ⌝ }
 {
-    if header.replicas != counts.replicas {
+    if header.replicas != group.replicas {
         return 16;
     }
     if header.slot < turn.slot {
         return 17;
     }
-    if counts.replicas as u32 <= header.slot - turn.slot {
+    if group.replicas as u32 <= header.slot - turn.slot {
         return 18;
     }
-    if not_sent_here(turn, counts.own, header.sender, outbox, bytes) {
+    if not_sent_here(turn, group.own, header.sender, outbox, bytes) {
         return 19;
     }
-    let first = place_start(counts.replicas, header.slot);
+    let first = place_start(group, header.slot);
     if places[first] != 0 {
         return 20;
     }
@@ -96,25 +96,25 @@ fn refusal(
 }
 
 // Keeps an accepted block in the place of its slot.
-pub fn deliver(turn: Turn, counts: Counts, places: &mut [u8], outbox: &[u8], bytes: &[u8]) -> u8
+pub fn deliver(group: Group, turn: Turn, places: &mut [u8], outbox: &[u8], bytes: &[u8]) -> u8
     ensures { λ r. ⌜ ((m : Memory) →
         Gives number
-        (deliverStep (deliverParts m turn counts (now (places .entry)) (now (outbox .entry))) (now (bytes .entry)))
+        (deliverStep (deliverParts m group turn (now (places .entry)) (now (outbox .entry))) (now (bytes .entry)))
         r
-        (deliverParts m turn counts (now (places .exit)) (now (outbox .entry)))) ⌝ }
+        (deliverParts m group turn (now (places .exit)) (now (outbox .entry)))) ⌝ }
 {
-    if !lengths_fit(counts.replicas, places.len(), outbox.len(), bytes.len()) {
+    if !lengths_fit(group.replicas, places.len(), outbox.len(), bytes.len()) {
         return 1;
     }
     let read = read_block(bytes);
     let Read::Message(header) = read else {
         return read.number();
     };
-    let number = refusal(turn, counts, header, &*places, outbox, bytes);
+    let number = refusal(group, turn, header, &*places, outbox, bytes);
     if number != 0 {
         return number;
     }
-    let at = place_start(counts.replicas, header.slot);
+    let at = place_start(group, header.slot);
     copy_bytes(bytes, &mut places[at..at + 512]);
     0
 }

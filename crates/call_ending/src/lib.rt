@@ -13,10 +13,10 @@ use block_reader::record_at;
 use call_commit::abort_rows;
 use call_commit::apply;
 use call_commit::queue_without;
-use call_reply::blocks::byte_at;
 use memory::Counts;
 use memory::Turn;
 use memory::Txn;
+use memory::bytes::byte_at;
 use memory::rows::bump;
 use memory::rows::row_of;
 
@@ -99,13 +99,10 @@ fn end_other(
     let mut after = counts;
     after.commits = bump(counts.commits);
     after.aborted = add(counts.aborted, n as u32);
+    let applying = turn.mark_applying();
     Ended {
         ticket: ticket,
-        turn: Turn {
-            slot: turn.slot,
-            sent: turn.sent,
-            applying: 1,
-        },
+        turn: applying,
         counts: after,
         marks: marks,
         aborted: tickets,
@@ -135,9 +132,10 @@ fn end_transactions(
     end_other(ticket, rows, turn, counts, &mut *queue, items, block, j)
 }
 
-// The writeset that is next in the block: what it ends, and its values and stamps.
+// The writeset that is next in the block: what it ends at the replica with this number, and its values and stamps.
 pub fn end_writeset(
     rows: [Txn; 6],
+    own: u8,
     turn: Turn,
     counts: Counts,
     queue: &mut [u32],
@@ -146,7 +144,7 @@ pub fn end_writeset(
     stamps: &mut [u32],
     block: &[u8],
 ) -> Ended
-    ensures { λ r. ⌜ (let mine = eqb (getD (now (block .entry)) 1 0) (counts .own) in
+    ensures { λ r. ⌜ (let mine = eqb (getD (now (block .entry)) 1 0) own in
         let w = writesetAt (now (block .entry)) (counts .done) in
         (r ≡ endedOf mine w turn counts rows (now (items .entry)))
         × (now (queue .exit) ≡ queueLeft mine w rows (now (items .entry)) (now (queue .entry)))
@@ -155,7 +153,7 @@ pub fn end_writeset(
 {
     let j = counts.done as usize;
     let sender = byte_at(block, 1);
-    let mine = sender == counts.own;
+    let mine = sender == own;
     let ticket = record_at(block, j).ticket;
     let ended = end_transactions(
         mine,

@@ -13,14 +13,15 @@ use Rattle.block.specs.Answers.{firstOf}
 use Rattle.block.specs.Message.{within}
 use Rattle.block.proofs.BoolLaws.{both}
 use Rattle.memory.specs.declared.Counts.{Counts}
+use Rattle.memory.specs.declared.Group.{Group}
 use Rattle.memory.specs.declared.Turn.{Turn}
 use Rattle.memory.specs.declared.Txn.{Txn}
-use Rattle.memory.specs.Memory.{Memory}
+use Rattle.memory.specs.Memory.{Memory, groupOf}
 use Rattle.memory.specs.Rows.{closed}
 use Rattle.engine.proofs.Tests.{passes}
 use Rattle.engine.specs.Calls.{outcome}
 use Rattle.engine.specs.Calls.Answer.{refused, made}
-use Rattle.engine.specs.Make.{turnZero, countsFor, madeMemory, placesFit, slicesFit, partsFit, makeRefusal, makeStep}
+use Rattle.engine.specs.Make.{turnZero, countsZero, madeMemory, placesFit, slicesFit, partsFit, makeRefusal, makeStep}
 use Rattle.call_reply.specs.Parts.{allParts}
 use Rattle.call_make.specs.Made.{ifMade}
 
@@ -60,9 +61,9 @@ paste-whole d l h k = rw (k, h, take-all 128 l (omega arith), drop-of-length-le 
 
 made-is : (n own : ℕ) (values : List ℤ) {q i : List ℕ} {w s v : List ℤ} {t k p o : List ℕ} → q ≡ replicate 6 0 → i ≡ replicate 48 0 → w ≡ replicate 48 (pos 0)
     → s ≡ replicate 768 (pos 0) → v ≡ values → t ≡ replicate 128 0 → k ≡ replicate 128 0 → p ≡ replicate (512 * n) 0 → o ≡ replicate 512 0
-    → allParts turnZero (countsFor n own) (replicate 6 closed) q i w s v t k p o ≡ madeMemory n own values
+    → allParts (groupOf n own) turnZero countsZero (replicate 6 closed) q i w s v t k p o ≡ madeMemory n own values
 unfolding madeMemory
-made-is n own values eq ei ew es ev et ek ep eo = λ z. allParts turnZero (countsFor n own) (replicate 6 closed) (eq z) (ei z) (ew z) (es z) (ev z) (et z) (ek z) (ep z) (eo z)
+made-is n own values eq ei ew es ev et ek ep eo = λ z. allParts (groupOf n own) turnZero countsZero (replicate 6 closed) (eq z) (ei z) (ew z) (es z) (ev z) (et z) (ek z) (ep z) (eo z)
 
 module _ (m : Memory) (n own : ℕ) (values : List ℤ) where
   pub make-start : (length values ≡ 128 → ⊥) → 1 ≡ makeRefusal m n own values
@@ -133,14 +134,14 @@ pub if-refused : {A : Type 0} (k : ℕ) (new old : A) → (k ≡ 0 → ⊥) → 
 if-refused k new old h = rw (ne-eqb k 0 h)
 
 module _ (m : Memory) (n own : ℕ) (values : List ℤ) (k : ℕ) (number : k ≡ makeRefusal m n own values) where
-  -- whatever turn, counts and table the number comes with
-  pub make-refused : (k ≡ 0 → ⊥) → (turn : Turn) (counts : Counts) (rows : List Txn)
+  -- whatever group, turn, counts and table the number comes with
+  pub make-refused : (k ≡ 0 → ⊥) → (group : Group) (turn : Turn) (counts : Counts) (rows : List Txn)
       → outcome (refused k)
-      (allParts (ifMade k turn (m .turn)) (ifMade k counts (m .counts)) (ifMade k rows (m .txns .table)) (m .txns .queue) (m .txns .items) (m .txns .writes) (m .txns .snapshots)
+      (allParts (ifMade k group (m .group)) (ifMade k turn (m .turn)) (ifMade k counts (m .counts)) (ifMade k rows (m .txns .table)) (m .txns .queue) (m .txns .items) (m .txns .writes) (m .txns .snapshots)
       (m .store .values) (m .store .stamps) (m .store .classes) (m .blocks .places) (m .blocks .outbox))
       ≡ makeStep m n own values
   unfolding makeStep
-  make-refused h turn counts rows = rw (← number, ne-eqb k 0 h)
+  make-refused h group turn counts rows = rw (← number, ne-eqb k 0 h)
 
   -- what the functions that clear and copy leave of the lent slices
   pub make-taken : k ≡ 0 → (q i : List ℕ) (w s v : List ℤ) (t x p o : List ℕ)
@@ -148,7 +149,7 @@ module _ (m : Memory) (n own : ℕ) (values : List ℤ) (k : ℕ) (number : k �
       → w ≡ replicate (length (m .txns .writes)) (pos 0) → s ≡ replicate (length (m .txns .snapshots)) (pos 0)
       → v ≡ paste (m .store .values) 0 values (min (length values) (length (m .store .values))) → t ≡ replicate (length (m .store .stamps)) 0 → x ≡ replicate (length (m .store .classes)) 0
       → p ≡ replicate (length (m .blocks .places)) 0 → o ≡ replicate (length (m .blocks .outbox)) 0
-      → outcome made (allParts turnZero (countsFor n own) (replicate 6 closed) q i w s v t x p o) ≡ makeStep m n own values
+      → outcome made (allParts (groupOf n own) turnZero countsZero (replicate 6 closed) q i w s v t x p o) ≡ makeStep m n own values
   unfolding makeStep
   make-taken h q i w s v t x p o eq ei ew es ev et ex ep eo =
       let g = given m n own values (sym number ∙ h) in

@@ -7,15 +7,14 @@ use lib.Dec.{eqb}
 use lib.IntN.{ℤ}
 use lib.ListN.{replicate}
 use borrow.Author.Tests.{eqb-true, eqb-false, eq-eqb, ne-eqb}
-use Rattle.memory.specs.declared.Counts.{Counts}
 use Rattle.memory.specs.declared.Turn.{Turn}
 use Rattle.memory.specs.declared.Txn.{Txn}
-use Rattle.memory.specs.Memory.{Memory, noNumber}
+use Rattle.memory.specs.Memory.{Memory, noNumber, groupOf}
 use Rattle.memory.specs.Rows.{closed}
 use Rattle.engine.proofs.Tests.{bool-by}
 use Rattle.engine.proofs.Refusals.{refusals}
 use Rattle.engine.proofs.Stations.{stations}
-use Rattle.engine.specs.Make.{turnZero, countsFor, madeMemory, makeRefusal, makeStep}
+use Rattle.engine.specs.Make.{turnZero, countsZero, madeMemory, makeRefusal, makeStep}
 use Rattle.engine.specs.Station.{stationRefusal, stationStep}
 use Rattle.call_reply.specs.declared.Made.{Made}
 use Rattle.call_reply.specs.Parts.{allParts}
@@ -28,14 +27,14 @@ made-memory m n values e = rw (eq-eqb (makeRefusal m n 0 values) 0 e)
 
 module _ (m : Memory) (n : ℕ) (values : List ℤ) (d : Made) (q i : List ℕ) (w s v : List ℤ) (t x p o : List ℕ) where
   abbrev left : Made → Memory
-  left r = allParts (ifMade (r .number) (r .turn) (m .turn)) (ifMade (r .number) (r .counts) (m .counts)) (ifMade (r .number) (replicate 6 closed) (m .txns .table)) q i w s v t x p o
+  left r = allParts (ifMade (r .number) (r .group) (m .group)) (ifMade (r .number) (r .turn) (m .turn)) (ifMade (r .number) (r .counts) (m .counts)) (ifMade (r .number) (replicate 6 closed) (m .txns .table)) q i w s v t x p o
 
   abbrev numberless : Made
-  numberless = ifMade (d .number) (record { number = 0; turn = turnZero; counts = countsFor (d .counts .replicas) noNumber }) d
+  numberless = ifMade (d .number) (record { number = 0; group = groupOf (d .group .replicas) noNumber; turn = turnZero; counts = countsZero }) d
 
   -- a memory of N replicas, all else as it is, with no number
   abbrev renumbered : Memory → Memory
-  renumbered x = record { turn = x .turn; counts = record { replicas = x .counts .replicas; own = noNumber; commits = x .counts .commits; done = x .counts .done; tickets = x .counts .tickets; committed = x .counts .committed; «read_only» = x .counts .«read_only»; aborted = x .counts .aborted; withdrawn = x .counts .withdrawn }; txns = x .txns; store = x .store; blocks = x .blocks }
+  renumbered x = record { group = groupOf (x .group .replicas) noNumber; turn = x .turn; counts = x .counts; txns = x .txns; store = x .store; blocks = x .blocks }
 
   module _ (gave : Gives number (makeStep m n 0 values) (d .number) (left d)) where
     -- its number is that of the refusal
@@ -50,21 +49,24 @@ module _ (m : Memory) (n : ℕ) (values : List ℤ) (d : Made) (q i : List ℕ) 
         rw (e, e)
         (station-number ∙ sym (stations .make-number m n values), g .1 ∙ refusals .make-unchanged m n 0 values (λ e. no (stations .make-refusal m n values ∙ e)) ∙ sym (stations .make-unchanged m n values no))
 
-    made-so : d .counts ≡ ifMade (d .number) (countsFor n 0) (countsFor 0 0) → d .turn ≡ turnZero → d .number ≡ 0 → Gives number (stationStep m n values) (numberless .number) (left numberless)
+    made-so : d .group ≡ ifMade (d .number) (groupOf n 0) (groupOf 0 0) → d .turn ≡ turnZero → d .counts ≡ countsZero → d .number ≡ 0 → Gives number (stationStep m n values) (numberless .number) (left numberless)
     unfolding madeMemory
-    made-so counts turn z =
+    made-so group turn counts z =
         let free : stationRefusal m n values ≡ 0 = sym station-number ∙ z in
         let was : makeStep m n 0 values .memory ≡ madeMemory n 0 values = made-memory m n values (sym (stations .make-refusal m n values) ∙ free) in
         let g = rw (eq-eqb (d .number) 0 z) at gave in
-        let c = rw (eq-eqb (d .number) 0 z) at counts in
-        rw (eq-eqb (d .number) 0 z, c)
-        (sym free ∙ sym (stations .make-number m n values), ap renumbered ((rw (turn, c) at g .1) ∙ was) ∙ sym (stations .makes m n values free))
+        let h = rw (eq-eqb (d .number) 0 z) at group in
+        rw (eq-eqb (d .number) 0 z, h)
+        (sym free ∙ sym (stations .make-number m n values), ap renumbered ((rw (h, turn, counts) at g .1) ∙ was) ∙ sym (stations .makes m n values free))
 
-    pub station-gives : d .counts ≡ ifMade (d .number) (countsFor n 0) (countsFor 0 0) → d .turn ≡ turnZero → Gives number (stationStep m n values) (numberless .number) (left numberless)
-    station-gives counts turn = bool-by (eqb (d .number) 0) (λ e. made-so counts turn (eqb-true (d .number) 0 e)) (λ e. refused-so (eqb-false (d .number) 0 e))
+    pub station-gives : d .group ≡ ifMade (d .number) (groupOf n 0) (groupOf 0 0) → d .turn ≡ turnZero → d .counts ≡ countsZero → Gives number (stationStep m n values) (numberless .number) (left numberless)
+    station-gives group turn counts = bool-by (eqb (d .number) 0) (λ e. made-so group turn counts (eqb-true (d .number) 0 e)) (λ e. refused-so (eqb-false (d .number) 0 e))
 
-  pub station-counts : d .counts ≡ ifMade (d .number) (countsFor n 0) (countsFor 0 0) → numberless .counts ≡ ifMade (numberless .number) (countsFor n noNumber) (countsFor 0 0)
-  station-counts counts = bool-by (eqb (d .number) 0) (λ e. let c = rw e at counts in rw (e, c)) (λ e. let c = rw e at counts in rw (e, e) c)
+  pub station-group : d .group ≡ ifMade (d .number) (groupOf n 0) (groupOf 0 0) → numberless .group ≡ ifMade (numberless .number) (groupOf n noNumber) (groupOf 0 0)
+  station-group group = bool-by (eqb (d .number) 0) (λ e. let h = rw e at group in rw (e, h)) (λ e. let h = rw e at group in rw (e, e) h)
+
+  pub station-counts : d .counts ≡ countsZero → numberless .counts ≡ countsZero
+  station-counts counts = bool-by (eqb (d .number) 0) (λ e. rw e) (λ e. rw e counts)
 
   pub station-turn : d .turn ≡ turnZero → numberless .turn ≡ turnZero
   station-turn turn = bool-by (eqb (d .number) 0) (λ e. rw e) (λ e. rw e turn)

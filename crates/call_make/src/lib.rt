@@ -8,17 +8,19 @@ ghost use lib.IntN.{ℤ};
 ghost use lib.ListN.{length, replicate};
 ghost use Rattle.block.specs.Message.{within};
 ghost use Rattle.memory.specs.declared.Counts.{Counts};
+ghost use Rattle.memory.specs.declared.Group.{Group};
 ghost use Rattle.memory.specs.declared.Turn.{Turn};
 ghost use Rattle.memory.specs.declared.Txn.{Txn};
-ghost use Rattle.memory.specs.Memory.{Memory, noNumber};
+ghost use Rattle.memory.specs.Memory.{Memory, noNumber, groupOf};
 ghost use Rattle.memory.specs.Rows.{closed};
-ghost use Rattle.engine.specs.Make.{turnZero, countsFor, placesFit, slicesFit, makeRefusal, makeStep};
+ghost use Rattle.engine.specs.Make.{turnZero, countsZero, placesFit, slicesFit, makeRefusal, makeStep};
 ghost use Rattle.engine.specs.Station.{stationStep};
 ghost use Rattle.call_reply.specs.Parts.{allParts};
 ghost use Rattle.call_reply.specs.Replies.{Gives, number};
 ghost use Rattle.call_make.specs.Made.{ifMade};
 use call_reply::Made;
 use memory::Counts;
+use memory::Group;
 use memory::NO_NUMBER;
 use memory::Turn;
 use memory::rows::clear_bytes;
@@ -26,20 +28,22 @@ use memory::rows::clear_numbers;
 use memory::rows::clear_values;
 use memory::rows::copy_values;
 
-// The number, and turn and counts of a replica with no call behind it.
+// The number, and group, turn and counts of a replica with no call behind it.
 fn answer(number: u8, replicas: u8, own: u8) -> Made
-    ensures { λ r. ⌜ r ≡ record { number = number; turn = turnZero; counts = countsFor replicas own } ⌝ }
+    ensures { λ r. ⌜ r ≡ record { number = number; group = groupOf replicas own; turn = turnZero; counts = countsZero } ⌝ }
 {
     Made {
         number: number,
+        group: Group {
+            replicas: replicas,
+            own: own,
+        },
         turn: Turn {
             slot: 0,
             sent: 0,
             applying: 0,
         },
         counts: Counts {
-            replicas: replicas,
-            own: own,
             commits: 0,
             done: 0,
             tickets: 0,
@@ -135,7 +139,7 @@ fn refusal(n: u32, own: u32, start: usize, parts: bool, places: bool) -> u8
     0
 }
 
-// N, the replica's own number and 128 starting values; the slices lent become its parts. Turn, counts and table are the caller's to store: whatever they were, those of a
+// N, the replica's own number and 128 starting values; the slices lent become its parts. Group, turn, counts and table are the caller's to store: whatever they were, those of a
 // replica just made take their place, with six free rows, unless the make is refused; then they stay.
 pub fn make(
     n: u32,
@@ -151,18 +155,19 @@ pub fn make(
     places: &mut [u8],
     outbox: &mut [u8],
 ) -> Made
-    ensures { λ r. ⌜ ((turn : Turn) (counts : Counts) (rows : List Txn) →
+    ensures { λ r. ⌜ ((group : Group) (turn : Turn) (counts : Counts) (rows : List Txn) →
         Gives number
         (makeStep
-        (allParts turn counts rows (now (queue .entry)) (now (items .entry)) (now (writes .entry)) (now (snapshots .entry))
+        (allParts group turn counts rows (now (queue .entry)) (now (items .entry)) (now (writes .entry)) (now (snapshots .entry))
         (now (values .entry)) (now (stamps .entry)) (now (classes .entry)) (now (places .entry)) (now (outbox .entry)))
         n own (now (start .entry)))
         (r .number)
-        (allParts (ifMade (r .number) (r .turn) turn) (ifMade (r .number) (r .counts) counts) (ifMade (r .number) (replicate 6 closed) rows)
+        (allParts (ifMade (r .number) (r .group) group) (ifMade (r .number) (r .turn) turn) (ifMade (r .number) (r .counts) counts) (ifMade (r .number) (replicate 6 closed) rows)
         (now (queue .exit)) (now (items .exit)) (now (writes .exit)) (now (snapshots .exit))
         (now (values .exit)) (now (stamps .exit)) (now (classes .exit)) (now (places .exit)) (now (outbox .exit))))
+        × (r .group ≡ ifMade (r .number) (groupOf n own) (groupOf 0 0))
         × (r .turn ≡ turnZero)
-        × (r .counts ≡ ifMade (r .number) (countsFor n own) (countsFor 0 0)) ⌝ }
+        × (r .counts ≡ countsZero) ⌝ }
 {
     let parts = parts_fit(
         queue.len(),
@@ -193,12 +198,12 @@ pub fn make(
 
 // What a make gave, but for the number of its own.
 fn without_number(done: Made) -> Made
-    ensures { λ r. ⌜ r ≡ ifMade (done .number) (record { number = 0; turn = turnZero; counts = countsFor (done .counts .replicas) noNumber }) done ⌝ }
+    ensures { λ r. ⌜ r ≡ ifMade (done .number) (record { number = 0; group = groupOf (done .group .replicas) noNumber; turn = turnZero; counts = countsZero }) done ⌝ }
 {
     if done.number != 0 {
         return done;
     }
-    let replicas = done.counts.replicas;
+    let replicas = done.group.replicas;
     answer(0, replicas, NO_NUMBER)
 }
 
@@ -216,18 +221,19 @@ pub fn make_station(
     places: &mut [u8],
     outbox: &mut [u8],
 ) -> Made
-    ensures { λ r. ⌜ ((turn : Turn) (counts : Counts) (rows : List Txn) →
+    ensures { λ r. ⌜ ((group : Group) (turn : Turn) (counts : Counts) (rows : List Txn) →
         Gives number
         (stationStep
-        (allParts turn counts rows (now (queue .entry)) (now (items .entry)) (now (writes .entry)) (now (snapshots .entry))
+        (allParts group turn counts rows (now (queue .entry)) (now (items .entry)) (now (writes .entry)) (now (snapshots .entry))
         (now (values .entry)) (now (stamps .entry)) (now (classes .entry)) (now (places .entry)) (now (outbox .entry)))
         n (now (start .entry)))
         (r .number)
-        (allParts (ifMade (r .number) (r .turn) turn) (ifMade (r .number) (r .counts) counts) (ifMade (r .number) (replicate 6 closed) rows)
+        (allParts (ifMade (r .number) (r .group) group) (ifMade (r .number) (r .turn) turn) (ifMade (r .number) (r .counts) counts) (ifMade (r .number) (replicate 6 closed) rows)
         (now (queue .exit)) (now (items .exit)) (now (writes .exit)) (now (snapshots .exit))
         (now (values .exit)) (now (stamps .exit)) (now (classes .exit)) (now (places .exit)) (now (outbox .exit))))
+        × (r .group ≡ ifMade (r .number) (groupOf n noNumber) (groupOf 0 0))
         × (r .turn ≡ turnZero)
-        × (r .counts ≡ ifMade (r .number) (countsFor n noNumber) (countsFor 0 0)) ⌝ }
+        × (r .counts ≡ countsZero) ⌝ }
 {
     let done = make(
         n,

@@ -1,4 +1,3 @@
--- Replies from outcomes, blocks copied, and calls with a lent table or with bytes lent for a block.
+-- Replies from outcomes, and calls with a lent table or with bytes lent for a block.
 pub mod ReplyLaws
-pub mod BlockLaws
 pub mod CalledLaws

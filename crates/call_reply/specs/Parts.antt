@@ -3,13 +3,15 @@ use Prim.Native.Nat.{ℕ}
 use mathlib.Core.List.{List}
 use lib.IntN.{ℤ}
 use Rattle.memory.specs.declared.Counts.{Counts}
+use Rattle.memory.specs.declared.Group.{Group}
 use Rattle.memory.specs.declared.Turn.{Turn}
 use Rattle.memory.specs.declared.Txn.{Txn}
 use Rattle.memory.specs.Memory.{Memory}
 
 -- all of them: what a make is lent
-abbrev pub allParts : Turn → Counts → List Txn → List ℕ → List ℕ → List ℤ → List ℤ → List ℤ → List ℕ → List ℕ → List ℕ → List ℕ → Memory
-allParts turn counts table queue items writes snapshots values stamps classes places outbox = record {
+abbrev pub allParts : Group → Turn → Counts → List Txn → List ℕ → List ℕ → List ℤ → List ℤ → List ℤ → List ℕ → List ℕ → List ℕ → List ℕ → Memory
+allParts group turn counts table queue items writes snapshots values stamps classes places outbox = record {
+  group = group;
   turn = turn;
   counts = counts;
   txns = record { table = table; queue = queue; items = items; writes = writes; snapshots = snapshots };
@@ -19,6 +21,7 @@ allParts turn counts table queue items writes snapshots values stamps classes pl
 
 abbrev pub beginParts : Memory → List Txn → Counts → List ℤ → List ℤ → Memory
 beginParts m table counts values snapshots = record {
+  group = m .group;
   turn = m .turn;
   counts = counts;
   txns = record { table = table; queue = m .txns .queue; items = m .txns .items; writes = m .txns .writes; snapshots = snapshots };
@@ -28,6 +31,7 @@ beginParts m table counts values snapshots = record {
 
 abbrev pub readParts : Memory → List Txn → List ℕ → List ℤ → List ℤ → Memory
 readParts m table items writes snapshots = record {
+  group = m .group;
   turn = m .turn;
   counts = m .counts;
   txns = record { table = table; queue = m .txns .queue; items = items; writes = writes; snapshots = snapshots };
@@ -35,8 +39,9 @@ readParts m table items writes snapshots = record {
   blocks = m .blocks;
 }
 
-abbrev pub writeParts : Memory → Turn → Counts → List Txn → List ℕ → List ℤ → List ℕ → List ℕ → List ℕ → Memory
-writeParts m turn counts table items writes stamps classes places = record {
+abbrev pub writeParts : Memory → Group → Turn → Counts → List Txn → List ℕ → List ℤ → List ℕ → List ℕ → List ℕ → Memory
+writeParts m group turn counts table items writes stamps classes places = record {
+  group = group;
   turn = turn;
   counts = counts;
   txns = record { table = table; queue = m .txns .queue; items = items; writes = writes; snapshots = m .txns .snapshots };
@@ -46,6 +51,7 @@ writeParts m turn counts table items writes stamps classes places = record {
 
 abbrev pub askParts : Memory → Counts → List Txn → List ℕ → Memory
 askParts m counts table queue = record {
+  group = m .group;
   turn = m .turn;
   counts = counts;
   txns = record { table = table; queue = queue; items = m .txns .items; writes = m .txns .writes; snapshots = m .txns .snapshots };
@@ -58,6 +64,7 @@ withdrawParts m counts table = askParts m counts table (m .txns .queue)
 
 abbrev pub reportParts : Memory → Turn → Counts → List Txn → Memory
 reportParts m turn counts table = record {
+  group = m .group;
   turn = turn;
   counts = counts;
   txns = record { table = table; queue = m .txns .queue; items = m .txns .items; writes = m .txns .writes; snapshots = m .txns .snapshots };
@@ -65,26 +72,29 @@ reportParts m turn counts table = record {
   blocks = m .blocks;
 }
 
-abbrev pub sendParts : Memory → Turn → Counts → List Txn → List ℕ → List ℕ → List ℤ → List ℕ → Memory
-sendParts m turn counts table queue items writes outbox = record {
+abbrev pub sendParts : Memory → Group → Turn → List Txn → List ℕ → List ℕ → List ℤ → List ℕ → Memory
+sendParts m group turn table queue items writes outbox = record {
+  group = group;
   turn = turn;
-  counts = counts;
+  counts = m .counts;
   txns = record { table = table; queue = queue; items = items; writes = writes; snapshots = m .txns .snapshots };
   store = m .store;
   blocks = record { places = m .blocks .places; outbox = outbox };
 }
 
-abbrev pub deliverParts : Memory → Turn → Counts → List ℕ → List ℕ → Memory
-deliverParts m turn counts places outbox = record {
+abbrev pub deliverParts : Memory → Group → Turn → List ℕ → List ℕ → Memory
+deliverParts m group turn places outbox = record {
+  group = group;
   turn = turn;
-  counts = counts;
+  counts = m .counts;
   txns = m .txns;
   store = m .store;
   blocks = record { places = places; outbox = outbox };
 }
 
-abbrev pub workParts : Memory → Turn → Counts → List Txn → List ℕ → List ℕ → List ℤ → List ℕ → List ℕ → Memory
-workParts m turn counts table queue items values stamps places = record {
+abbrev pub workParts : Memory → Group → Turn → Counts → List Txn → List ℕ → List ℕ → List ℤ → List ℕ → List ℕ → Memory
+workParts m group turn counts table queue items values stamps places = record {
+  group = group;
   turn = turn;
   counts = counts;
   txns = record { table = table; queue = queue; items = items; writes = m .txns .writes; snapshots = m .txns .snapshots };
@@ -94,6 +104,7 @@ workParts m turn counts table queue items values stamps places = record {
 
 abbrev pub loadParts : Memory → Turn → List ℕ → Memory
 loadParts m turn classes = record {
+  group = m .group;
   turn = turn;
   counts = m .counts;
   txns = m .txns;

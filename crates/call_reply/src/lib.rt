@@ -1,10 +1,10 @@
 // What a call answers a host, in numbers, and what it hands back beside that.
 use engine::Report;
 use memory::Counts;
+use memory::Group;
 use memory::Turn;
 use memory::Txn;
 
-pub mod blocks;
 pub mod replies;
 
 // In each reply document 01's number, 0 where the call is accepted. The ticket is 0 where the begin is refused.
@@ -74,9 +74,10 @@ pub struct Asked {
     pub row: Txn,
 }
 
-// The answer, and turn and counts of a replica just made; of a refused make nothing is stored.
+// The answer, and group, turn and counts of a replica just made; of a refused make nothing is stored.
 pub struct Made {
     pub number: u8,
+    pub group: Group,
     pub turn: Turn,
     pub counts: Counts,
 }
@@ -96,9 +97,10 @@ pub struct Worked {
     pub ended: [bool; 6],
 }
 
-// The answer, and turn and counts of a replica restarted; of a refused restart nothing is stored.
+// The answer, and group, turn and counts of a replica restarted; of a refused restart nothing is stored.
 pub struct Restarted {
     pub reply: RestartReply,
+    pub group: Group,
     pub turn: Turn,
     pub counts: Counts,
 }

@@ -9,6 +9,7 @@ use lib.ListN.{length, replicate}
 use borrow.Author.Tests.{eq-eqb, ne-eqb, eqb-true}
 use Rattle.block.specs.Answers.{firstOf}
 use Rattle.memory.specs.declared.Counts.{Counts}
+use Rattle.memory.specs.declared.Group.{Group}
 use Rattle.memory.specs.declared.Turn.{Turn}
 use Rattle.memory.specs.declared.Txn.{Txn}
 use Rattle.memory.specs.Memory.{Store, Memory}
@@ -43,14 +44,14 @@ module _ (m : Memory) (n own : ℕ) (start : List ℤ) (journal block : List ℕ
         make .0
         ∙ cond-by (λ (o : Outcome). number o ≡ makeRefusal m n own start) (eqb (makeRefusal m n own start) 0) (λ e. sym (eqb-true (makeRefusal m n own start) 0 e)) (λ e. refl)
 
-    -- whatever turn, counts and table the number comes with
-    pub restart-refused : (k ≡ 0 → ⊥) → (turn : Turn) (counts : Counts) (rows : List Txn)
+    -- whatever group, turn, counts and table the number comes with
+    pub restart-refused : (k ≡ 0 → ⊥) → (group : Group) (turn : Turn) (counts : Counts) (rows : List Txn)
         → outcome (refused k)
-        (allParts (ifMade k turn (m .turn)) (ifMade k counts (m .counts)) (ifMade k rows (m .txns .table)) (left .txns .queue) (left .txns .items) (left .txns .writes) (left .txns .snapshots)
+        (allParts (ifMade k group (m .group)) (ifMade k turn (m .turn)) (ifMade k counts (m .counts)) (ifMade k rows (m .txns .table)) (left .txns .queue) (left .txns .items) (left .txns .writes) (left .txns .snapshots)
         (left .store .values) (left .store .stamps) (left .store .classes) (left .blocks .places) (left .blocks .outbox))
         ≡ restartStep m n own start journal block
     unfolding restartStep makeStep
-    restart-refused h turn counts rows =
+    restart-refused h group turn counts rows =
         let l : left ≡ m = rw (← is-refusal, ne-eqb k 0 h) at (make .1) in
         rw (same-refusal, ← is-refusal, ne-eqb k 0 h, l)
 
@@ -62,15 +63,29 @@ module _ (m : Memory) (n own : ℕ) (start : List ℤ) (journal block : List ℕ
       pub restart-given : Given m n own start
       restart-given = given m n own start (sym is-refusal ∙ free)
 
-      -- the parts that the make cleared stay, and the blocks' values and stamps are added
-      pub restart-taken : (t : JournalTally) (v : List ℤ) (s : List ℕ) → Replays n own journal (replayed 0 (left .store .values) (left .store .stamps)) v s t
-          → outcome (restarted (t .blocks) (blockNumber (t .last) journal))
-          (allParts (answered n own t .turn) (answered n own t .counts) (replicate 6 closed) (left .txns .queue) (left .txns .items) (left .txns .writes) (left .txns .snapshots)
-          v s (left .store .classes) (left .blocks .places) (left .blocks .outbox))
-          ≡ restartStep m n own start journal block
-      unfolding restartStep restartedMemory madeMemory answered
-      restart-taken t v s p =
-          let r : replayed (t .commits) v s ≡ commitBlocks (startReplay start) (blocksIn n journal) = rw is-made at (p .store) in
-          let c : t .commits ≡ commitBlocks (startReplay start) (blocksIn n journal) .commits = ap (λ (x : Replayed). x .commits) r in
-          let a : _≡_ {A = Store} (record { values = v; stamps = s; classes = replicate 128 0 }) (commitBlocks (startReplay start) (blocksIn n journal) .store) = ap (λ (x : Replayed). x .store) r in
-          rw (same-refusal, ← is-refusal, free, is-made, p .blocks, p .last-block, p .highest, p .committed, c, a)
+      module _ (t : JournalTally) (v : List ℤ) (s : List ℕ) (p : Replays n own journal (replayed 0 (left .store .values) (left .store .stamps)) v s t) where
+        same-replay : replayed (t .commits) v s ≡ commitBlocks (startReplay start) (blocksIn n journal)
+        unfolding madeMemory
+        same-replay = rw is-made at (p .store)
+
+        same-commits : t .commits ≡ commitBlocks (startReplay start) (blocksIn n journal) .commits
+        same-commits = ap (λ (x : Replayed). x .commits) same-replay
+
+        -- the parts that the make cleared stay, and the blocks' values and stamps are added
+        pub restart-taken : outcome (restarted (t .blocks) (blockNumber (t .last) journal))
+            (allParts (answered n own t .group) (answered n own t .turn) (answered n own t .counts) (replicate 6 closed) (left .txns .queue) (left .txns .items) (left .txns .writes) (left .txns .snapshots)
+            v s (left .store .classes) (left .blocks .places) (left .blocks .outbox))
+            ≡ restartStep m n own start journal block
+        unfolding restartStep restartedMemory madeMemory answered
+        restart-taken =
+            let a : _≡_ {A = Store} (record { values = v; stamps = s; classes = replicate 128 0 }) (commitBlocks (startReplay start) (blocksIn n journal) .store) = ap (λ (x : Replayed). x .store) same-replay in
+            rw (same-refusal, ← is-refusal, free, is-made, p .blocks, p .last-block, p .highest, p .committed, same-commits, a)
+
+        -- turn and counts of the answer by themselves
+        pub restart-turn : answered n own t .turn ≡ restartedMemory n own start (blocksIn n journal) .turn
+        unfolding restartedMemory answered
+        restart-turn = rw (p .blocks)
+
+        pub restart-counts : answered n own t .counts ≡ restartedMemory n own start (blocksIn n journal) .counts
+        unfolding restartedMemory answered
+        restart-counts = rw (p .highest, p .committed, same-commits)

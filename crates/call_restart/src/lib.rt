@@ -4,11 +4,13 @@ ghost use mathlib.Core.List.{List};
 ghost use lib.ListN.{length, replicate};
 ghost use Prim.Native.Nat.{_*_, _≤_};
 ghost use Rattle.memory.specs.declared.Counts.{Counts};
+ghost use Rattle.memory.specs.declared.Group.{Group};
 ghost use Rattle.memory.specs.declared.Turn.{Turn};
 ghost use Rattle.memory.specs.declared.Txn.{Txn};
+ghost use Rattle.memory.specs.Memory.{groupOf};
 ghost use Rattle.memory.specs.Rows.{closed};
-ghost use Rattle.engine.specs.Make.{turnZero, countsFor};
-ghost use Rattle.engine.specs.Restart.{restartStep};
+ghost use Rattle.engine.specs.Make.{turnZero, countsZero};
+ghost use Rattle.engine.specs.Restart.{blocksIn, restartedMemory, restartStep};
 ghost use Rattle.call_reply.specs.Parts.{allParts};
 ghost use Rattle.call_reply.specs.Replies.{restartReply, GivesWith};
 ghost use Rattle.call_make.specs.Made.{ifMade};
@@ -21,7 +23,9 @@ use call_reply::RestartReply;
 use call_reply::Restarted;
 use call_reply::replies::no_restart;
 use memory::Counts;
+use memory::Group;
 use memory::Turn;
+use memory::bytes::copy_bytes;
 use memory::rows::clear_bytes;
 
 // The k-th block of the journal, counted from 1; zeros for the 0-th.
@@ -34,27 +38,26 @@ fn give_back(journal: &[u8], k: u32, block: &mut [u8])
         return;
     }
     let at = 512 * (k - 1) as usize;
-    let mut i: usize = 0;
-    while i < 512 {
-        block[i] = journal[at + i];
-        i += 1;
-    }
+    let end = at + 512;
+    copy_bytes(&journal[at..end], &mut *block);
 }
 
-// A refused restart: the turn and the counts are not stored.
+// A refused restart: group, turn and counts are all 0, and not the caller's to store.
 fn refused(number: u8) -> Restarted
-    ensures { λ r. ⌜ r ≡ record { reply = record { number = number; count = 0 }; turn = turnZero; counts = countsFor 0 0 } ⌝ }
+    ensures { λ r. ⌜ r ≡ record { reply = record { number = number; count = 0 }; group = groupOf 0 0; turn = turnZero; counts = countsZero } ⌝ }
 {
     Restarted {
         reply: no_restart(number),
+        group: Group {
+            replicas: 0,
+            own: 0,
+        },
         turn: Turn {
             slot: 0,
             sent: 0,
             applying: 0,
         },
         counts: Counts {
-            replicas: 0,
-            own: 0,
             commits: 0,
             done: 0,
             tickets: 0,
@@ -66,7 +69,7 @@ fn refused(number: u8) -> Restarted
     }
 }
 
-// The turn behind the blocks committed, and the counts by them. The own blocks of an altered journal may have more writesets than their highest ticket says.
+// The group, the turn behind the blocks committed, and the counts by them. The own blocks of an altered journal may have more writesets than their highest ticket says.
 fn answer(replicas: u8, own: u8, tally: JournalTally) -> Restarted
     ensures { λ r. ⌜ r ≡ answered replicas own tally ⌝ }
 {
@@ -79,14 +82,16 @@ fn answer(replicas: u8, own: u8, tally: JournalTally) -> Restarted
             number: 0,
             count: tally.blocks,
         },
+        group: Group {
+            replicas: replicas,
+            own: own,
+        },
         turn: Turn {
             slot: tally.blocks,
             sent: 0,
             applying: 0,
         },
         counts: Counts {
-            replicas: replicas,
-            own: own,
             commits: tally.commits,
             done: 0,
             tickets: tally.highest,
@@ -115,18 +120,21 @@ pub fn restart(
     journal: &[u8],
     block: &mut [u8],
 ) -> Restarted
-    ensures { λ r. ⌜ ((turn : Turn) (counts : Counts) (rows : List Txn) →
+    ensures { λ r. ⌜ ((group : Group) (turn : Turn) (counts : Counts) (rows : List Txn) →
         GivesWith restartReply
         (restartStep
-        (allParts turn counts rows (now (queue .entry)) (now (items .entry)) (now (writes .entry)) (now (snapshots .entry))
+        (allParts group turn counts rows (now (queue .entry)) (now (items .entry)) (now (writes .entry)) (now (snapshots .entry))
         (now (values .entry)) (now (stamps .entry)) (now (classes .entry)) (now (places .entry)) (now (outbox .entry)))
         n own (now (start .entry)) (now (journal .entry)) (now (block .entry)))
         (now (block .entry))
         (r .reply)
-        (allParts (ifMade (r .reply .number) (r .turn) turn) (ifMade (r .reply .number) (r .counts) counts) (ifMade (r .reply .number) (replicate 6 closed) rows)
+        (allParts (ifMade (r .reply .number) (r .group) group) (ifMade (r .reply .number) (r .turn) turn) (ifMade (r .reply .number) (r .counts) counts) (ifMade (r .reply .number) (replicate 6 closed) rows)
         (now (queue .exit)) (now (items .exit)) (now (writes .exit)) (now (snapshots .exit))
         (now (values .exit)) (now (stamps .exit)) (now (classes .exit)) (now (places .exit)) (now (outbox .exit)))
-        (now (block .exit))) ⌝ }
+        (now (block .exit)))
+        × (r .group ≡ ifMade (r .reply .number) (groupOf n own) (groupOf 0 0))
+        × (r .turn ≡ ifMade (r .reply .number) (restartedMemory n own (now (start .entry)) (blocksIn n (now (journal .entry))) .turn) turnZero)
+        × (r .counts ≡ ifMade (r .reply .number) (restartedMemory n own (now (start .entry)) (blocksIn n (now (journal .entry))) .counts) countsZero) ⌝ }
 {
     if block.len() != 512 {
         return refused(1);

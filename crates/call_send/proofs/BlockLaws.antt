@@ -186,11 +186,11 @@ module _ (m : Memory) (n : ℕ) (end : n ≡ indexOf 0 (m .txns .queue)) where
   unfolding messageFor
   count-is = length-waiting (m .txns .queue) n end ∙ sym (length-map (waiting (m .txns .queue)) (writesetOf (m .txns)))
 
-  header-is : headerFor (messageFor m) ≡ headerWith (m .turn) (m .counts) n
+  header-is : headerFor (messageFor m) ≡ headerWith (m .group) (m .turn) n
   unfolding headerFor messageFor
   header-is = rw (length-map, ← length-waiting (m .txns .queue) n end)
 
-  pub message-put : n ≤ 6 → (z r : ℕ) (l hs b c : List ℕ) → z ≡ 512 → l ≡ replicate z 0 → hs ≡ headerBytes (headerWith (m .turn) (m .counts) n)
+  pub message-put : n ≤ 6 → (z r : ℕ) (l hs b c : List ℕ) → z ≡ 512 → l ≡ replicate z 0 → hs ≡ headerBytes (headerWith (m .group) (m .turn) n)
       → b ≡ take 16 (putMid 0 16 l hs) ++ (recordsBytes (map (writesetIn (m .txns .table) (m .txns .items) (m .txns .writes)) (take n (m .txns .queue))) ++ drop (16 + 72 * n) (putMid 0 16 l hs))
       → length b ≡ 512 → written r c ≡ checkedStep b → c ≡ blockOf (messageFor m)
   message-put few z r l hs b c e q p u w y = block-put (messageFor m) n count-is few z r l hs b c e q (rw header-is p) (rw records-are u) w y

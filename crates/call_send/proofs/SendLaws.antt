@@ -37,19 +37,19 @@ module _ (m : Memory) (block : List ℕ) where
     unfolding sendRefusal firstOf
     send-spent h = rw (lent, le-leb 100_000_000 (m .turn .slot) h)
 
-    module _ (low : m .turn .slot < 100_000_000) (k : ℕ) (owner : k ≡ ownerOf (m .counts .replicas) (m .turn .slot)) where
-      pub send-others : (k ≡ m .counts .own → ⊥) → 11 ≡ sendRefusal m block
+    module _ (low : m .turn .slot < 100_000_000) (k : ℕ) (owner : k ≡ ownerOf (m .group .replicas) (m .turn .slot)) where
+      pub send-others : (k ≡ m .group .own → ⊥) → 11 ≡ sendRefusal m block
       unfolding sendRefusal firstOf
-      send-others h = rw (lent, lt-leb 100_000_000 (m .turn .slot) low, ← owner, ne-eqb k (m .counts .own) h)
+      send-others h = rw (lent, lt-leb 100_000_000 (m .turn .slot) low, ← owner, ne-eqb k (m .group .own) h)
 
-      module _ (own : k ≡ m .counts .own) where
+      module _ (own : k ≡ m .group .own) where
         pub send-already : (m .turn .sent ≡ 0 → ⊥) → 12 ≡ sendRefusal m block
         unfolding sendRefusal firstOf
-        send-already h = rw (lent, lt-leb 100_000_000 (m .turn .slot) low, ← owner, eq-eqb k (m .counts .own) own, ne-eqb (m .turn .sent) 0 h)
+        send-already h = rw (lent, lt-leb 100_000_000 (m .turn .slot) low, ← owner, eq-eqb k (m .group .own) own, ne-eqb (m .turn .sent) 0 h)
 
         pub send-free : m .turn .sent ≡ 0 → 0 ≡ sendRefusal m block
         unfolding sendRefusal firstOf
-        send-free h = rw (lent, lt-leb 100_000_000 (m .turn .slot) low, ← owner, eq-eqb k (m .counts .own) own, eq-eqb (m .turn .sent) 0 h)
+        send-free h = rw (lent, lt-leb 100_000_000 (m .turn .slot) low, ← owner, eq-eqb k (m .group .own) own, eq-eqb (m .turn .sent) 0 h)
 
   module _ (n : ℕ) (number : n ≡ sendRefusal m block) where
     pub send-refused : (n ≡ 0 → ⊥) → outcome (refused n) m ≡ sendStep m block
@@ -75,7 +75,7 @@ module _ (m : Memory) (block : List ℕ) where
       -- turn t, rows, queue q, outbox o and lent block b as they are left
       pub send-taken : (t : Turn) (rows : List Txn) (q o b : List ℕ) → t ≡ markSent (m .turn) → rows ≡ map sendRow (m .txns .table)
           → q ≡ replicate (length (m .txns .queue)) 0 → o ≡ b → b ≡ blockOf (messageFor m)
-          → outcome (sent b) (sendParts m t (m .counts) rows q (m .txns .items) (m .txns .writes) o) ≡ sendStep m block
+          → outcome (sent b) (sendParts m (m .group) t rows q (m .txns .items) (m .txns .writes) o) ≡ sendStep m block
       unfolding sendStep sendNow
       send-taken t rows q o b mark asked zeros copy is =
           let z : q ≡ replicate 6 0 = zeros ∙ ap (λ (k : ℕ). replicate k 0) (send-long .queue) in

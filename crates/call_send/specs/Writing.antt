@@ -6,7 +6,7 @@ use lib.Dec.{eqb}
 use lib.IntN.{ℤ}
 use Rattle.block.specs.declared.Header.{Header}
 use Rattle.block.specs.Message.{Record}
-use Rattle.memory.specs.declared.Counts.{Counts}
+use Rattle.memory.specs.declared.Group.{Group}
 use Rattle.memory.specs.declared.Turn.{Turn}
 use Rattle.memory.specs.declared.Txn.{Txn}
 use Rattle.engine.specs.Moves.{writesetOf}
@@ -16,11 +16,11 @@ abbrev pub writesetIn : List Txn → List ℕ → List ℤ → ℕ → Record
 writesetIn table items writes = writesetOf (record { table = table; queue = []; items = items; writes = writes; snapshots = [] })
 
 -- the header of a message with so many writesets
-abbrev pub headerWith : Turn → Counts → ℕ → Header
-headerWith turn counts n = record {
+abbrev pub headerWith : Group → Turn → ℕ → Header
+headerWith group turn n = record {
   kind = cond (eqb n 0) 1 2;
-  sender = counts .own;
-  replicas = counts .replicas;
+  sender = group .own;
+  replicas = group .replicas;
   count = n;
   slot = turn .slot;
 }

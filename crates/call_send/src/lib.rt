@@ -15,14 +15,14 @@ use block::Header;
 use block_check::write_check;
 use block_writer::write_header;
 use block_writer::write_record;
-use call_client::rows::row_at;
 use call_reply::Sent;
-use call_reply::blocks::copy_bytes;
-use memory::Counts;
+use memory::Group;
 use memory::Turn;
 use memory::Txn;
+use memory::bytes::copy_bytes;
 use memory::rows::clear_numbers;
 use memory::rows::queue_end;
+use memory::rows::row_at;
 use memory::rows::row_of;
 use memory::rows::write_count;
 
@@ -46,8 +46,8 @@ fn lengths_fit(queue: usize, items: usize, writes: usize, outbox: usize, block: 
 }
 
 // Why a send is refused, 0 where it is not; `fits` where what it is lent has its lengths.
-fn refusal(fits: bool, turn: Turn, counts: Counts) -> u8
-    ensures { λ r. ⌜ ((m : Memory) (block : List ℕ) → m .turn ≡ turn → m .counts ≡ counts → sendLent m block ≡ fits →
+fn refusal(fits: bool, group: Group, turn: Turn) -> u8
+    ensures { λ r. ⌜ ((m : Memory) (block : List ℕ) → m .group ≡ group → m .turn ≡ turn → sendLent m block ≡ fits →
         r ≡ sendRefusal m block) ⌝ }
 {
     if !fits {
@@ -56,8 +56,8 @@ fn refusal(fits: bool, turn: Turn, counts: Counts) -> u8
     if 100000000 <= turn.slot {
         return 13;
     }
-    let owned = turn.owner(counts.replicas);
-    if owned.replica != counts.own as u32 {
+    let owned = turn.owner(group);
+    if owned.replica != group.own as u32 {
         return 11;
     }
     if turn.sent != 0 {
@@ -107,8 +107,8 @@ fn put_writesets(
 }
 
 // A *next* where nothing is asked, else a *tocommit* with so many writesets.
-fn header_for(turn: Turn, counts: Counts, count: u8) -> Header
-    ensures { λ r. ⌜ r ≡ headerWith turn counts count ⌝ }
+fn header_for(group: Group, turn: Turn, count: u8) -> Header
+    ensures { λ r. ⌜ r ≡ headerWith group turn count ⌝ }
 {
     let mut kind = 2u8;
     if count == 0 {
@@ -116,8 +116,8 @@ fn header_for(turn: Turn, counts: Counts, count: u8) -> Header
     }
     Header {
         kind: kind,
-        sender: counts.own,
-        replicas: counts.replicas,
+        sender: group.own,
+        replicas: group.replicas,
         count: count,
         slot: turn.slot,
     }
@@ -126,8 +126,8 @@ fn header_for(turn: Turn, counts: Counts, count: u8) -> Header
 // The block of the message for the turn.
 fn put_block(
     block: &mut [u8],
+    group: Group,
     turn: Turn,
-    counts: Counts,
     rows: [Txn; 6],
     queue: &[u32],
     items: &[u8],
@@ -139,12 +139,12 @@ fn put_block(
         × (length (now writes) ≡ 48) ⌝ }
     ensures { λ _. ⌜ ((m : Memory) →
         now (block .exit)
-        ≡ blockOf (messageFor (sendParts m turn counts rows (now (queue .entry)) (now (items .entry)) (now (writes .entry)) (m .blocks .outbox)))) ⌝ }
+        ≡ blockOf (messageFor (sendParts m group turn rows (now (queue .entry)) (now (items .entry)) (now (writes .entry)) (m .blocks .outbox)))) ⌝ }
 {
     let count = queue_end(queue);
     let zeros = [0u8; 512];
     copy_bytes(&zeros, &mut *block);
-    write_header(&mut block[0..16], header_for(turn, counts, count as u8));
+    write_header(&mut block[0..16], header_for(group, turn, count as u8));
     put_writesets(&mut *block, count, rows, queue, items, writes);
     write_check(&mut *block);
 }
@@ -179,8 +179,8 @@ fn send_rows(rows: [Txn; 6]) -> [Txn; 6]
 // The block for the turn, into the bytes lent, and a copy kept in the outbox.
 pub fn send(
     rows: [Txn; 6],
+    group: Group,
     turn: Turn,
-    counts: Counts,
     queue: &mut [u32],
     items: &[u8],
     writes: &[i32],
@@ -190,11 +190,11 @@ pub fn send(
     ensures { λ r. ⌜ ((m : Memory) →
         GivesBlock
         (sendStep
-        (sendParts m turn counts rows (now (queue .entry)) (now (items .entry)) (now (writes .entry)) (now (outbox .entry)))
+        (sendParts m group turn rows (now (queue .entry)) (now (items .entry)) (now (writes .entry)) (now (outbox .entry)))
         (now (block .entry)))
         (now (block .entry))
         (r .number)
-        (sendParts m (r .turn) counts (r .rows) (now (queue .exit)) (now (items .entry)) (now (writes .entry)) (now (outbox .exit)))
+        (sendParts m group (r .turn) (r .rows) (now (queue .exit)) (now (items .entry)) (now (writes .entry)) (now (outbox .exit)))
         (now (block .exit))) ⌝ }
 {
     let fits = lengths_fit(
@@ -204,7 +204,7 @@ pub fn send(
         outbox.len(),
         block.len(),
     );
-    let number = refusal(fits, turn, counts);
+    let number = refusal(fits, group, turn);
     if number != 0 {
         return Sent {
             number: number,
@@ -212,7 +212,7 @@ pub fn send(
             rows: rows,
         };
     }
-    put_block(&mut *block, turn, counts, rows, &*queue, items, writes);
+    put_block(&mut *block, group, turn, rows, &*queue, items, writes);
     copy_bytes(&*block, &mut *outbox);
     clear_numbers(&mut *queue);
     let after = turn.mark_sent();

@@ -15,6 +15,7 @@ use Rattle.block.specs.Message.{Record}
 use Rattle.block.proofs.BoolLaws.{both}
 use Rattle.block.proofs.ListLaws.{getD-slice}
 use Rattle.memory.specs.declared.Counts.{Counts}
+use Rattle.memory.specs.declared.Group.{Group}
 use Rattle.memory.specs.declared.Turn.{Turn}
 use Rattle.memory.specs.declared.Txn.{Txn}
 use Rattle.memory.specs.Memory.{Memory, withDone, withTurn}
@@ -66,7 +67,7 @@ module _ (m : Memory) where
   unfolding workRefusal firstOf
   refused-lengths h = rw h
 
-  module _ (long : workLent m ≡ true) (at : ℕ) (start : at ≡ placeStart (m .counts .replicas) (m .turn .slot)) (k : ℕ) (kind : k ≡ getD (m .blocks .places) at 0) where
+  module _ (long : workLent m ≡ true) (at : ℕ) (start : at ≡ placeStart (m .group .replicas) (m .turn .slot)) (k : ℕ) (kind : k ≡ getD (m .blocks .places) at 0) where
     pub refused-empty : k ≡ 0 → 21 ≡ workRefusal m
     unfolding workRefusal firstOf
     refused-empty h = rw (long, ← start, ← kind, eq-eqb k 0 h)
@@ -91,21 +92,21 @@ module _ (m : Memory) where
     unfolding endedMarks
     marks-refused lent full h = rw (eq-eqb (length lent) 512 full, ← number, ne-eqb n 0 h)
 
-    module _ (none : n ≡ 0) (at : ℕ) (start : at ≡ placeStart (m .counts .replicas) (m .turn .slot)) where
+    module _ (none : n ≡ 0) (at : ℕ) (start : at ≡ placeStart (m .group .replicas) (m .turn .slot)) where
       -- the block at the turn lies in the places
       pub work-room : at + 512 ≤ length (m .blocks .places)
       unfolding workRefusal
       work-room =
           let l = both _ _ (not-false _ (passes _ _ refl (sym number ∙ none) .0)) in
-          place-within (m .counts .replicas) (m .turn .slot) (m .blocks .places) (eqb-true _ _ (l .left)) at start (getD (m .blocks .places) at 0) refl
-          (λ e. eqb-false (getD (m .blocks .places) (placeStart (m .counts .replicas) (m .turn .slot)) 0) 0 (work-passed m (sym number ∙ none)) (rw (← start) e))
+          place-within (m .group .replicas) (m .turn .slot) (m .blocks .places) (eqb-true _ _ (l .left)) at start (getD (m .blocks .places) at 0) refl
+          (λ e. eqb-false (getD (m .blocks .places) (placeStart (m .group .replicas) (m .turn .slot)) 0) 0 (work-passed m (sym number ∙ none)) (rw (← start) e))
 
       pub work-next : getD (m .blocks .places) at 0 ≡ 1 → passNext m ≡ workStep m
       unfolding workStep
       work-next h = rw (← number, none, ← start, first-byte (m .blocks .places) at, eq-eqb (getD (m .blocks .places) at 0) 1 h)
 
       pub work-writeset : (getD (m .blocks .places) at 0 ≡ 1 → ⊥)
-          → commitWriteset m (eqb (getD (blockAtTurn m) 1 0) (m .counts .own)) (writesetAt (blockAtTurn m) (m .counts .done)) ≡ workStep m
+          → commitWriteset m (eqb (getD (blockAtTurn m) 1 0) (m .group .own)) (writesetAt (blockAtTurn m) (m .counts .done)) ≡ workStep m
       unfolding workStep
       work-writeset h = rw (← number, none, ← start, first-byte (m .blocks .places) at, ne-eqb (getD (m .blocks .places) at 0) 1 h)
 
@@ -116,7 +117,7 @@ module _ (m : Memory) where
 
         pub marks-writeset : (getD (m .blocks .places) at 0 ≡ 1 → ⊥) →
             let block = slice at (at + 512) (m .blocks .places) in
-            (e : Ended) → e ≡ endedOf (eqb (getD block 1 0) (m .counts .own)) (writesetAt block (m .counts .done)) (m .turn) (m .counts) (m .txns .table) (m .txns .items)
+            (e : Ended) → e ≡ endedOf (eqb (getD block 1 0) (m .group .own)) (writesetAt block (m .counts .done)) (m .turn) (m .counts) (m .txns .table) (m .txns .items)
             → e .marks ≡ endedMarks lent m
         unfolding endedMarks endedOf
         marks-writeset h e ee = rw (ee, eq-eqb (length lent) 512 full, ← number, none, ← start, first-byte (m .blocks .places) at, ne-eqb (getD (m .blocks .places) at 0) 1 h)
@@ -140,9 +141,9 @@ block-long : (places : List ℕ) (at start : ℕ) → at ≡ start → at + 512 
 block-long places at start e h = length-slice start (start + 512) places (omega arith) ∙ omega arith
 
 -- a *next*: t is the turn after it, block what the bytes lent become
-pub next-passed : (m : Memory) (at : ℕ) → at ≡ placeStart (m .counts .replicas) (m .turn .slot) → at + 512 ≤ length (m .blocks .places)
+pub next-passed : (m : Memory) (at : ℕ) → at ≡ placeStart (m .group .replicas) (m .turn .slot) → at + 512 ≤ length (m .blocks .places)
     → (t : Turn) → t ≡ advance (m .turn) →
-    let other = not (eqb (getD (m .blocks .places) (at + 1) 0) (m .counts .own)) in
+    let other = not (eqb (getD (m .blocks .places) (at + 1) 0) (m .group .own)) in
     (append : Bool) → append ≡ other → (lent block : List ℕ) → block ≡ cond other (slice at (at + 512) (m .blocks .places)) lent
     → GivesWith workReply (passNext m) lent
     (record { number = 0; sender = getD (m .blocks .places) (at + 1) 0; moved = true; count = 0; ticket = 0; aborted = replicate 6 0; append = append })
@@ -151,8 +152,8 @@ pub next-passed : (m : Memory) (at : ℕ) → at ≡ placeStart (m .counts .repl
 unfolding passNext
 next-passed m at start room t e append ea lent block eb =
     let places = m .blocks .places in
-    let full = block-long places at (placeStart (m .counts .replicas) (m .turn .slot)) start room in
-    let mine = eqb (getD (blockAtTurn m) 1 0) (m .counts .own) in
+    let full = block-long places at (placeStart (m .group .replicas) (m .turn .slot)) start room in
+    let mine = eqb (getD (blockAtTurn m) 1 0) (m .group .own) in
     rw (e, ea, eb, ← at-place places at 1 (omega arith), start)
     ((rw (append-said (blockAtTurn m) full true mine), refl), append-left (blockAtTurn m) full true mine lent)
 
@@ -166,16 +167,16 @@ own-rows true rows k six =
     (λ h. end-mark noMarks rows k h ∙ rw (end-none 6 rows))
     (λ h. rw (set-out noMarks k true h, end-none 6 rows) (sym (set-out rows k closed (omega arith))))
 
-module _ (m : Memory) (turn : Turn) (counts : Counts) (rows : List Txn) (queue items : List ℕ) (values : List ℤ) (stamps places : List ℕ) (six : length rows ≡ 6) where
+module _ (m : Memory) (group : Group) (turn : Turn) (counts : Counts) (rows : List Txn) (queue items : List ℕ) (values : List ℤ) (stamps places : List ℕ) (six : length rows ≡ 6) where
   abbrev before : Memory
-  before = workParts m turn counts rows queue items values stamps places
+  before = workParts m group turn counts rows queue items values stamps places
 
   -- what is answered and left, by the writeset's end e and its place in the block
   abbrev Left : Outcome → Ended → Bool → ℕ → Bool → List ℕ → List ℤ → List ℕ → Turn → Counts → List ℕ → Type 0
   Left o e last sender append q v s t c p =
       Gives workReply o
       (record { number = 0; sender = sender; moved = last; count = e .count; ticket = e .ticket; aborted = e .aborted; append = append })
-      (workParts m t c (endRows (e .marks) rows) q items v s p)
+      (workParts m group t c (endRows (e .marks) rows) q items v s p)
 
   by-cases : (mine last : Bool) (w : Record) (append : Bool) → append ≡ not (eqb (length (appending before last)) 0) →
       let e = endedOf mine w turn counts rows items in
@@ -185,7 +186,7 @@ module _ (m : Memory) (turn : Turn) (counts : Counts) (rows : List Txn) (queue i
       (committed before mine (endsOwn mine rows (w .ticket)) last w))
       e last sender append (queueLeft mine w rows items queue) (applied (w .entries) values) (stamped (e .counts .commits) (w .entries) stamps)
       (cond last (advance (e .turn)) (e .turn)) (withDone (e .counts) (cond last 0 (e .counts .done + 1)))
-      (cond last (set places (placeStart (counts .replicas) (turn .slot)) 0) places)
+      (cond last (set places (placeStart (group .replicas) (turn .slot)) 0) places)
   unfolding endedOf
   by-cases true true w append ea = (rw ea, rw (own-rows (endsOwn true rows (w .ticket)) rows (rowOf (w .ticket) rows) six))
   by-cases true false w append ea = (rw ea, rw (own-rows (endsOwn true rows (w .ticket)) rows (rowOf (w .ticket) rows) six))
@@ -193,25 +194,25 @@ module _ (m : Memory) (turn : Turn) (counts : Counts) (rows : List Txn) (queue i
   by-cases false false w append ea = (rw ea, rw (end-hit (w .entries) items 0 rows))
 
   -- e, q, v, s, p, b: the writeset's end, and what queue, values, stamps, places and the bytes lent became
-  pub writeset-committed : (at : ℕ) → at ≡ placeStart (counts .replicas) (turn .slot) → at + 512 ≤ length places →
+  pub writeset-committed : (at : ℕ) → at ≡ placeStart (group .replicas) (turn .slot) → at + 512 ≤ length places →
       let block = slice at (at + 512) places in
-      let mine = eqb (getD block 1 0) (counts .own) in
+      let mine = eqb (getD block 1 0) (group .own) in
       let w = writesetAt block (counts .done) in
       (e : Ended) → e ≡ endedOf mine w turn counts rows items
       → (q : List ℕ) (v : List ℤ) (s : List ℕ) → q ≡ queueLeft mine w rows items queue → v ≡ applied (w .entries) values → s ≡ stamped (e .counts .commits) (w .entries) stamps
       → let last = leb (getD places (at + 3) 0) (e .counts .done + 1) in
-      let append = last && not (eqb (getD places (at + 1) 0) (e .counts .own)) in
+      let append = last && not (eqb (getD places (at + 1) 0) (group .own)) in
       (p : List ℕ) → p ≡ cond last (set places at 0) places
       → (lent b : List ℕ) → b ≡ cond append block lent →
-      let o = commitWriteset before (eqb (getD (blockAtTurn before) 1 0) (counts .own)) (writesetAt (blockAtTurn before) (counts .done)) in
+      let o = commitWriteset before (eqb (getD (blockAtTurn before) 1 0) (group .own)) (writesetAt (blockAtTurn before) (counts .done)) in
       Left o e last (getD places (at + 1) 0) append q v s (cond last (advance (e .turn)) (e .turn)) (withDone (e .counts) (cond last 0 (e .counts .done + 1))) p
       × (b ≡ blockLeft (o .answer) lent)
   unfolding commitWriteset endedOf
   writeset-committed at start room e ee q v s eq ev eS p ep lent b eb =
       let second = at-place places at 1 (omega arith) in
       let fourth = at-place places at 3 (omega arith) in
-      let full = block-long places at (placeStart (counts .replicas) (turn .slot)) start room in
-      let mine = eqb (getD (blockAtTurn before) 1 0) (counts .own) in
+      let full = block-long places at (placeStart (group .replicas) (turn .slot)) start room in
+      let mine = eqb (getD (blockAtTurn before) 1 0) (group .own) in
       rw (eq, ev, eS, ep, eb, ee, ← second, ← fourth, start) (
         by-cases mine (isLast before) (writesetAt (blockAtTurn before) (counts .done)) _ (append-said (blockAtTurn before) full (isLast before) mine),
         append-left (blockAtTurn before) full (isLast before) mine lent,

@@ -5,7 +5,7 @@ ghost use Prim.Native.Nat.{_+_, _*_, _≤_};
 ghost use lib.Dec.{eqb, leb};
 ghost use lib.ListN.{length, getD, set, replicate};
 ghost use lib.Seq.{slice};
-ghost use Rattle.memory.specs.Memory.{Memory, withDone};
+ghost use Rattle.memory.specs.Memory.{Memory, span, withDone};
 ghost use Rattle.memory.specs.Rows.{endRows};
 ghost use Rattle.memory.specs.Turns.{advance, placeStart};
 ghost use Rattle.engine.specs.Moves.{workLent, workRefusal, passNext, workStep};
@@ -18,12 +18,13 @@ use call_ending::Ended;
 use call_ending::end_writeset;
 use call_reply::WorkReply;
 use call_reply::Worked;
-use call_reply::blocks::byte_at;
-use call_reply::blocks::copy_bytes;
 use call_reply::replies::no_work;
 use memory::Counts;
+use memory::Group;
 use memory::Turn;
 use memory::Txn;
+use memory::bytes::byte_at;
+use memory::bytes::copy_bytes;
 use memory::cursor::place_start;
 
 // Whether the slices lent have their lengths.
@@ -54,7 +55,7 @@ fn lengths_fit(
 
 // Why a work is refused, 0 where it is not; `fits` where what it is lent has its lengths, `at` where the turn's place starts.
 fn refusal(fits: bool, at: usize, places: &[u8]) -> u8
-    ensures { λ r. ⌜ ((m : Memory) → m .blocks .places ≡ now (places .entry) → at ≡ placeStart (m .counts .replicas) (m .turn .slot)
+    ensures { λ r. ⌜ ((m : Memory) → m .blocks .places ≡ now (places .entry) → at ≡ placeStart (span (m .group)) (m .turn .slot)
         → workLent m ≡ fits → r ≡ workRefusal m) ⌝ }
 {
     if !fits {
@@ -98,20 +99,27 @@ fn hand_out(sender: u8, own: u8, place: &[u8], block: &mut [u8]) -> bool
 }
 
 // A *next* passed: its block is handed out, the place empties, the turn advances, and no row ends.
-fn pass_next(turn: Turn, counts: Counts, places: &mut [u8], at: usize, block: &mut [u8]) -> Worked
-    requires { ⌜ (at ≡ placeStart (counts .replicas) (turn .slot)) × (at + 512 ≤ length (now places)) × (length (now block) ≡ 512) ⌝ }
+fn pass_next(
+    group: Group,
+    turn: Turn,
+    counts: Counts,
+    places: &mut [u8],
+    at: usize,
+    block: &mut [u8],
+) -> Worked
+    requires { ⌜ (at ≡ placeStart (span group) (turn .slot)) × (at + 512 ≤ length (now places)) × (length (now block) ≡ 512) ⌝ }
     ensures { λ r. ⌜ ((m : Memory) →
         GivesWith workReply
-        (passNext (turnParts m turn counts (m .txns .table) (now (places .entry))))
+        (passNext (turnParts m group turn counts (m .txns .table) (now (places .entry))))
         (now (block .entry))
         (r .reply)
-        (turnParts m (r .turn) (r .counts) (m .txns .table) (now (places .exit)))
+        (turnParts m group (r .turn) (r .counts) (m .txns .table) (now (places .exit)))
         (now (block .exit)))
         × (r .ended ≡ noMarks) ⌝ }
 {
     let sender = places[at + 1];
     let end = at + 512;
-    let append = hand_out(sender, counts.own, &places[at..end], &mut *block);
+    let append = hand_out(sender, group.own, &places[at..end], &mut *block);
     places[at] = 0;
     let mut after = counts;
     after.done = 0;
@@ -175,10 +183,10 @@ fn answered(
 }
 
 // After a writeset: with its block's last one the block is handed out, the place empties and the turn advances.
-fn pass_writeset(ended: Ended, places: &mut [u8], at: usize, block: &mut [u8]) -> Worked
+fn pass_writeset(ended: Ended, own: u8, places: &mut [u8], at: usize, block: &mut [u8]) -> Worked
     requires { ⌜ (at + 512 ≤ length (now places)) × (length (now block) ≡ 512) ⌝ }
     ensures { λ r. ⌜ (let last = leb (getD (now (places .entry)) (at + 3) 0) (ended .counts .done + 1) in
-        let append = last && not (eqb (getD (now (places .entry)) (at + 1) 0) (ended .counts .own)) in
+        let append = last && not (eqb (getD (now (places .entry)) (at + 1) 0) own) in
         (r
         ≡ record {
           reply = record {
@@ -204,7 +212,7 @@ fn pass_writeset(ended: Ended, places: &mut [u8], at: usize, block: &mut [u8]) -
     let next = counts.done as u32 + 1;
     if count as u32 <= next {
         let end = at + 512;
-        let append = hand_out(sender, counts.own, &places[at..end], &mut *block);
+        let append = hand_out(sender, own, &places[at..end], &mut *block);
         places[at] = 0;
         counts.done = 0;
         let advanced = turn.advance();
@@ -217,6 +225,7 @@ fn pass_writeset(ended: Ended, places: &mut [u8], at: usize, block: &mut [u8]) -
 // Processes the next step at the turn: a *next*, or one writeset. The block lent last is for the journal: another's, where the turn leaves its slot.
 pub fn work(
     rows: [Txn; 6],
+    group: Group,
     turn: Turn,
     counts: Counts,
     queue: &mut [u32],
@@ -227,12 +236,12 @@ pub fn work(
     block: &mut [u8],
 ) -> Worked
     ensures { λ r. ⌜ ((m : Memory) →
-        let before = workParts m turn counts rows (now (queue .entry)) (now (items .entry)) (now (values .entry)) (now (stamps .entry)) (now (places .entry)) in
+        let before = workParts m group turn counts rows (now (queue .entry)) (now (items .entry)) (now (values .entry)) (now (stamps .entry)) (now (places .entry)) in
         GivesWith workReply
         (withBlock (now (block .entry)) workStep before)
         (now (block .entry))
         (r .reply)
-        (workParts m (r .turn) (r .counts) (endRows (r .ended) rows) (now (queue .exit)) (now (items .entry)) (now (values .exit)) (now (stamps .exit)) (now (places .exit)))
+        (workParts m group (r .turn) (r .counts) (endRows (r .ended) rows) (now (queue .exit)) (now (items .entry)) (now (values .exit)) (now (stamps .exit)) (now (places .exit)))
         (now (block .exit))
         × (r .ended ≡ endedMarks (now (block .entry)) before)) ⌝ }
 {
@@ -240,24 +249,25 @@ pub fn work(
         return unchanged(1, turn, counts);
     }
     let fits = lengths_fit(
-        counts.replicas,
+        group.replicas,
         queue.len(),
         items.len(),
         values.len(),
         stamps.len(),
         places.len(),
     );
-    let at = place_start(counts.replicas, turn.slot);
+    let at = place_start(group, turn.slot);
     let number = refusal(fits, at, &*places);
     if number != 0 {
         return unchanged(number, turn, counts);
     }
     if places[at] == 1 {
-        return pass_next(turn, counts, &mut *places, at, &mut *block);
+        return pass_next(group, turn, counts, &mut *places, at, &mut *block);
     }
     let end = at + 512;
     let ended = end_writeset(
         rows,
+        group.own,
         turn,
         counts,
         &mut *queue,
@@ -266,5 +276,5 @@ pub fn work(
         &mut *stamps,
         &places[at..end],
     );
-    pass_writeset(ended, &mut *places, at, &mut *block)
+    pass_writeset(ended, group.own, &mut *places, at, &mut *block)
 }

@@ -17,14 +17,15 @@ ghost use Rattle.call_reply.specs.Parts.{writeParts};
 ghost use Rattle.call_reply.specs.Replies.{Gives, number};
 ghost use Rattle.call_write.specs.Parts.{inserted, insertIn, writeActive};
 use call_classes::must_wait;
-use call_client::rows::free;
 use call_reply::Changed;
 use memory::Counts;
+use memory::Group;
 use memory::Held;
 use memory::Turn;
 use memory::Txn;
 use memory::rows::bump;
 use memory::rows::count_below;
+use memory::rows::free;
 use memory::rows::holder;
 use memory::rows::holds;
 use memory::rows::index_of;
@@ -100,9 +101,9 @@ fn write_at(
     requires { ⌜ (length (now items) ≡ 48) × (length (now writes) ≡ 48) × (length (now stamps) ≡ 128) × (at < 6) × (item < 128) ⌝ }
     ensures { λ r. ⌜ ((m : Memory) (table : List Txn) → t ≡ rowAt table at → isHeld (holderOf table (now (items .entry)) at item) ≡ isHeld (holderOf rows (now (items .entry)) at item) →
         Gives number
-        (writeActive (writeParts m (m .turn) counts table (now (items .entry)) (now (writes .entry)) (now (stamps .entry)) (m .store .classes) (m .blocks .places)) at item value)
+        (writeActive (writeParts m (m .group) (m .turn) counts table (now (items .entry)) (now (writes .entry)) (now (stamps .entry)) (m .store .classes) (m .blocks .places)) at item value)
         (r .number)
-        (writeParts m (m .turn) (r .counts) (set table at (r .row)) (now (items .exit)) (now (writes .exit)) (now (stamps .entry)) (m .store .classes) (m .blocks .places))) ⌝ }
+        (writeParts m (m .group) (m .turn) (r .counts) (set table at (r .row)) (now (items .exit)) (now (writes .exit)) (now (stamps .entry)) (m .store .classes) (m .blocks .places))) ⌝ }
 {
     let n = write_count(t.writes);
     let from = 8 * at;
@@ -176,6 +177,7 @@ pub fn write(
     at: usize,
     t: Txn,
     rows: [Txn; 6],
+    group: Group,
     turn: Turn,
     counts: Counts,
     items: &mut [u8],
@@ -189,10 +191,10 @@ pub fn write(
     ensures { λ r. ⌜ ((m : Memory) →
         Gives number
         (writeRow
-        (writeParts m turn counts (set rows at t) (now (items .entry)) (now (writes .entry)) (now (stamps .entry)) (now (classes .entry)) (now (places .entry)))
+        (writeParts m group turn counts (set rows at t) (now (items .entry)) (now (writes .entry)) (now (stamps .entry)) (now (classes .entry)) (now (places .entry)))
         at item value)
         (r .number)
-        (writeParts m turn (r .counts) (set rows at (r .row)) (now (items .exit)) (now (writes .exit)) (now (stamps .entry)) (now (classes .entry)) (now (places .entry))))
+        (writeParts m group turn (r .counts) (set rows at (r .row)) (now (items .exit)) (now (writes .exit)) (now (stamps .entry)) (now (classes .entry)) (now (places .entry))))
         × (6 ≤ at → r .row ≡ t) ⌝ }
 {
     let fits = lengths_fit(
@@ -201,13 +203,13 @@ pub fn write(
         stamps.len(),
         classes.len(),
         places.len(),
-        counts.replicas,
+        group.replicas,
     );
     let number = early_refusal(fits, at, t.stage, item);
     if number != 0 {
         return changed(number, t, counts);
     }
-    if must_wait(turn, counts, classes, places, item) {
+    if must_wait(group, turn, counts, classes, places, item) {
         return changed(7, t, counts);
     }
     write_at(

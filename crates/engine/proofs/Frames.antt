@@ -8,7 +8,7 @@ use lib.IntN.{ℤ, pos}
 use lib.ListN.{length}
 use borrow.Author.Tests.{ltb-true, eq-eqb}
 use Rattle.block.specs.Answers.{headerOf}
-use Rattle.memory.specs.declared.Counts.{Counts}
+use Rattle.memory.specs.declared.Group.{Group}
 use Rattle.memory.specs.declared.Txn.{Txn}
 use Rattle.memory.specs.Memory.{Memory, withReadOnly, withAborted, withTxns, withClasses}
 use Rattle.memory.specs.Rows.{closed, freeRow, rowAt, writeCount, itemsOf, indexOf, countBelow}
@@ -33,7 +33,7 @@ unfolding beginAt
 begin-frame m p =
     let r = freeRow (m .txns .table) in
     record {
-      kept = record { turn = refl; store = refl; blocks = refl };
+      kept = record { group = refl; turn = refl; store = refl; blocks = refl };
       queue = refl;
       items = refl;
       writes = refl;
@@ -44,7 +44,7 @@ begin-frame m p =
 
 begin-same : (m : Memory) → BeginFrame m m
 begin-same m = record {
-  kept = record { turn = refl; store = refl; blocks = refl };
+  kept = record { group = refl; turn = refl; store = refl; blocks = refl };
   queue = refl;
   items = refl;
   writes = refl;
@@ -64,7 +64,7 @@ written-frame : (m : Memory) (r aborted : ℕ) (table : List Txn) (items : List 
     → ((i : ℕ) → (i ≡ r → ⊥) → rowAt table i ≡ rowAt (m .txns .table) i)
     → SameBut 0 (8 * r) 8 (m .txns .items) items → SameBut (pos 0) (8 * r) 8 (m .txns .writes) writes → WriteFrame m (written m aborted table items writes) r
 written-frame m r aborted table items writes t i w = record {
-  kept = record { turn = refl; store = refl; blocks = refl };
+  kept = record { group = refl; turn = refl; store = refl; blocks = refl };
   queue = refl;
   snapshots = refl;
   rows = t;
@@ -116,7 +116,7 @@ asked m readOnly table queue =
 asked-frame : (m : Memory) (r readOnly : ℕ) (table : List Txn) (queue : List ℕ) → ((i : ℕ) → (i ≡ r → ⊥) → rowAt table i ≡ rowAt (m .txns .table) i)
     → SameBut 0 (indexOf 0 (m .txns .queue)) 1 (m .txns .queue) queue → AskFrame m (asked m readOnly table queue) r
 asked-frame m r readOnly table queue t q = record {
-  kept = record { turn = refl; store = refl; blocks = refl };
+  kept = record { group = refl; turn = refl; store = refl; blocks = refl };
   items = refl;
   writes = refl;
   snapshots = refl;
@@ -141,7 +141,7 @@ ask-same m r = asked-frame m r (m .counts .«read_only») (m .txns .table) (m .t
 withdraw-frame : (m : Memory) (r : ℕ) → WithdrawFrame m (withdrawAt m r .memory) r
 unfolding withdrawAt
 withdraw-frame m r = record {
-  kept = record { turn = refl; store = refl; blocks = refl };
+  kept = record { group = refl; turn = refl; store = refl; blocks = refl };
   queue = refl;
   items = refl;
   writes = refl;
@@ -152,7 +152,7 @@ withdraw-frame m r = record {
 
 withdraw-same : (m : Memory) (r : ℕ) → WithdrawFrame m m r
 withdraw-same m r = record {
-  kept = record { turn = refl; store = refl; blocks = refl };
+  kept = record { group = refl; turn = refl; store = refl; blocks = refl };
   queue = refl;
   items = refl;
   writes = refl;
@@ -168,6 +168,7 @@ unfolding sendNow
 send-frame m =
     let row = sent-row (m .txns .table) in
     record {
+      group = refl;
       slot = refl;
       applying = refl;
       counts = refl;
@@ -183,6 +184,7 @@ send-frame m =
 
 send-same : (m : Memory) → SendFrame m m
 send-same m = record {
+  group = refl;
   slot = refl;
   applying = refl;
   counts = refl;
@@ -199,7 +201,7 @@ send-same m = record {
 deliver-frame : (m : Memory) (b : List ℕ) → DeliverPassed m b → DeliverFrame m (deliverNow m b .memory) (headerOf b .slot)
 unfolding deliverNow placeStart
 deliver-frame m b p =
-    let r = m .counts .replicas in
+    let r = m .group .replicas in
     let s = headerOf b .slot in
     let some = taken-block b (p .taken) .replicas in
     record {
@@ -237,15 +239,18 @@ frames = record {
   loads = λ m l. load-by (λ o. o .memory ≡ withClasses m (o .memory .store .classes)) m l (λ e. refl) (λ e. refl);
 }
 
--- no call changes the replica's number
-pub own-same : (m : Memory) (c : Call) → step m c .memory .counts .own ≡ m .counts .own
-own-same m begin = ap (λ (x : Counts). x .own) (frames .begins m .counts)
-own-same m (read t i) = ap (λ (x : Memory). x .counts .own) (frames .reads m t i)
-own-same m (write t i v) = ap (λ (x : Counts). x .own) (frames .writes m t i v .counts)
-own-same m (ask t) = ap (λ (x : Counts). x .own) (frames .asks m t .counts)
-own-same m (withdraw t) = ap (λ (x : Counts). x .own) (frames .withdraws m t .counts)
-own-same m report = ap (λ (x : Memory). x .counts .own) (frames .reports m)
-own-same m (send b) = ap (λ (x : Counts). x .own) (frames .sends m b .counts)
-own-same m (deliver b) = ap (λ (x : Memory). x .counts .own) (frames .delivers m b .rest)
-own-same m work = frames .works m .own
-own-same m (load l) = ap (λ (x : Memory). x .counts .own) (frames .loads m l)
+-- no call changes what a replica knows of its group
+pub group-same : (m : Memory) (c : Call) → step m c .memory .group ≡ m .group
+group-same m begin = frames .begins m .kept .group
+group-same m (read t i) = ap (λ (x : Memory). x .group) (frames .reads m t i)
+group-same m (write t i v) = frames .writes m t i v .kept .group
+group-same m (ask t) = frames .asks m t .kept .group
+group-same m (withdraw t) = frames .withdraws m t .kept .group
+group-same m report = ap (λ (x : Memory). x .group) (frames .reports m)
+group-same m (send b) = frames .sends m b .group
+group-same m (deliver b) = ap (λ (x : Memory). x .group) (frames .delivers m b .rest)
+group-same m work = frames .works m .group
+group-same m (load l) = ap (λ (x : Memory). x .group) (frames .loads m l)
+
+pub own-same : (m : Memory) (c : Call) → step m c .memory .group .own ≡ m .group .own
+own-same m c = ap (λ (g : Group). g .own) (group-same m c)

@@ -26,7 +26,7 @@ use Rattle.engine.proofs.Queues.{Ordered, ordered, made-empty, restarte
 record Follows (h : History) (m : Memory) : Type 0 where
   shape : Shape (h .over) m
   sent : SentShape m
-  own : m .counts .own ≡ h .own
+  own : m .group .own ≡ h .own
   numbers : kept m ≡ h .tally
   queue : waiting (m .txns .queue) ≡ h .asked
 

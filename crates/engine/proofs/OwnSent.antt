@@ -36,12 +36,12 @@ use Rattle.engine.proofs.Numbered.{write-lacks}
 
 record Own (m : Memory) : Type 0 where
   kind : getD (blockAtTurn m) 0 0 ≡ 1 → ⊥
-  mine : getD (blockAtTurn m) 1 0 ≡ m .counts .own
+  mine : getD (blockAtTurn m) 1 0 ≡ m .group .own
 
 own : (m : Memory) → meetsOwn m ≡ true → Own m
 own m e =
     let c = both _ _ e in
-    record { kind = eqb-false (getD (blockAtTurn m) 0 0) 1 (not-true _ (c .left)); mine = eqb-true (getD (blockAtTurn m) 1 0) (m .counts .own) (c .right) }
+    record { kind = eqb-false (getD (blockAtTurn m) 0 0) 1 (not-true _ (c .left)); mine = eqb-true (getD (blockAtTurn m) 1 0) (m .group .own) (c .right) }
 
 -- ---- on a list of calls
 
@@ -50,15 +50,15 @@ sent-met m S Q waits e = let o = own m e in own-sent m S Q waits (o .kind) (o .m
 
 -- ---- on any memory
 
-none-appended : (m : Memory) → eqb (getD (blockAtTurn m) 1 0) (m .counts .own) ≡ true → appending m (isLast m) ≡ []
+none-appended : (m : Memory) → eqb (getD (blockAtTurn m) 1 0) (m .group .own) ≡ true → appending m (isLast m) ≡ []
 none-appended m h = cond-by (λ (l : List ℕ). l ≡ []) (isLast m) (λ e. rw h) (λ e. refl)
 
-nobody : (m : Memory) → getD (blockAtTurn m) 1 0 ≡ m .counts .own → isSent m (writesetMet m .ticket) ≡ false → EndsNobody m (commitWriteset m true (writesetMet m))
+nobody : (m : Memory) → getD (blockAtTurn m) 1 0 ≡ m .group .own → isSent m (writesetMet m .ticket) ≡ false → EndsNobody m (commitWriteset m true (writesetMet m))
 unfolding commitWriteset
 nobody m o u =
     let ends = ends-own (m .txns .table) (writesetMet m .ticket) in
     record {
-      answer = rw (none-appended m (eq-eqb (getD (blockAtTurn m) 1 0) (m .counts .own) o), o) refl;
+      answer = rw (none-appended m (eq-eqb (getD (blockAtTurn m) 1 0) (m .group .own) o), o) refl;
       commits = refl;
       values = refl;
       stamps = refl;
@@ -77,7 +77,7 @@ ends-nobody m lent waits e u =
     let z : workRefusal m ≡ 0 = rw (lent, waits) refl in
     work-by (EndsNobody m) m
     (λ y k. absurd (o .kind k))
-    (λ y k. rw (eq-eqb (getD (blockAtTurn m) 1 0) (m .counts .own) (o .mine)) (nobody m (o .mine) u))
+    (λ y k. rw (eq-eqb (getD (blockAtTurn m) 1 0) (m .group .own) (o .mine)) (nobody m (o .mine) u))
     (λ y. absurd (y z))
 
 -- ---- 22

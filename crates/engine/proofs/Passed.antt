@@ -112,7 +112,7 @@ withdraw-passed m t e =
 
 pub record SendPassed (m : Memory) : Type 0 where
   pub slot : m .turn .slot < maxSlots
-  pub owner : ownerOf (m .counts .replicas) (m .turn .slot) ≡ m .counts .own
+  pub owner : ownerOf (m .group .replicas) (m .turn .slot) ≡ m .group .own
   pub unsent : sentAlready m ≡ false
 
 pub send-passed : (m : Memory) (b : List ℕ) → sendRefusal m b ≡ 0 → SendPassed m
@@ -127,15 +127,15 @@ send-passed m b e =
 -- ---- deliver
 
 pub record DeliverPassed (m : Memory) (b : List ℕ) : Type 0 where
-  pub places : length (m .blocks .places) ≡ 512 * m .counts .replicas
+  pub places : length (m .blocks .places) ≡ 512 * m .group .replicas
   pub long : length b ≡ 512
   pub taken : blockRefusal b ≡ 0
-  pub replicas : headerOf b .replicas ≡ m .counts .replicas
+  pub replicas : headerOf b .replicas ≡ m .group .replicas
   pub low : m .turn .slot ≤ headerOf b .slot
-  pub high : headerOf b .slot < m .turn .slot + m .counts .replicas
+  pub high : headerOf b .slot < m .turn .slot + m .group .replicas
   -- an own block is the one sent, byte for byte
-  pub own : headerOf b .sender ≡ m .counts .own → (sentAlready m ≡ true) × (sameBytes b (m .blocks .outbox) ≡ true)
-  pub empty : isEmpty (m .counts .replicas) (headerOf b .slot) (m .blocks .places) ≡ true
+  pub own : headerOf b .sender ≡ m .group .own → (sentAlready m ≡ true) × (sameBytes b (m .blocks .outbox) ≡ true)
+  pub empty : isEmpty (m .group .replicas) (headerOf b .slot) (m .blocks .places) ≡ true
 
 only-right : (a b : Bool) → a && not b ≡ false → a ≡ true → b ≡ true
 only-right true b h e = not-false b h
@@ -168,14 +168,14 @@ deliver-passed m b e =
       replicas = eqb-true _ _ (not-false _ (s .0));
       low = ltb-false _ _ (t .0);
       high = leb-false _ _ (u .0);
-      own = λ q. own-block m b (only-right _ (isOwnBlock m b) (v .0) (eq-eqb (headerOf b .sender) (m .counts .own) q));
+      own = λ q. own-block m b (only-right _ (isOwnBlock m b) (v .0) (eq-eqb (headerOf b .sender) (m .group .own) q));
       empty = not-false _ (w .0);
     }
 
 -- ---- work
 
 -- a block waits at the turn
-pub work-passed : (m : Memory) → workRefusal m ≡ 0 → isEmpty (m .counts .replicas) (m .turn .slot) (m .blocks .places) ≡ false
+pub work-passed : (m : Memory) → workRefusal m ≡ 0 → isEmpty (m .group .replicas) (m .turn .slot) (m .blocks .places) ≡ false
 unfolding workRefusal
 work-passed m e = passes _ _ refl (passes _ _ refl e .1) .0
 

@@ -32,11 +32,11 @@ pub record Reached (m : Memory) : Type 0 where
   pub replica : isStation m ≡ false
 
 -- a number below N, which is at most 6, is one
-pub numbered : (m : Memory) (n own : ℕ) → m .counts .own ≡ own → own < n → n ≤ 6 → isStation m ≡ false
-numbered m n own e o h = ne-eqb (m .counts .own) 255 (λ z. omega arith)
+pub numbered : (m : Memory) (n own : ℕ) → m .group .own ≡ own → own < n → n ≤ 6 → isStation m ≡ false
+numbered m n own e o h = ne-eqb (m .group .own) 255 (λ z. omega arith)
 
 -- calls alone leave the number
-pub own-after : (m : Memory) (cs : List Call) → after m cs .counts .own ≡ m .counts .own
+pub own-after : (m : Memory) (cs : List Call) → after m cs .group .own ≡ m .group .own
 unfolding after
 own-after m [] = refl
 own-after m (c ∷ cs) = own-after (step m c .memory) cs ∙ own-same m c

@@ -54,8 +54,8 @@ kept m = record {
 
 -- the numbers that the outcome keeps are those from before with its answer counted, and the replica's number stays
 pub record Counted (m : Memory) (o : Outcome) : Type 0 where
-  pub numbers : kept (o .memory) ≡ counted (m .counts .own) (kept m) (o .answer)
-  pub own : o .memory .counts .own ≡ m .counts .own
+  pub numbers : kept (o .memory) ≡ counted (m .group .own) (kept m) (o .answer)
+  pub own : o .memory .group .own ≡ m .group .own
 
 -- ---- each thing that a call may do
 
@@ -99,11 +99,11 @@ few-gone m s false es = omega (arith, s .ranges .endings, s .ranges .repeats, s 
 
 -- the replica's own ends its transaction
 commit-counted : {over : ℕ} (m : Memory) → Shape over m → Working m → (w : Record) → 1 ≤ w .ticket →
-    let mine = eqb (getD (blockAtTurn m) 1 0) (m .counts .own) in
+    let mine = eqb (getD (blockAtTurn m) 1 0) (m .group .own) in
     endsOwn mine (m .txns .table) (w .ticket) ≡ mine → Counted m (commitWriteset m mine w)
 unfolding kept counted commitWriteset
 commit-counted m s k w h ends =
-    let mine = eqb (getD (blockAtTurn m) 1 0) (m .counts .own) in
+    let mine = eqb (getD (blockAtTurn m) 1 0) (m .group .own) in
     record {
       numbers = rw (
         ends,
@@ -173,7 +173,7 @@ report-from {over} m s =
     let active : openCount (m .txns .table) ≡ m .counts .tickets + over - a = omega arith in
     rw active
 
-pub made-own : (n own : ℕ) (values : List ℤ) → madeMemory n own values .counts .own ≡ own
+pub made-own : (n own : ℕ) (values : List ℤ) → madeMemory n own values .group .own ≡ own
 unfolding madeMemory
 made-own n own values = refl
 
@@ -181,7 +181,7 @@ pub made-kept : (n own : ℕ) (values : List ℤ) → kept (madeMemory n own val
 unfolding madeMemory kept
 made-kept n own values = refl
 
-pub tally-kept : (own : ℕ) {over : ℕ} (m : Memory) → Shape over m → SentShape m → m .counts .own ≡ own → (cs : List Call) → kept (after m cs) ≡ tally own (kept m) m cs
+pub tally-kept : (own : ℕ) {over : ℕ} (m : Memory) → Shape over m → SentShape m → m .group .own ≡ own → (cs : List Call) → kept (after m cs) ≡ tally own (kept m) m cs
 unfolding after tally
 tally-kept own m s Q e [] = refl
 tally-kept own m s Q e (c ∷ cs) =
@@ -189,7 +189,7 @@ tally-kept own m s Q e (c ∷ cs) =
     tally-kept own (step m c .memory) (shapes .each m s c) (sent-shapes .each m s Q c) (k .own ∙ e) cs
     ∙ ap (λ (t : Tally). tally own t (step m c .memory) cs) (k .numbers ∙ ap (λ (n : ℕ). counted n (kept m) (step m c .answer)) e)
 
-pub restarted-own : (n own : ℕ) (values : List ℤ) (bs : List (List ℕ)) → restartedMemory n own values bs .counts .own ≡ own
+pub restarted-own : (n own : ℕ) (values : List ℤ) (bs : List (List ℕ)) → restartedMemory n own values bs .group .own ≡ own
 unfolding restartedMemory
 restarted-own n own values bs = refl
 

@@ -95,6 +95,6 @@ pub aborted-rise : {over : ℕ} (m : Memory) → Shape over m → Rises (aborted
 unfolding passNext commitWriteset Rises
 aborted-rise m S =
     work-by (λ (o : Outcome). Rises (abortedBy (o .answer))) m (λ e k. tt)
-    (λ e k. cond-by Rises (eqb (getD (blockAtTurn m) 1 0) (m .counts .own)) (λ q. tt)
+    (λ e k. cond-by Rises (eqb (getD (blockAtTurn m) 1 0) (m .group .own)) (λ q. tt)
     (λ q. hit-rises _ (m .txns .items) 0 (m .txns .table) (λ i j h u. S .distinct i j (omega (arith, S .lengths .table)) (omega (arith, S .lengths .table)))))
     (λ e. tt)

@@ -32,7 +32,7 @@ use Rattle.engine.proofs.SentWork.{sent-next, sent-committed}
 -- ---- the start
 
 -- nothing is sent, no block waits, no row is open
-start : (m : Memory) → sentAlready m ≡ false → ((s : ℕ) → isEmpty (m .counts .replicas) s (m .blocks .places) ≡ true)
+start : (m : Memory) → sentAlready m ≡ false → ((s : ℕ) → isEmpty (m .group .replicas) s (m .blocks .places) ≡ true)
     → ((r : ℕ) → r < 6 → rowAt (m .txns .table) r ≡ closed) → SentShape m
 start m off none shut = record {
   turn = λ t. clash t off;

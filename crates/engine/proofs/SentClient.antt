@@ -25,32 +25,19 @@ use Rattle.engine.proofs.Frames.{frames}
 use Rattle.engine.proofs.Shapes.{shapes}
 use Rattle.engine.proofs.SentLaws.{sent-found, stays-sent}
 
--- what a client's call leaves of the counts
-record Placed (m n : Memory) : Type 0 where
-  replicas : n .counts .replicas ≡ m .counts .replicas
-  own : n .counts .own ≡ m .counts .own
-  done : n .counts .done ≡ m .counts .done
-
-placed : (m n : Memory) (c : Counts) → n .counts ≡ c → c .replicas ≡ m .counts .replicas → c .own ≡ m .counts .own → c .done ≡ m .counts .done → Placed m n
-placed m n c e r o d = record {
-  replicas = ap (λ (x : Counts). x .replicas) e ∙ r;
-  own = ap (λ (x : Counts). x .own) e ∙ o;
-  done = ap (λ (x : Counts). x .done) e ∙ d;
-}
-
 -- row r, which is not sent, becomes another that is not
-client : {over : ℕ} (m n : Memory) → Shape over m → Shape over n → SentShape m → TurnKept m n → Placed m n → (r : ℕ) → RowsBut m n r
+client : {over : ℕ} (m n : Memory) → Shape over m → Shape over n → SentShape m → TurnKept m n → n .counts .done ≡ m .counts .done → (r : ℕ) → RowsBut m n r
     → (rowAt (m .txns .table) r .stage ≡ 2 → ⊥) → (rowAt (n .txns .table) r .stage ≡ 2 → ⊥) → SentShape n
-client m n S T Q k c r rows old new = record {
-  turn = rw (k .turn, c .replicas, c .own) (Q .turn);
-  own = rw (k .turn, k .blocks, c .replicas, c .own) (Q .own);
+client m n S T Q k d r rows old new = record {
+  turn = rw (k .turn, k .group) (Q .turn);
+  own = rw (k .turn, k .blocks, k .group) (Q .own);
   once = rw (k .turn, k .blocks) (Q .once);
-  live = rw (k .turn, k .blocks, c .done) (λ e j h l.
+  live = rw (k .turn, k .blocks, d) (λ e j h l.
       let s = Q .live e j h l in
       stays-sent m n S T (sentTicket m j) s (rows _ (λ q. old (rw q at (sent-found m (sentTicket m j) s .stage)))));
   only = λ i h s. same-by i r
       (λ e. absurd (new (rw e at s)))
-      (λ d. rw (k .turn, k .blocks, c .done, rows i d) (Q .only i h (rw (rows i d) at s)));
+      (λ o. rw (k .turn, k .blocks, d, rows i o) (Q .only i h (rw (rows i o) at s)));
 }
 
 set-stage : (l : List Txn) (r : ℕ) (t : Txn) → (t .stage ≡ 2 → ⊥) → rowAt (set l r t) r .stage ≡ 2 → ⊥
@@ -73,7 +60,7 @@ module _ {over : ℕ} (m : Memory) (S : Shape over m) (Q : SentShape m) where
       (λ e T f.
       let p = begin-passed m e .row in
       let z = ap (λ (x : Txn). x .stage) (S .rows r p .free (free-found (m .txns .table) (S .lengths .table) p)) in
-      client m _ S T Q (f .kept) (placed m _ _ (f .counts) refl refl refl) r (f .rows) (λ q. omega arith) (set-stage (m .txns .table) r _ (λ q. omega arith)))
+      client m _ S T Q (f .kept) (ap (λ (c : Counts). c .done) (f .counts)) r (f .rows) (λ q. omega arith) (set-stage (m .txns .table) r _ (λ q. omega arith)))
       (λ e T f. Q) (shapes .each m S begin) (frames .begins m)
 
   pub sent-write : (t i : ℕ) (v : ℤ) → SentShape (step m (write t i v) .memory)
@@ -81,13 +68,13 @@ module _ {over : ℕ} (m : Memory) (S : Shape over m) (Q : SentShape m) where
   sent-write t i v =
       let r = rowNo m t in
       write-by (λ (o : Outcome). Shape over (o .memory) → WriteFrame m (o .memory) (rowNo m t) → SentShape (o .memory)) m t i v
-      (λ e T f. client m _ S T Q (f .kept) (placed m _ _ (f .counts) refl refl refl) r (f .rows) (active t (stale-passed m t i e)) (closed-stage (m .txns .table) r))
+      (λ e T f. client m _ S T Q (f .kept) (ap (λ (c : Counts). c .done) (f .counts)) r (f .rows) (active t (stale-passed m t i e)) (closed-stage (m .txns .table) r))
       (λ e o T f.
       let a = active t (write-passed m t i e .own) in
-      client m _ S T Q (f .kept) (placed m _ _ (f .counts) refl refl refl) r (f .rows) a a)
+      client m _ S T Q (f .kept) (ap (λ (c : Counts). c .done) (f .counts)) r (f .rows) a a)
       (λ e o T f.
       let a = active t (write-passed m t i e .own) in
-      client m _ S T Q (f .kept) (placed m _ _ (f .counts) refl refl refl) r (f .rows) a (set-stage (m .txns .table) r _ a))
+      client m _ S T Q (f .kept) (ap (λ (c : Counts). c .done) (f .counts)) r (f .rows) a (set-stage (m .txns .table) r _ a))
       (λ n k e T f. Q) (shapes .each m S (write t i v)) (frames .writes m t i v)
 
   pub sent-ask : (t : ℕ) → SentShape (step m (ask t) .memory)
@@ -95,9 +82,9 @@ module _ {over : ℕ} (m : Memory) (S : Shape over m) (Q : SentShape m) where
   sent-ask t =
       let r = rowNo m t in
       ask-by (λ (o : Outcome). Shape over (o .memory) → AskFrame m (o .memory) (rowNo m t) → SentShape (o .memory)) m t
-      (λ e T f. client m _ S T Q (f .kept) (placed m _ _ (f .counts) refl refl refl) r (f .rows) (active t (ask-passed m t e)) (closed-stage (m .txns .table) r))
+      (λ e T f. client m _ S T Q (f .kept) (ap (λ (c : Counts). c .done) (f .counts)) r (f .rows) (active t (ask-passed m t e)) (closed-stage (m .txns .table) r))
       (λ e d T f.
-      client m _ S T Q (f .kept) (placed m _ _ (f .counts) refl refl refl) r (f .rows) (active t (ask-passed m t e)) (set-stage (m .txns .table) r _ (λ q. omega arith)))
+      client m _ S T Q (f .kept) (ap (λ (c : Counts). c .done) (f .counts)) r (f .rows) (active t (ask-passed m t e)) (set-stage (m .txns .table) r _ (λ q. omega arith)))
       (λ e T f. Q) (shapes .each m S (ask t)) (frames .asks m t)
 
   pub sent-withdraw : (t : ℕ) → SentShape (step m (withdraw t) .memory)
@@ -105,5 +92,5 @@ module _ {over : ℕ} (m : Memory) (S : Shape over m) (Q : SentShape m) where
   sent-withdraw t =
       let r = rowNo m t in
       withdraw-by (λ (o : Outcome). Shape over (o .memory) → WithdrawFrame m (o .memory) (rowNo m t) → SentShape (o .memory)) m t
-      (λ e T f. client m _ S T Q (f .kept) (placed m _ _ (f .counts) refl refl refl) r (f .rows) (active t (withdraw-passed m t e)) (closed-stage (m .txns .table) r))
+      (λ e T f. client m _ S T Q (f .kept) (ap (λ (c : Counts). c .done) (f .counts)) r (f .rows) (active t (withdraw-passed m t e)) (closed-stage (m .txns .table) r))
       (λ e T f. Q) (shapes .each m S (withdraw t)) (frames .withdraws m t)

@@ -77,7 +77,7 @@ module _ {over : ℕ} (m : Memory) (S : Shape over m) (Q : SentShape m) (p : Sen
 
 module _ {over : ℕ} (m : Memory) (bytes : List ℕ) (S : Shape over m) (Q : SentShape m) (k : DeliverPassed m bytes) where
   -- its sender is the owner of its slot
-  sender : (s : ℕ) → s ≡ headerOf bytes .slot → ownerOf (m .counts .replicas) s ≡ m .counts .own → headerOf bytes .sender ≡ m .counts .own
+  sender : (s : ℕ) → s ≡ headerOf bytes .slot → ownerOf (m .group .replicas) s ≡ m .group .own → headerOf bytes .sender ≡ m .group .own
   unfolding headerOf
   sender s z o = taken-block bytes (k .taken) .sender ∙ rw (k .replicas, ← z) o
 
@@ -89,7 +89,7 @@ module _ {over : ℕ} (m : Memory) (bytes : List ℕ) (S : Shape over m) (Q : Se
         (λ z. let h = k .own (sender s z o) in
         (h .0, rw (z, delivered.same m bytes S k) (same-bytes bytes (m .blocks .outbox) (h .1))))
         (λ d. let b = delivered.beside m bytes S k s l u d in
-        let a = Q .own s l u (sym (empty-same (m .counts .replicas) s _ (m .blocks .places) b) ∙ w) o in
+        let a = Q .own s l u (sym (empty-same (m .group .replicas) s _ (m .blocks .places) b) ∙ w) o in
         (a .0, b ∙ a .1));
     once = Q .once;
     live = Q .live;

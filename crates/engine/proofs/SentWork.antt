@@ -31,35 +31,35 @@ use Rattle.engine.proofs.WorkFrame.{SameOrClosed, aborts-closed}
 
 -- ---- the block at the turn
 
-module _ {over : ℕ} (m : Memory) (S : Shape over m) (Q : SentShape m) (waits : isEmpty (m .counts .replicas) (m .turn .slot) (m .blocks .places) ≡ false) where
-  taken : (blockRefusal (blockAtTurn m) ≡ 0) × (headerOf (blockAtTurn m) .slot ≡ m .turn .slot) × (headerOf (blockAtTurn m) .replicas ≡ m .counts .replicas)
+module _ {over : ℕ} (m : Memory) (S : Shape over m) (Q : SentShape m) (waits : isEmpty (m .group .replicas) (m .turn .slot) (m .blocks .places) ≡ false) where
+  taken : (blockRefusal (blockAtTurn m) ≡ 0) × (headerOf (blockAtTurn m) .slot ≡ m .turn .slot) × (headerOf (blockAtTurn m) .replicas ≡ m .group .replicas)
   taken = S .places .waits (m .turn .slot) (omega arith) (omega (arith, S .ranges .least)) waits
 
   pub facts : TakenBlock (blockAtTurn m)
   facts = taken-block (blockAtTurn m) (taken .0)
 
   -- its sender is the owner of the turn's slot
-  pub sender-owns : getD (blockAtTurn m) 1 0 ≡ ownerOf (m .counts .replicas) (m .turn .slot)
+  pub sender-owns : getD (blockAtTurn m) 1 0 ≡ ownerOf (m .group .replicas) (m .turn .slot)
   sender-owns = facts .sender ∙ rw (taken .1, taken .2)
 
   -- this replica's is the one sent
-  pub is-outbox : ownerOf (m .counts .replicas) (m .turn .slot) ≡ m .counts .own → (sentAlready m ≡ true) × (blockAtTurn m ≡ m .blocks .outbox)
+  pub is-outbox : ownerOf (m .group .replicas) (m .turn .slot) ≡ m .group .own → (sentAlready m ≡ true) × (blockAtTurn m ≡ m .blocks .outbox)
   is-outbox o = Q .own (m .turn .slot) (omega arith) (omega (arith, S .ranges .least)) waits o
 
   -- and its writeset to commit next is open as sent: a work ends its transaction
   module _ (kind : getD (blockAtTurn m) 0 0 ≡ 1 → ⊥) where
-    pub own-sent : getD (blockAtTurn m) 1 0 ≡ m .counts .own → isSent m (writesetAt (blockAtTurn m) (m .counts .done) .ticket) ≡ true
+    pub own-sent : getD (blockAtTurn m) 1 0 ≡ m .group .own → isSent m (writesetAt (blockAtTurn m) (m .counts .done) .ticket) ≡ true
     own-sent mine =
         let o = is-outbox (sym sender-owns ∙ mine) in
         let more : m .counts .done < getD (blockAtTurn m) 3 0 =
         same-by (m .counts .done) 0 (λ z. omega (arith, facts .some kind)) (λ z. S .places .done (omega (arith, z)) .1) in
         rw (o .1) (Q .live (o .0) (m .counts .done) (omega arith) (rw (o .1) at more))
 
-    pub own-ends : let mine = eqb (getD (blockAtTurn m) 1 0) (m .counts .own) in endsOwn mine (m .txns .table) (writesetAt (blockAtTurn m) (m .counts .done) .ticket) ≡ mine
-    own-ends = go (eqb (getD (blockAtTurn m) 1 0) (m .counts .own)) refl
+    pub own-ends : let mine = eqb (getD (blockAtTurn m) 1 0) (m .group .own) in endsOwn mine (m .txns .table) (writesetAt (blockAtTurn m) (m .counts .done) .ticket) ≡ mine
+    own-ends = go (eqb (getD (blockAtTurn m) 1 0) (m .group .own)) refl
       where
-        go : (mine : Bool) → eqb (getD (blockAtTurn m) 1 0) (m .counts .own) ≡ mine → endsOwn mine (m .txns .table) (writesetAt (blockAtTurn m) (m .counts .done) .ticket) ≡ mine
-        go true e = ends-own (m .txns .table) (writesetAt (blockAtTurn m) (m .counts .done) .ticket) ∙ own-sent (eqb-true (getD (blockAtTurn m) 1 0) (m .counts .own) e)
+        go : (mine : Bool) → eqb (getD (blockAtTurn m) 1 0) (m .group .own) ≡ mine → endsOwn mine (m .txns .table) (writesetAt (blockAtTurn m) (m .counts .done) .ticket) ≡ mine
+        go true e = ends-own (m .txns .table) (writesetAt (blockAtTurn m) (m .counts .done) .ticket) ∙ own-sent (eqb-true (getD (blockAtTurn m) 1 0) (m .group .own) e)
         go false e = ends-other (m .txns .table) (writesetAt (blockAtTurn m) (m .counts .done) .ticket)
 
 -- ---- after it
@@ -70,8 +70,8 @@ unfolding ownerOf
 round n own a b h p q = next-round n a b (p ∙ sym q) h
 
 -- the turn went up: the block sent is done with, and no row is sent
-turned : {over : ℕ} (m k : Memory) → Shape over m → Working m → SentShape m → k .counts .replicas ≡ m .counts .replicas → k .counts .own ≡ m .counts .own
-    → k .turn .slot ≡ suc (m .turn .slot) → sentAlready k ≡ false → k .blocks .places ≡ emptied (m .counts .replicas) (m .turn .slot) (m .blocks .places)
+turned : {over : ℕ} (m k : Memory) → Shape over m → Working m → SentShape m → k .group .replicas ≡ m .group .replicas → k .group .own ≡ m .group .own
+    → k .turn .slot ≡ suc (m .turn .slot) → sentAlready k ≡ false → k .blocks .places ≡ emptied (m .group .replicas) (m .turn .slot) (m .blocks .places)
     → ((r : ℕ) → r < 6 → rowAt (k .txns .table) r .stage ≡ 2 → ⊥) → SentShape k
 turned m k S w Q a b c d e none = record {
   turn = λ t. clash t d;
@@ -81,19 +81,19 @@ turned m k S w Q a b c d e none = record {
   only = λ r h s. absurd (none r h s);
 }
   where
-    no-other : (s : ℕ) → suc (m .turn .slot) ≤ s → s < suc (m .turn .slot) + m .counts .replicas
-        → isEmpty (m .counts .replicas) s (emptied (m .counts .replicas) (m .turn .slot) (m .blocks .places)) ≡ false
-        → ownerOf (m .counts .replicas) s ≡ m .counts .own → ⊥
+    no-other : (s : ℕ) → suc (m .turn .slot) ≤ s → s < suc (m .turn .slot) + m .group .replicas
+        → isEmpty (m .group .replicas) s (emptied (m .group .replicas) (m .turn .slot) (m .blocks .places)) ≡ false
+        → ownerOf (m .group .replicas) s ≡ m .group .own → ⊥
     no-other s l u v o =
-        same-by s (m .turn .slot + m .counts .replicas)
+        same-by s (m .turn .slot + m .group .replicas)
         (λ z. clash (again m S w) (rw z at v))
         (λ z. let f = beside m S w s l (omega (arith, z)) in
-        let y = Q .own s (omega arith) (omega (arith, z)) (sym (empty-same (m .counts .replicas) s _ (m .blocks .places) f) ∙ v) o in
-        let x = round (m .counts .replicas) (m .counts .own) (m .turn .slot) s l (Q .turn (y .0)) o in
+        let y = Q .own s (omega arith) (omega (arith, z)) (sym (empty-same (m .group .replicas) s _ (m .blocks .places) f) ∙ v) o in
+        let x = round (m .group .replicas) (m .group .own) (m .turn .slot) s l (Q .turn (y .0)) o in
         omega (arith, z))
 
 -- the mark is off, and stays off
-off : (m k : Memory) → SentShape m → sentAlready m ≡ false → k .counts .replicas ≡ m .counts .replicas → k .counts .own ≡ m .counts .own
+off : (m k : Memory) → SentShape m → sentAlready m ≡ false → k .group .replicas ≡ m .group .replicas → k .group .own ≡ m .group .own
     → k .turn .slot ≡ m .turn .slot → sentAlready k ≡ false → k .blocks .places ≡ m .blocks .places
     → ((r : ℕ) → r < 6 → rowAt (k .txns .table) r .stage ≡ 2 → ⊥) → SentShape k
 off m k Q z a b c d e none = record {
@@ -141,7 +141,7 @@ module _ {over : ℕ} (m : Memory) (S : Shape over m) (w : Working m) (Q : SentS
   row = rowOf (this .ticket) (m .txns .table)
 
   -- the replica's own: its row alone is closed
-  module _ (mine : getD (blockAtTurn m) 1 0 ≡ m .counts .own) where
+  module _ (mine : getD (blockAtTurn m) 1 0 ≡ m .group .own) where
     at-turn : (sentAlready m ≡ true) × (blockAtTurn m ≡ m .blocks .outbox)
     at-turn = is-outbox m S Q (w .waits) (sym (sender-owns m S Q (w .waits)) ∙ mine)
 
@@ -198,7 +198,7 @@ module _ {over : ℕ} (m : Memory) (S : Shape over m) (w : Working m) (Q : SentS
     }
 
   -- another's: no row is sent
-  module _ (mine : getD (blockAtTurn m) 1 0 ≡ m .counts .own → ⊥) where
+  module _ (mine : getD (blockAtTurn m) 1 0 ≡ m .group .own → ⊥) where
     unsent : sentAlready m ≡ false
     unsent = not-so (sentAlready m) (λ t. mine (sender-owns m S Q (w .waits) ∙ Q .turn t))
 
@@ -211,14 +211,14 @@ module _ {over : ℕ} (m : Memory) (S : Shape over m) (w : Working m) (Q : SentS
     other-more : SentShape (committed m false false false this)
     other-more = off m (committed m false false false this) Q unsent refl refl refl unsent refl none
 
-  by-both : (mine last : Bool) → eqb (getD (blockAtTurn m) 1 0) (m .counts .own) ≡ mine → isLast m ≡ last → Shape over (committed m mine mine last this)
+  by-both : (mine last : Bool) → eqb (getD (blockAtTurn m) 1 0) (m .group .own) ≡ mine → isLast m ≡ last → Shape over (committed m mine mine last this)
       → SentShape (committed m mine mine last this)
-  by-both true true e l T = mine-last (eqb-true (getD (blockAtTurn m) 1 0) (m .counts .own) e) l
-  by-both true false e l T = mine-more (eqb-true (getD (blockAtTurn m) 1 0) (m .counts .own) e) T
-  by-both false true e l T = other-last (eqb-false (getD (blockAtTurn m) 1 0) (m .counts .own) e)
-  by-both false false e l T = other-more (eqb-false (getD (blockAtTurn m) 1 0) (m .counts .own) e)
+  by-both true true e l T = mine-last (eqb-true (getD (blockAtTurn m) 1 0) (m .group .own) e) l
+  by-both true false e l T = mine-more (eqb-true (getD (blockAtTurn m) 1 0) (m .group .own) e) T
+  by-both false true e l T = other-last (eqb-false (getD (blockAtTurn m) 1 0) (m .group .own) e)
+  by-both false false e l T = other-more (eqb-false (getD (blockAtTurn m) 1 0) (m .group .own) e)
 
-  pub sent-committed : Shape over (commitWriteset m (eqb (getD (blockAtTurn m) 1 0) (m .counts .own)) this .memory)
-      → SentShape (commitWriteset m (eqb (getD (blockAtTurn m) 1 0) (m .counts .own)) this .memory)
+  pub sent-committed : Shape over (commitWriteset m (eqb (getD (blockAtTurn m) 1 0) (m .group .own)) this .memory)
+      → SentShape (commitWriteset m (eqb (getD (blockAtTurn m) 1 0) (m .group .own)) this .memory)
   unfolding commitWriteset
-  sent-committed = rw (own-ends m S Q (w .waits) kind) (by-both (eqb (getD (blockAtTurn m) 1 0) (m .counts .own)) (isLast m) refl refl)
+  sent-committed = rw (own-ends m S Q (w .waits) kind) (by-both (eqb (getD (blockAtTurn m) 1 0) (m .group .own)) (isLast m) refl refl)

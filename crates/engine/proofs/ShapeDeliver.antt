@@ -18,7 +18,7 @@ use Rattle.engine.proofs.PlaceLaws.{place-fits, empty-same, block-kept,
 
 module _ {over : ℕ} (m : Memory) (bytes : List ℕ) (S : Shape over m) (k : DeliverPassed m bytes) where
   abbrev n : ℕ
-  n = m .counts .replicas
+  n = m .group .replicas
 
   abbrev old : List ℕ
   old = m .blocks .places

@@ -30,10 +30,9 @@ pub record Parts : Type 0 where
 
 abbrev pub changed : Memory → ℕ → Txn → Parts → Memory
 changed m r t p = record {
+  group = m .group;
   turn = m .turn;
   counts = record {
-    replicas = m .counts .replicas;
-    own = m .counts .own;
     commits = m .counts .commits;
     done = m .counts .done;
     tickets = p .tickets;

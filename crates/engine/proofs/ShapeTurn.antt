@@ -20,7 +20,7 @@ use Rattle.engine.proofs.Shaping.{shape-besides, bumps}
 -- ---- what an accepted work's tests say
 
 pub record Working (m : Memory) : Type 0 where
-  pub waits : isEmpty (m .counts .replicas) (m .turn .slot) (m .blocks .places) ≡ false
+  pub waits : isEmpty (m .group .replicas) (m .turn .slot) (m .blocks .places) ≡ false
   pub slot : m .turn .slot ≤ 99_999_999
   pub few : getD (blockAtTurn m) 3 0 ≤ 6
   pub next : getD (blockAtTurn m) 0 0 ≡ 1 → m .counts .done ≡ 0
@@ -52,7 +52,7 @@ working m S e =
 
 module _ {over : ℕ} (m : Memory) (S : Shape over m) (w : Working m) where
   abbrev n : ℕ
-  n = m .counts .replicas
+  n = m .group .replicas
 
   abbrev turn : ℕ
   turn = m .turn .slot
@@ -79,11 +79,11 @@ module _ {over : ℕ} (m : Memory) (S : Shape over m) (w : Working m) where
       rw b (S .places .waits s (omega arith) (omega (arith, d)) (sym (empty-same n s new old b) ∙ e)))
 
   -- the turn went up, and the place is empty
-  pub places-turned : (k : Memory) → k .counts .replicas ≡ n → k .turn .slot ≡ suc turn → k .counts .done ≡ 0 → k .blocks .places ≡ new → k .turn .applying ≡ 0 → PlaceShape k
+  pub places-turned : (k : Memory) → k .group .replicas ≡ n → k .turn .slot ≡ suc turn → k .counts .done ≡ 0 → k .blocks .places ≡ new → k .turn .applying ≡ 0 → PlaceShape k
   places-turned k a b c d o = record { waits = rw (a, b, d) waits-after; done = rw c (λ h. absurd (omega arith)); applying = rw o (λ e. clash {b = false} e refl) }
 
   -- one more writeset is done, and it was not the last
-  pub places-done : (k : Memory) → k .counts .replicas ≡ n → k .turn .slot ≡ turn → k .counts .done ≡ m .counts .done + 1 → k .blocks .places ≡ old
+  pub places-done : (k : Memory) → k .group .replicas ≡ n → k .turn .slot ≡ turn → k .counts .done ≡ m .counts .done + 1 → k .blocks .places ≡ old
       → m .counts .done + 1 < getD (blockAtTurn m) 3 0 → PlaceShape k
   places-done k a b c d l = record { waits = rw (a, b, d) (S .places .waits); done = rw (a, b, c, d) (λ h. (w .waits, l)); applying = λ e. rw c (omega arith) }
 

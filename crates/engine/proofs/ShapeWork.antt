@@ -170,5 +170,5 @@ by-sender : {over : ℕ} (m : Memory) → Shape over m → Working m → m .coun
 by-sender m S k d w mine = shape-writeset m S k d mine w (by-ends m S k w mine (endsOwn mine (m .txns .table) (w .ticket)) refl)
 
 pub shape-committed : {over : ℕ} (m : Memory) → Shape over m → Working m → (getD (blockAtTurn m) 0 0 ≡ 1 → ⊥)
-    → Shape over (commitWriteset m (eqb (getD (blockAtTurn m) 1 0) (m .counts .own)) (writesetAt (blockAtTurn m) (m .counts .done)) .memory)
+    → Shape over (commitWriteset m (eqb (getD (blockAtTurn m) 1 0) (m .group .own)) (writesetAt (blockAtTurn m) (m .counts .done)) .memory)
 shape-committed m S k d = by-sender m S k (k .more d) _ _

@@ -24,6 +24,7 @@ abbrev pub committed : Memory → Bool → Bool → Bool → Record → Memory
 committed m mine ends last w =
     let gone = cond mine [] (hitTickets (w .entries) (m .txns .items) 0 (m .txns .table)) in
     record {
+      group = m .group;
       turn = cond last (advance (m .turn)) (cond mine (m .turn) (markApplying (m .turn)));
       counts = withDone
           (withCommit (m .counts) (bump (m .counts .commits)) (cond ends (bump (m .counts .committed)) (m .counts .committed))
@@ -77,7 +78,7 @@ length-stamped n (e ∷ es) l = length-stamped n es (set l (e .item) n) ∙ leng
 
 module _ {over : ℕ} (m : Memory) (S : Shape over m) (k : Working m) (more : m .counts .done < getD (blockAtTurn m) 3 0) where
   lengths-of : (mine ends last : Bool) (w : Record) → TxnShape over (committed m mine ends last w)
-      → length (committed m mine ends last w .blocks .places) ≡ 512 * m .counts .replicas
+      → length (committed m mine ends last w .blocks .places) ≡ 512 * m .group .replicas
       → length (committed m mine ends last w .blocks .outbox) ≡ 512 → Lengths (committed m mine ends last w)
   lengths-of mine ends last w t p o = record {
     table = t .table;

@@ -90,6 +90,7 @@ fits-closed n c f = fits-empty closed n c f refl refl (λ e. refl) (omega arith)
 -- the turn, the writesets done, the places and the values written alone are others
 abbrev pub besides : Memory → Turn → ℕ → List ℕ → List ℤ → Memory
 besides m t d places writes = record {
+  group = m .group;
   turn = t;
   counts = withDone (m .counts) d;
   txns = record { table = m .txns .table; queue = m .txns .queue; items = m .txns .items; writes = writes; snapshots = m .txns .snapshots };
@@ -98,7 +99,7 @@ besides m t d places writes = record {
 }
 
 pub shape-besides : {over : ℕ} (m : Memory) → Shape over m → (t : Turn) (d : ℕ) (places : List ℕ) (writes : List ℤ)
-    → length places ≡ 512 * m .counts .replicas → length writes ≡ 48 → t .slot ≤ maxSlots → m .counts .commits ≤ 6 * t .slot + d → PlaceShape (besides m t d places writes) → Shape over (besides m t d places writes)
+    → length places ≡ 512 * m .group .replicas → length writes ≡ 48 → t .slot ≤ maxSlots → m .counts .commits ≤ 6 * t .slot + d → PlaceShape (besides m t d places writes) → Shape over (besides m t d places writes)
 shape-besides m s t d places writes p w slot commits waits = record {
   lengths = record {
     table = s .lengths .table;

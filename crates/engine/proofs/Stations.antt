@@ -49,8 +49,8 @@ pub sender-below : (b : List ℕ) → wellFormed b ≡ true → headerOf b .send
 unfolding messageOf headerOf
 sender-below b h = sender-small (messageOf b) (message-facts (messageOf b) (is-formed b h .fields))
 
-other-by : (m : Memory) (s : ℕ) → isStation m ≡ true → s < 6 → eqb s (m .counts .own) ≡ false
-other-by m s h l = ne-eqb s (m .counts .own) (λ e. let a = eqb-true (m .counts .own) 255 h in omega arith)
+other-by : (m : Memory) (s : ℕ) → isStation m ≡ true → s < 6 → eqb s (m .group .own) ≡ false
+other-by m s h l = ne-eqb s (m .group .own) (λ e. let a = eqb-true (m .group .own) 255 h in omega arith)
 
 -- a refusal that does not hold is passed over
 skip : (r : Refusal) (rs : List Refusal) {k : ℕ} → r .holds ≡ false → firstOf (r ∷ rs) ≡ k → firstOf rs ≡ k
@@ -71,12 +71,12 @@ deliver-other m h b e =
     not-first 19 _ refl (skip _ _ (rw o refl) (u .1))
 
 -- nor is what waits at the turn its own
-waits-other : {over : ℕ} (m : Memory) → Shape over m → isStation m ≡ true → nothingWaits m ≡ false → eqb (getD (blockAtTurn m) 1 0) (m .counts .own) ≡ false
+waits-other : {over : ℕ} (m : Memory) → Shape over m → isStation m ≡ true → nothingWaits m ≡ false → eqb (getD (blockAtTurn m) 1 0) (m .group .own) ≡ false
 waits-other m S h e =
     let w = S .places .waits (m .turn .slot) (omega arith) (omega (arith, S .ranges .least)) e in
     other-by m (getD (blockAtTurn m) 1 0) h (unfold headerOf in sender-below (blockAtTurn m) (is-taken (blockAtTurn m) (w .0) .forms))
 
-work-other : {over : ℕ} (m : Memory) → Shape over m → isStation m ≡ true → workRefusal m ≡ 0 → eqb (getD (blockAtTurn m) 1 0) (m .counts .own) ≡ false
+work-other : {over : ℕ} (m : Memory) → Shape over m → isStation m ≡ true → workRefusal m ≡ 0 → eqb (getD (blockAtTurn m) 1 0) (m .group .own) ≡ false
 work-other m S h e = waits-other m S h (working m S e .waits)
 
 and-false : (b : Bool) → b && false ≡ false

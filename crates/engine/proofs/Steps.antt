@@ -103,7 +103,7 @@ module _ (P : Outcome → Type 0) (m : Memory) where
 
   pub work-by : (workRefusal m ≡ 0 → getD (blockAtTurn m) 0 0 ≡ 1 → P (passNext m))
       → (workRefusal m ≡ 0 → (getD (blockAtTurn m) 0 0 ≡ 1 → ⊥)
-      → P (commitWriteset m (eqb (getD (blockAtTurn m) 1 0) (m .counts .own)) (writesetAt (blockAtTurn m) (m .counts .done))))
+      → P (commitWriteset m (eqb (getD (blockAtTurn m) 1 0) (m .group .own)) (writesetAt (blockAtTurn m) (m .counts .done))))
       → Refused (workRefusal m)
       → P (step m work)
   unfolding step workStep

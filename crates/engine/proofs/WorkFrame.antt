@@ -59,8 +59,8 @@ aborts-closed es items l i =
 
 -- ---- the call
 
-place-but : (m : Memory) → SameBut 0 (placeStart (m .counts .replicas) (m .turn .slot)) 1 (m .blocks .places) (set (m .blocks .places) (placeStart (m .counts .replicas) (m .turn .slot)) 0)
-place-but m = let p = placeStart (m .counts .replicas) (m .turn .slot) in set-but 0 (m .blocks .places) p 1 p 0 (omega arith) (omega arith)
+place-but : (m : Memory) → SameBut 0 (placeStart (m .group .replicas) (m .turn .slot)) 1 (m .blocks .places) (set (m .blocks .places) (placeStart (m .group .replicas) (m .turn .slot)) 0)
+place-but m = let p = placeStart (m .group .replicas) (m .turn .slot) in set-but 0 (m .blocks .places) p 1 p 0 (omega arith) (omega arith)
 
 pub pass-frame : (m : Memory) → WorkFrame m (passNext m .memory)
 unfolding passNext
@@ -75,8 +75,7 @@ pass-frame m = record {
   writes = refl;
   snapshots = refl;
   outbox = refl;
-  replicas = refl;
-  own = refl;
+  group = refl;
   tickets = refl;
   read-only = refl;
   withdrawn = refl;
@@ -91,7 +90,7 @@ commit-frame m mine =
     let w = writesetAt (blockAtTurn m) (m .counts .done) in
     record {
       turn = cond-by (TurnMoves m) (isLast m) (λ e. inr (inr refl)) (λ e. cond-by (TurnMoves m) mine (λ d. inl refl) (λ d. inr (inl refl)));
-      places = cond-by (λ (b : Blocks). SameBut 0 (placeStart (m .counts .replicas) (m .turn .slot)) 1 (m .blocks .places) (b .places)) (isLast m)
+      places = cond-by (λ (b : Blocks). SameBut 0 (placeStart (m .group .replicas) (m .turn .slot)) 1 (m .blocks .places) (b .places)) (isLast m)
           (λ e. place-but m)
           (λ e i s. refl);
       values = applied-but (w .entries) (m .store .values);
@@ -106,8 +105,7 @@ commit-frame m mine =
       writes = refl;
       snapshots = refl;
       outbox = cond-by (λ (b : Blocks). b .outbox ≡ m .blocks .outbox) (isLast m) (λ e. refl) (λ e. refl);
-      replicas = refl;
-      own = refl;
+      group = refl;
       tickets = refl;
       read-only = refl;
       withdrawn = refl;
@@ -125,8 +123,7 @@ work-same m = record {
   writes = refl;
   snapshots = refl;
   outbox = refl;
-  replicas = refl;
-  own = refl;
+  group = refl;
   tickets = refl;
   read-only = refl;
   withdrawn = refl;

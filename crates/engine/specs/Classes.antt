@@ -7,7 +7,7 @@ use lib.ListN.{length, getD}
 use Rattle.block.specs.declared.Entry.{Entry}
 use Rattle.block.specs.Message.{within}
 use Rattle.block.specs.Answers.{refuse, firstOf}
-use Rattle.memory.specs.Memory.{Memory, withClasses}
+use Rattle.memory.specs.Memory.{Memory, classesLent, withClasses}
 use Rattle.memory.specs.Turns.{isOn}
 use Rattle.engine.specs.Calls.{Outcome, outcome, unless}
 use Rattle.engine.specs.Calls.Answer.{loaded}
@@ -48,7 +48,7 @@ areClasses (c ∷ cs) = within 1 8 c && areClasses cs
 unfoldable pub loadRefusal : Memory → List ℕ → ℕ
 loadRefusal m classes =
     firstOf
-    (refuse 1 (not (eqb (length (m .store .classes)) 128 && eqb (length classes) 128))
+    (refuse 1 (not (classesLent m && eqb (length classes) 128))
     ∷ refuse 2 (not (areClasses classes))
     ∷ refuse 23 (isApplying m)
     ∷ [])

@@ -2,15 +2,15 @@
 -- on any memory and any row; the call itself is that at the row of its ticket.
 use Prim.Native.Nat.{ℕ, _+_, _*_, _-_}
 use mathlib.Core.Bool.{Bool, cond, not, _&&_}
-use mathlib.Core.List.{[], _∷_}
+use mathlib.Core.List.{List, [], _∷_, _++_}
 use lib.Dec.{eqb, ltb, leb}
 use lib.IntN.{ℤ, pos}
-use lib.ListN.{length, getD, set}
+use lib.ListN.{getD, set}
 use lib.Seq.{paste}
-use Rattle.block.specs.Answers.{refuse, firstOf}
+use Rattle.block.specs.Answers.{Refusal, refuse, firstOf}
 use Rattle.engine.specs.declared.Report.{Report}
 use Rattle.memory.specs.declared.Txn.{Txn}
-use Rattle.memory.specs.Memory.{Memory, maxTickets, bump, writesLent, placesLent, withTickets, withReadOnly, withAborted, withWithdrawn, withTable, withTxns}
+use Rattle.memory.specs.Memory.{Memory, maxTickets, bump, queueLent, writesLent, snapshotsLent, valuesLent, stampsLent, classesLent, placesLent, withTickets, withReadOnly, withAborted, withWithdrawn, withTable, withTxns}
 use Rattle.memory.specs.Rows.{closed, openCount, rowOf, freeRow, rowAt, writeCount, itemsOf, indexOf, holderOf, isHeld, countBelow, insertAt}
 use Rattle.engine.specs.Calls.{Outcome, outcome, unless}
 use Rattle.engine.specs.Calls.Answer.{refused, began, got, wrote, queued, readOnly, withdrew, reported}
@@ -76,7 +76,7 @@ isFull m r = eqb (writeCount (rowIn m r)) 8
 unfoldable pub beginRefusal : Memory → ℕ → ℕ
 beginRefusal m r =
     firstOf
-    (refuse 1 (not (eqb (length (m .store .values)) 128 && eqb (length (m .txns .snapshots)) 768))
+    (refuse 1 (not (valuesLent m && snapshotsLent m))
     ∷ refuse 5 (noRoom r)
     ∷ refuse 6 (ticketsSpent m)
     ∷ [])
@@ -108,7 +108,7 @@ beginStep m = beginRow m (freeNo m)
 unfoldable pub readRefusal : Memory → ℕ → ℕ → ℕ
 readRefusal m r item =
     firstOf
-    (refuse 1 (not (writesLent m && eqb (length (m .txns .snapshots)) 768))
+    (refuse 1 (not (writesLent m && snapshotsLent m))
     ∷ refuse 2 (itemOut item)
     ∷ refuse 3 (notOpen r)
     ∷ refuse 4 (notActive m r)
@@ -131,22 +131,18 @@ readStep m ticket item = readRow m (rowNo m ticket) item
 
 -- the lent parts have their lengths
 abbrev pub writeLent : Memory → Bool
-writeLent m = writesLent m && (eqb (length (m .store .stamps)) 128 && (eqb (length (m .store .classes)) 128 && placesLent m))
+writeLent m = writesLent m && (stampsLent m && (classesLent m && placesLent m))
 
--- an item that the transaction holds already is accepted before 9, 8 and 10 are looked at; 9 stands before 8 (document 02, Req 07)
+-- the refusals before that of waiting; `lent` where the lent parts have their lengths
+abbrev pub earlyRefusals : Bool → Memory → ℕ → ℕ → List Refusal
+earlyRefusals lent m r item = refuse 1 (not lent) ∷ refuse 2 (itemOut item) ∷ refuse 3 (notOpen r) ∷ refuse 4 (notActive m r) ∷ []
+
+-- and behind it: an item that the transaction holds already is accepted before 9, 8 and 10 are looked at; 9 stands before 8 (document 02, Req 07)
+abbrev pub lateRefusals : Memory → ℕ → ℕ → List Refusal
+lateRefusals m r item = cond (isOwn m r item) [] (refuse 9 (isStale m r item) ∷ refuse 8 (heldByOther m r item) ∷ refuse 10 (isFull m r) ∷ [])
+
 unfoldable pub writeRefusal : Memory → ℕ → ℕ → ℕ
-writeRefusal m r item =
-    firstOf
-    (refuse 1 (not (writeLent m))
-    ∷ refuse 2 (itemOut item)
-    ∷ refuse 3 (notOpen r)
-    ∷ refuse 4 (notActive m r)
-    ∷ refuse 7 (mustWait m item)
-    ∷ cond (isOwn m r item) []
-    (refuse 9 (isStale m r item)
-    ∷ refuse 8 (heldByOther m r item)
-    ∷ refuse 10 (isFull m r)
-    ∷ []))
+writeRefusal m r item = firstOf (earlyRefusals (writeLent m) m r item ++ (refuse 7 (mustWait m item) ∷ lateRefusals m r item))
 
 -- a second write to an item replaces the first
 unfoldable pub rewriteAt : Memory → ℕ → ℕ → ℤ → Outcome
@@ -199,7 +195,7 @@ writeStep m ticket item value = writeRow m (rowNo m ticket) item value
 unfoldable pub askRefusal : Memory → ℕ → ℕ
 askRefusal m r =
     firstOf
-    (refuse 1 (not (eqb (length (m .txns .queue)) 6))
+    (refuse 1 (not (queueLent m))
     ∷ refuse 3 (notOpen r)
     ∷ refuse 4 (notActive m r)
     ∷ [])

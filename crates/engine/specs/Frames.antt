@@ -8,7 +8,7 @@ use lib.IntN.{ℤ, pos}
 use lib.ListN.{length, getD, set}
 use Rattle.block.specs.declared.Entry.{Entry}
 use Rattle.block.specs.Answers.{headerOf}
-use Rattle.memory.specs.Memory.{Memory, bump, withTickets, withReadOnly, withAborted, withWithdrawn, withTable, withTxns, withBlocks, withClasses}
+use Rattle.memory.specs.Memory.{Memory, span, bump, withTickets, withReadOnly, withAborted, withWithdrawn, withTable, withTxns, withBlocks, withClasses}
 use Rattle.memory.specs.Rows.{closed, openCount, freeRow, rowAt, indexOf, has}
 use Rattle.memory.specs.Turns.{markApplying, advance, placeStart}
 use Rattle.engine.specs.Calls.{numberOf}
@@ -58,8 +58,9 @@ SameButItems d es l k = (i : ℕ) → has i (map (λ (e : Entry). e .item) es) �
 abbrev pub RowsBut : Memory → Memory → ℕ → Type 0
 RowsBut m n r = (i : ℕ) → (i ≡ r → ⊥) → rowAt (n .txns .table) i ≡ rowAt (m .txns .table) i
 
--- turn, values, stamps, classes, places and the block sent last are as they were
+-- group, turn, values, stamps, classes, places and the block sent last are as they were
 pub record TurnKept (m n : Memory) : Type 0 where
+  pub group : n .group ≡ m .group
   pub turn : n .turn ≡ m .turn
   pub store : n .store ≡ m .store
   pub blocks : n .blocks ≡ m .blocks
@@ -106,6 +107,7 @@ pub record WithdrawFrame (m n : Memory) (r : ℕ) : Type 0 where
 
 -- a send the sent mark, the stages, the queue and the block sent last
 pub record SendFrame (m n : Memory) : Type 0 where
+  pub group : n .group ≡ m .group
   pub slot : n .turn .slot ≡ m .turn .slot
   pub applying : n .turn .applying ≡ m .turn .applying
   pub counts : n .counts ≡ m .counts
@@ -122,14 +124,14 @@ pub record SendFrame (m n : Memory) : Type 0 where
 pub record DeliverFrame (m n : Memory) (slot : ℕ) : Type 0 where
   pub rest : n ≡ withBlocks m (n .blocks)
   pub outbox : n .blocks .outbox ≡ m .blocks .outbox
-  pub places : SameBut 0 (placeStart (m .counts .replicas) slot) 512 (m .blocks .places) (n .blocks .places)
+  pub places : SameBut 0 (placeStart (span (m .group)) slot) 512 (m .blocks .places) (n .blocks .places)
 
 -- a work may set the applying mark or move the turn by one, and change one byte of the places, values and stamps of the items of the writeset to commit, rows by closing them, the
 -- queue, and of the counts commits, done, committed and aborted
 pub record WorkFrame (m n : Memory) : Type 0 where
   -- the slot is the same, or one more with both marks off
   pub turn : (n .turn ≡ m .turn) ⊎ ((n .turn ≡ markApplying (m .turn)) ⊎ (n .turn ≡ advance (m .turn)))
-  pub places : SameBut 0 (placeStart (m .counts .replicas) (m .turn .slot)) 1 (m .blocks .places) (n .blocks .places)
+  pub places : SameBut 0 (placeStart (span (m .group)) (m .turn .slot)) 1 (m .blocks .places) (n .blocks .places)
   pub values : SameButItems (pos 0) (writesetAt (blockAtTurn m) (m .counts .done) .entries) (m .store .values) (n .store .values)
   pub stamps : SameButItems 0 (writesetAt (blockAtTurn m) (m .counts .done) .entries) (m .store .stamps) (n .store .stamps)
   pub classes : n .store .classes ≡ m .store .classes
@@ -138,8 +140,7 @@ pub record WorkFrame (m n : Memory) : Type 0 where
   pub writes : n .txns .writes ≡ m .txns .writes
   pub snapshots : n .txns .snapshots ≡ m .txns .snapshots
   pub outbox : n .blocks .outbox ≡ m .blocks .outbox
-  pub replicas : n .counts .replicas ≡ m .counts .replicas
-  pub own : n .counts .own ≡ m .counts .own
+  pub group : n .group ≡ m .group
   pub tickets : n .counts .tickets ≡ m .counts .tickets
   pub read-only : n .counts .«read_only» ≡ m .counts .«read_only»
   pub withdrawn : n .counts .withdrawn ≡ m .counts .withdrawn

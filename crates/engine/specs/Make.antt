@@ -9,7 +9,7 @@ use Rattle.block.specs.Answers.{Refusal, refuse, firstOf}
 use Rattle.block.specs.Message.{within}
 use Rattle.memory.specs.declared.Counts.{Counts}
 use Rattle.memory.specs.declared.Turn.{Turn}
-use Rattle.memory.specs.Memory.{Transactions, Store, Blocks, Memory}
+use Rattle.memory.specs.Memory.{Transactions, Store, Blocks, Memory, groupOf, span, queueLent, itemsLent, snapshotsLent, valuesLent, stampsLent, classesLent, outboxLent}
 use Rattle.memory.specs.Rows.{closed}
 use Rattle.engine.specs.Calls.{Outcome, outcome, unless}
 use Rattle.engine.specs.Calls.Answer.{made}
@@ -17,10 +17,8 @@ use Rattle.engine.specs.Calls.Answer.{made}
 abbrev pub turnZero : Turn
 turnZero = record { slot = 0; sent = 0; applying = 0 }
 
-abbrev pub countsFor : ℕ → ℕ → Counts
-countsFor n own = record {
-  replicas = n;
-  own = own;
+abbrev pub countsZero : Counts
+countsZero = record {
   commits = 0;
   done = 0;
   tickets = 0;
@@ -33,8 +31,9 @@ countsFor n own = record {
 -- turn, counts and stamps 0, places empty, marks off, the starting values; no table of classes is loaded
 unfoldable pub madeMemory : ℕ → ℕ → List ℤ → Memory
 madeMemory n own values = record {
+  group = groupOf n own;
   turn = turnZero;
-  counts = countsFor n own;
+  counts = countsZero;
   txns = record {
     table = replicate 6 closed;
     queue = replicate 6 0;
@@ -43,7 +42,7 @@ madeMemory n own values = record {
     snapshots = replicate 768 (pos 0);
   };
   store = record { values = values; stamps = replicate 128 0; classes = replicate 128 0 };
-  blocks = record { places = replicate (512 * n) 0; outbox = replicate 512 0 };
+  blocks = record { places = replicate (512 * span (groupOf n own)) 0; outbox = replicate 512 0 };
 }
 
 -- N blocks; an N out of range gives the places no length
@@ -53,12 +52,8 @@ placesFit places n = not (within 2 6 n) || eqb (length places) (512 * n)
 -- the lent parts have their lengths
 abbrev pub slicesFit : Memory → Bool
 slicesFit m =
-    eqb (length (m .txns .queue)) 6
-    && (eqb (length (m .txns .items)) 48
-    && (eqb (length (m .txns .writes)) 48
-    && (eqb (length (m .txns .snapshots)) 768
-    && (eqb (length (m .store .values)) 128
-    && (eqb (length (m .store .stamps)) 128 && (eqb (length (m .store .classes)) 128 && eqb (length (m .blocks .outbox)) 512))))))
+    queueLent m
+    && (itemsLent m && (eqb (length (m .txns .writes)) 48 && (snapshotsLent m && (valuesLent m && (stampsLent m && (classesLent m && outboxLent m))))))
 
 unfoldable pub partsFit : Memory → ℕ → Bool
 partsFit m n = slicesFit m && placesFit (m .blocks .places) n

@@ -7,7 +7,7 @@ use lib.IntN.{ℤ}
 use lib.ListN.{length, getD, set, replicate}
 use lib.Seq.{slice, paste}
 use Rattle.block.specs.declared.Entry.{Entry}
-use Rattle.block.specs.Message.{Record, Message, ownerOf}
+use Rattle.block.specs.Message.{Record, Message}
 use Rattle.block.specs.Bytes.{blockOf}
 use Rattle.block.specs.Check.{checkMatches}
 use Rattle.block.specs.Form.{wellFormed}
@@ -16,7 +16,7 @@ use Rattle.block.specs.Writing.{entriesFrom}
 use Rattle.memory.specs.declared.Counts.{Counts}
 use Rattle.memory.specs.declared.Turn.{Turn}
 use Rattle.memory.specs.declared.Txn.{Txn}
-use Rattle.memory.specs.Memory.{Transactions, Store, Blocks, Memory, maxSlots, bump, writesLent, placesLent, withDone, withCommit, withTable, withTxns, withBlocks, withTurn}
+use Rattle.memory.specs.Memory.{Transactions, Store, Blocks, Memory, ownerAt, span, maxSlots, bump, isBlock, queueLent, itemsLent, writesLent, valuesLent, stampsLent, placesLent, outboxLent, withDone, withCommit, withTable, withTxns, withBlocks, withTurn}
 use Rattle.memory.specs.Rows.{closed, isOpen, rowOf, rowAt, writeCount, itemsOf, has}
 use Rattle.memory.specs.Turns.{isOn, markSent, markApplying, advance, placeStart, blockIn, isEmpty, emptied}
 use Rattle.engine.specs.Calls.{Step, Outcome, outcome, unless}
@@ -40,8 +40,8 @@ writesetOf x ticket =
 unfoldable pub messageFor : Memory → Message
 messageFor m = record {
   kind = cond (eqb (length (waiting (m .txns .queue))) 0) 1 2;
-  sender = m .counts .own;
-  replicas = m .counts .replicas;
+  sender = m .group .own;
+  replicas = m .group .replicas;
   slot = m .turn .slot;
   records = map (writesetOf (m .txns)) (waiting (m .txns .queue));
 }
@@ -51,7 +51,7 @@ abbrev pub sendRow : Txn → Txn
 sendRow t = record { ticket = t .ticket; stage = cond (eqb (t .stage) 1) 2 (t .stage); snapshot = t .snapshot; writes = t .writes }
 
 abbrev pub sendLent : Memory → List ℕ → Bool
-sendLent m block = writesLent m && (eqb (length (m .txns .queue)) 6 && (eqb (length (m .blocks .outbox)) 512 && eqb (length block) 512))
+sendLent m block = writesLent m && (queueLent m && (outboxLent m && isBlock block))
 
 -- 13: slots spent
 abbrev pub slotsSpent : Memory → Bool
@@ -59,7 +59,7 @@ slotsSpent m = leb maxSlots (m .turn .slot)
 
 -- 11: the turn is another's slot
 abbrev pub othersTurn : Memory → Bool
-othersTurn m = not (eqb (ownerOf (m .counts .replicas) (m .turn .slot)) (m .counts .own))
+othersTurn m = not (eqb (ownerAt (m .group) (m .turn .slot)) (m .group .own))
 
 -- 12: sent already for this slot
 abbrev pub sentAlready : Memory → Bool
@@ -75,6 +75,7 @@ sendNow m =
     let x = m .txns in
     outcome (sent block)
     (record {
+      group = m .group;
       turn = markSent (m .turn);
       counts = m .counts;
       txns = record { table = map sendRow (x .table); queue = replicate 6 0; items = x .items; writes = x .writes; snapshots = x .snapshots };
@@ -98,27 +99,27 @@ abbrev pub isOwnBlock : Memory → List ℕ → Bool
 isOwnBlock m bytes = isOn (m .turn .sent) && sameBytes bytes (m .blocks .outbox)
 
 abbrev pub deliverLent : Memory → List ℕ → Bool
-deliverLent m bytes = placesLent m && (eqb (length (m .blocks .outbox)) 512 && eqb (length bytes) 512)
+deliverLent m bytes = placesLent m && (outboxLent m && isBlock bytes)
 
 -- 16: its N is not ours
 abbrev pub otherGroup : Memory → List ℕ → Bool
-otherGroup m bytes = not (eqb (headerOf bytes .replicas) (m .counts .replicas))
+otherGroup m bytes = not (eqb (headerOf bytes .replicas) (m .group .replicas))
 
 -- 17: slot below the turn
 abbrev pub slotPast : Memory → List ℕ → Bool
 slotPast m bytes = ltb (headerOf bytes .slot) (m .turn .slot)
 
--- 18: slot at or above turn + N
+-- 18: slot at or above turn + N, the first for which there is no place
 abbrev pub slotAhead : Memory → List ℕ → Bool
-slotAhead m bytes = leb (m .turn .slot + m .counts .replicas) (headerOf bytes .slot)
+slotAhead m bytes = leb (m .turn .slot + span (m .group)) (headerOf bytes .slot)
 
 -- 19: sender is this replica, and the block is not the one it sent for its present turn
 abbrev pub notSentHere : Memory → List ℕ → Bool
-notSentHere m bytes = eqb (headerOf bytes .sender) (m .counts .own) && not (isOwnBlock m bytes)
+notSentHere m bytes = eqb (headerOf bytes .sender) (m .group .own) && not (isOwnBlock m bytes)
 
 -- 20: its place is taken
 abbrev pub placeTaken : Memory → List ℕ → Bool
-placeTaken m bytes = not (isEmpty (m .counts .replicas) (headerOf bytes .slot) (m .blocks .places))
+placeTaken m bytes = not (isEmpty (span (m .group)) (headerOf bytes .slot) (m .blocks .places))
 
 unfoldable pub deliverRefusal : Memory → List ℕ → ℕ
 deliverRefusal m bytes =
@@ -138,7 +139,7 @@ deliverNow m bytes =
     outcome kept
     (withBlocks m
     (record {
-      places = paste (m .blocks .places) (placeStart (m .counts .replicas) (headerOf bytes .slot)) bytes 512;
+      places = paste (m .blocks .places) (placeStart (span (m .group)) (headerOf bytes .slot)) bytes 512;
       outbox = m .blocks .outbox;
     }))
 
@@ -149,7 +150,7 @@ deliverStep m bytes = unless (deliverRefusal m bytes) m (deliverNow m bytes)
 
 -- the block at the turn
 abbrev pub blockAtTurn : Memory → List ℕ
-blockAtTurn m = blockIn (m .counts .replicas) (m .turn .slot) (m .blocks .places)
+blockAtTurn m = blockIn (span (m .group)) (m .turn .slot) (m .blocks .places)
 
 -- n entries of record j, from entry e on
 unfoldable pub entriesFor : List ℕ → ℕ → ℕ → ℕ → List Entry
@@ -168,6 +169,10 @@ applied (e ∷ es) l = applied es (set l (e .item) (e .value))
 unfoldable pub stamped : ℕ → List Entry → List ℕ → List ℕ
 stamped n [] l = l
 stamped n (e ∷ es) l = stamped n es (set l (e .item) n)
+
+-- so of a writeset that is the n-th committed
+abbrev pub storeAfter : ℕ → List Entry → Store → Store
+storeAfter n es s = record { values = applied es (s .values); stamps = stamped n es (s .stamps); classes = s .classes }
 
 -- the row has written an item of the entries
 unfoldable pub shares : List ℕ → List Entry → Bool
@@ -212,14 +217,11 @@ abbrev pub endsOwn : Bool → List Txn → ℕ → Bool
 endsOwn mine table ticket = mine && sentAmong table ticket
 
 abbrev pub workLent : Memory → Bool
-workLent m =
-    placesLent m
-    && (eqb (length (m .txns .items)) 48
-    && (eqb (length (m .txns .queue)) 6 && (eqb (length (m .store .values)) 128 && eqb (length (m .store .stamps)) 128)))
+workLent m = placesLent m && (itemsLent m && (queueLent m && (valuesLent m && stampsLent m)))
 
 -- 21: the turn's place is empty
 abbrev pub nothingWaits : Memory → Bool
-nothingWaits m = isEmpty (m .counts .replicas) (m .turn .slot) (m .blocks .places)
+nothingWaits m = isEmpty (span (m .group)) (m .turn .slot) (m .blocks .places)
 
 -- number 22, of own writesets not open as sent, is gone (`OwnSent.antt`), and no other refusal takes it
 unfoldable pub workRefusal : Memory → ℕ
@@ -227,16 +229,20 @@ workRefusal m = firstOf (refuse 1 (not (workLent m)) ∷ refuse 21 (nothingWaits
 
 -- after the last writeset, or a *next*, the place empties
 abbrev pub turnBlocks : Memory → Blocks
-turnBlocks m = record { places = emptied (m .counts .replicas) (m .turn .slot) (m .blocks .places); outbox = m .blocks .outbox }
+turnBlocks m = record { places = emptied (span (m .group)) (m .turn .slot) (m .blocks .places); outbox = m .blocks .outbox }
+
+-- the turn leaves its slot: the place empties, the turn advances, and of the next block nothing is done
+abbrev pub leaveSlot : Memory → Memory
+leaveSlot m = withTurn m (advance (m .turn)) (withDone (m .counts) 0) (turnBlocks m)
 
 -- the block to append to the journal: that at the turn, where the turn leaves another's slot
 abbrev pub appending : Memory → Bool → List ℕ
-appending m moved = cond moved (cond (eqb (getD (blockAtTurn m) 1 0) (m .counts .own)) [] (blockAtTurn m)) []
+appending m moved = cond moved (cond (eqb (getD (blockAtTurn m) 1 0) (m .group .own)) [] (blockAtTurn m)) []
 
 unfoldable pub passNext : Memory → Outcome
 passNext m =
     outcome (worked (record { sender = getD (blockAtTurn m) 1 0; ticket = 0; moved = true; aborted = []; append = appending m true }))
-    (withTurn m (advance (m .turn)) (withDone (m .counts) 0) (turnBlocks m))
+    (leaveSlot m)
 
 -- whether the writeset is the block's last
 abbrev pub isLast : Memory → Bool
@@ -256,6 +262,7 @@ commitWriteset m mine w =
     (min (m .counts .aborted + length gone) 4_294_967_295) in
     outcome (worked (record { sender = getD (blockAtTurn m) 1 0; ticket = w .ticket; moved = isLast m; aborted = gone; append = appending m (isLast m) }))
     (record {
+      group = m .group;
       turn = cond (isLast m) (advance (m .turn)) (cond mine (m .turn) (markApplying (m .turn)));
       counts = withDone c (cond (isLast m) 0 (m .counts .done + 1));
       txns = record {
@@ -265,7 +272,7 @@ commitWriteset m mine w =
         writes = x .writes;
         snapshots = x .snapshots;
       };
-      store = record { values = applied es (m .store .values); stamps = stamped n es (m .store .stamps); classes = m .store .classes };
+      store = storeAfter n es (m .store);
       blocks = cond (isLast m) (turnBlocks m) (m .blocks);
     })
 
@@ -273,4 +280,4 @@ unfoldable pub workStep : Memory → Outcome
 workStep m =
     unless (workRefusal m) m
     (cond (eqb (getD (blockAtTurn m) 0 0) 1) (passNext m)
-    (commitWriteset m (eqb (getD (blockAtTurn m) 1 0) (m .counts .own)) (writesetAt (blockAtTurn m) (m .counts .done))))
+    (commitWriteset m (eqb (getD (blockAtTurn m) 1 0) (m .group .own)) (writesetAt (blockAtTurn m) (m .counts .done))))

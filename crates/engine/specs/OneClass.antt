@@ -2,18 +2,18 @@
 -- which is today's here (`Staleness.antt` has the order of before).
 use Prim.Native.Nat.{ℕ, _≤_, _<_}
 use mathlib.Core.Path.{_≡_}
-use mathlib.Core.Bool.{Bool, true, false, cond, not, _&&_}
-use mathlib.Core.List.{List, [], _∷_}
+use mathlib.Core.Bool.{Bool, true, false, not, _&&_}
+use mathlib.Core.List.{List, [], _∷_, _++_}
 use lib.Dec.{eqb}
 use lib.IntN.{ℤ}
 use lib.ListN.{length, replicate}
 use Rattle.block.specs.Answers.{refuse, firstOf}
-use Rattle.memory.specs.Memory.{Memory, isStation, writesLent}
+use Rattle.memory.specs.Memory.{Memory, isStation, writesLent, stampsLent}
 use Rattle.engine.specs.Calls.{Outcome}
 use Rattle.engine.specs.Calls.Answer.{loaded}
 use Rattle.engine.specs.Make.{madeMemory}
 use Rattle.engine.specs.Classes.{isApplying}
-use Rattle.engine.specs.Client.{rowNo, itemOut, notOpen, notActive, isOwn, heldByOther, isStale, isFull, writeUnless}
+use Rattle.engine.specs.Client.{rowNo, earlyRefusals, lateRefusals, writeUnless}
 use Rattle.engine.specs.Restart.{blocksIn, restartedMemory}
 use Rattle.engine.specs.Step.{Call, step, after}
 use Rattle.engine.specs.Step.Call.{begin, read, write, ask, withdraw, report, send, deliver, work, load}
@@ -22,17 +22,7 @@ use Rattle.engine.specs.Shape.{Shape}
 -- the refusals of a write without classes: 7 wherever the applying mark is on, and neither classes nor places lent
 unfoldable pub unclassedRefusal : Memory → ℕ → ℕ → ℕ
 unclassedRefusal m r item =
-    firstOf
-    (refuse 1 (not (writesLent m && eqb (length (m .store .stamps)) 128))
-    ∷ refuse 2 (itemOut item)
-    ∷ refuse 3 (notOpen r)
-    ∷ refuse 4 (notActive m r)
-    ∷ refuse 7 (isApplying m)
-    ∷ cond (isOwn m r item) []
-    (refuse 9 (isStale m r item)
-    ∷ refuse 8 (heldByOther m r item)
-    ∷ refuse 10 (isFull m r)
-    ∷ []))
+    firstOf (earlyRefusals (writesLent m && stampsLent m) m r item ++ (refuse 7 (isApplying m) ∷ lateRefusals m r item))
 
 abbrev pub unclassedWrite : Memory → ℕ → ℕ → ℤ → Outcome
 unclassedWrite m ticket item value = writeUnless (unclassedRefusal m (rowNo m ticket) item) m (rowNo m ticket) item value

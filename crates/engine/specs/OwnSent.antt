@@ -23,11 +23,11 @@ abbrev pub writesetMet : Memory → Record
 writesetMet m = writesetAt (blockAtTurn m) (m .counts .done)
 
 abbrev pub meetsOwn : Memory → Bool
-meetsOwn m = not (eqb (getD (blockAtTurn m) 0 0) 1) && eqb (getD (blockAtTurn m) 1 0) (m .counts .own)
+meetsOwn m = not (eqb (getD (blockAtTurn m) 0 0) 1) && eqb (getD (blockAtTurn m) 1 0) (m .group .own)
 
 -- it is committed, turn and place as for any own one, and nobody ends: no ending is counted, no row changes, and the applying mark is not set. What else a work leaves: `Frames.works`
 pub record EndsNobody (m : Memory) (o : Outcome) : Type 0 where
-  pub answer : o .answer ≡ worked (record { sender = m .counts .own; ticket = writesetMet m .ticket; moved = isLast m; aborted = []; append = [] })
+  pub answer : o .answer ≡ worked (record { sender = m .group .own; ticket = writesetMet m .ticket; moved = isLast m; aborted = []; append = [] })
   pub commits : o .memory .counts .commits ≡ bump (m .counts .commits)
   pub values : o .memory .store .values ≡ applied (writesetMet m .entries) (m .store .values)
   pub stamps : o .memory .store .stamps ≡ stamped (bump (m .counts .commits)) (writesetMet m .entries) (m .store .stamps)

@@ -7,12 +7,12 @@ use lib.IntN.{ℤ, pos}
 use lib.ListN.{length, getD, take, drop, replicate}
 use Rattle.block.specs.Message.{Record}
 use Rattle.block.specs.Answers.{refuse, firstOf, blockRefusal, headerOf}
-use Rattle.memory.specs.Memory.{Store, Memory, bump}
+use Rattle.memory.specs.Memory.{Store, Memory, groupOf, span, isBlock, bump}
 use Rattle.memory.specs.Rows.{closed}
 use Rattle.engine.specs.Calls.{Outcome, outcome, unless}
 use Rattle.engine.specs.Calls.Answer.{restarted}
 use Rattle.engine.specs.Make.{partsFit, sizeOut}
-use Rattle.engine.specs.Moves.{writesetAt, applied, stamped}
+use Rattle.engine.specs.Moves.{writesetAt, storeAfter}
 
 -- ---- the blocks read
 
@@ -51,14 +51,7 @@ pub record Replayed : Type 0 where
 
 -- one more writeset, as a work commits it
 abbrev pub commitOne : Replayed → Record → Replayed
-commitOne r w = record {
-  commits = bump (r .commits);
-  store = record {
-    values = applied (w .entries) (r .store .values);
-    stamps = stamped (bump (r .commits)) (w .entries) (r .store .stamps);
-    classes = r .store .classes;
-  };
-}
+commitOne r w = record { commits = bump (r .commits); store = storeAfter (bump (r .commits)) (w .entries) (r .store) }
 
 unfoldable pub commitAll : Replayed → List Record → Replayed
 commitAll r [] = r
@@ -105,10 +98,9 @@ repeated own bs = ownWritesets own bs - highestOwn own bs
 -- ticket less these, 0 where they are more, which is so only where a ticket stands twice
 unfoldable pub restartedMemory : ℕ → ℕ → List ℤ → List (List ℕ) → Memory
 restartedMemory n own values bs = record {
+  group = groupOf n own;
   turn = record { slot = length bs; sent = 0; applying = 0 };
   counts = record {
-    replicas = n;
-    own = own;
     commits = commitBlocks (startReplay values) bs .commits;
     done = 0;
     tickets = highestOwn own bs;
@@ -125,14 +117,14 @@ restartedMemory n own values bs = record {
     snapshots = replicate 768 (pos 0);
   };
   store = commitBlocks (startReplay values) bs .store;
-  blocks = record { places = replicate (512 * n) 0; outbox = replicate 512 0 };
+  blocks = record { places = replicate (512 * span (groupOf n own)) 0; outbox = replicate 512 0 };
 }
 
 -- Make's; 1 also for the lent block, never for the journal
 unfoldable pub restartRefusal : Memory → ℕ → ℕ → List ℤ → List ℕ → ℕ
 restartRefusal m n own values block =
     firstOf
-    (refuse 1 (not (eqb (length values) 128 && (eqb (length block) 512 && partsFit m n)))
+    (refuse 1 (not (eqb (length values) 128 && (isBlock block && partsFit m n)))
     ∷ refuse 2 (sizeOut n own)
     ∷ [])
 

@@ -5,9 +5,8 @@ use mathlib.Core.Bool.{true, false}
 use mathlib.Core.List.{List}
 use lib.IntN.{ℤ}
 use lib.ListN.{getD}
-use Rattle.block.specs.Message.{ownerOf}
 use Rattle.block.specs.Answers.{recordAt}
-use Rattle.memory.specs.Memory.{Memory}
+use Rattle.memory.specs.Memory.{Memory, ownerAt, span}
 use Rattle.memory.specs.Rows.{rowAt}
 use Rattle.memory.specs.Turns.{blockIn, isEmpty}
 use Rattle.engine.specs.Make.{madeMemory}
@@ -25,11 +24,11 @@ sentTicket m j = recordAt (m .blocks .outbox) j .ticket
 
 pub record SentShape (m : Memory) : Type 0 where
   -- the sent mark is on at an own slot alone
-  pub turn : sentAlready m ≡ true → ownerOf (m .counts .replicas) (m .turn .slot) ≡ m .counts .own
+  pub turn : sentAlready m ≡ true → ownerAt (m .group) (m .turn .slot) ≡ m .group .own
   -- a block that waits for an own slot is the one sent
-  pub own : (s : ℕ) → m .turn .slot ≤ s → s < m .turn .slot + m .counts .replicas → isEmpty (m .counts .replicas) s (m .blocks .places) ≡ false
-      → ownerOf (m .counts .replicas) s ≡ m .counts .own
-      → (sentAlready m ≡ true) × (blockIn (m .counts .replicas) s (m .blocks .places) ≡ m .blocks .outbox)
+  pub own : (s : ℕ) → m .turn .slot ≤ s → s < m .turn .slot + span (m .group) → isEmpty (span (m .group)) s (m .blocks .places) ≡ false
+      → ownerAt (m .group) s ≡ m .group .own
+      → (sentAlready m ≡ true) × (blockIn (span (m .group)) s (m .blocks .places) ≡ m .blocks .outbox)
   -- its tickets differ; those not yet done are open as sent, and no other row is
   pub once : sentAlready m ≡ true → (j k : ℕ) → j < k → k < sentCount m → sentTicket m j ≡ sentTicket m k → ⊥
   pub live : sentAlready m ≡ true → (j : ℕ) → m .counts .done ≤ j → j < sentCount m → isSent m (sentTicket m j) ≡ true

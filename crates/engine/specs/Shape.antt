@@ -6,7 +6,7 @@ use mathlib.Core.List.{List, _++_}
 use lib.IntN.{ℤ}
 use lib.ListN.{length, getD, replicate}
 use Rattle.block.specs.Answers.{blockRefusal, headerOf}
-use Rattle.memory.specs.Memory.{Memory, maxTickets, maxSlots, isStation}
+use Rattle.memory.specs.Memory.{Memory, span, maxTickets, maxSlots, isStation}
 use Rattle.memory.specs.Rows.{closed, openCount, rowOf, rowAt, writeCount, itemsOf, has}
 use Rattle.memory.specs.Turns.{isOn, blockIn, isEmpty}
 use Rattle.engine.specs.Make.{madeMemory}
@@ -23,15 +23,15 @@ pub record Lengths (m : Memory) : Type 0 where
   pub values : length (m .store .values) ≡ 128
   pub stamps : length (m .store .stamps) ≡ 128
   pub classes : length (m .store .classes) ≡ 128
-  pub places : length (m .blocks .places) ≡ 512 * m .counts .replicas
+  pub places : length (m .blocks .places) ≡ 512 * span (m .group)
   pub outbox : length (m .blocks .outbox) ≡ 512
 
 -- over: own writesets that a restart committed above the highest ticket of its own blocks; 0 but where a ticket stands in two of them
 pub record Ranges (over : ℕ) (m : Memory) : Type 0 where
-  pub least : 2 ≤ m .counts .replicas
-  pub most : m .counts .replicas ≤ 6
+  pub least : 2 ≤ m .group .replicas
+  pub most : m .group .replicas ≤ 6
   -- a replica's number is below N (`Numbered.stays`: a replica is no station); a station has none
-  pub own : isStation m ≡ false → m .counts .own < m .counts .replicas
+  pub own : isStation m ≡ false → m .group .own < m .group .replicas
   pub slot : m .turn .slot ≤ maxSlots
   pub tickets : m .counts .tickets ≤ maxTickets
   pub commits : m .counts .commits ≤ 6 * m .turn .slot + m .counts .done
@@ -66,13 +66,13 @@ pub record QueueShape (m : Memory) : Type 0 where
 -- a block that waits is an accepted one, for its slot and this group; writesets done are fewer than the block at the turn has; with the applying mark on one is done, so that
 -- one at least is left
 pub record PlaceShape (m : Memory) : Type 0 where
-  pub waits : (s : ℕ) → m .turn .slot ≤ s → s < m .turn .slot + m .counts .replicas
-      → isEmpty (m .counts .replicas) s (m .blocks .places) ≡ false
-      → (blockRefusal (blockIn (m .counts .replicas) s (m .blocks .places)) ≡ 0)
-      × (headerOf (blockIn (m .counts .replicas) s (m .blocks .places)) .slot ≡ s)
-      × (headerOf (blockIn (m .counts .replicas) s (m .blocks .places)) .replicas ≡ m .counts .replicas)
+  pub waits : (s : ℕ) → m .turn .slot ≤ s → s < m .turn .slot + span (m .group)
+      → isEmpty (span (m .group)) s (m .blocks .places) ≡ false
+      → (blockRefusal (blockIn (span (m .group)) s (m .blocks .places)) ≡ 0)
+      × (headerOf (blockIn (span (m .group)) s (m .blocks .places)) .slot ≡ s)
+      × (headerOf (blockIn (span (m .group)) s (m .blocks .places)) .replicas ≡ m .group .replicas)
   pub done : 0 < m .counts .done
-      → (isEmpty (m .counts .replicas) (m .turn .slot) (m .blocks .places) ≡ false) × (m .counts .done < getD (blockAtTurn m) 3 0)
+      → (isEmpty (span (m .group)) (m .turn .slot) (m .blocks .places) ≡ false) × (m .counts .done < getD (blockAtTurn m) 3 0)
   pub applying : isOn (m .turn .applying) ≡ true → 0 < m .counts .done
 
 pub record Shape (over : ℕ) (m : Memory) : Type 0 where

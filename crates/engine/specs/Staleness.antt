@@ -3,14 +3,14 @@
 use Prim.Native.Nat.{ℕ}
 use mathlib.Core.Path.{_≡_}
 use mathlib.Core.Bool.{Bool, true, false, cond, not, _&&_}
-use mathlib.Core.List.{[], _∷_}
+use mathlib.Core.List.{[], _∷_, _++_}
 use lib.IntN.{ℤ}
 use Rattle.block.specs.Answers.{refuse, firstOf}
 use Rattle.memory.specs.Memory.{Memory, isStation}
 use Rattle.engine.specs.Calls.{Outcome, outcome, unlessStation}
 use Rattle.engine.specs.Calls.Answer.{refused}
 use Rattle.engine.specs.Classes.{mustWait}
-use Rattle.engine.specs.Client.{rowNo, itemOut, notOpen, notActive, isOwn, writeLent, heldByOther, isStale, isFull, staleAt, writeUnless}
+use Rattle.engine.specs.Client.{rowNo, itemOut, notOpen, notActive, isOwn, writeLent, earlyRefusals, heldByOther, isStale, isFull, staleAt, writeUnless}
 use Rattle.engine.specs.Step.{step}
 use Rattle.engine.specs.Step.Call.{write}
 
@@ -18,16 +18,9 @@ use Rattle.engine.specs.Step.Call.{write}
 unfoldable pub lockFirstRefusal : Memory → ℕ → ℕ → ℕ
 lockFirstRefusal m r item =
     firstOf
-    (refuse 1 (not (writeLent m))
-    ∷ refuse 2 (itemOut item)
-    ∷ refuse 3 (notOpen r)
-    ∷ refuse 4 (notActive m r)
-    ∷ refuse 7 (mustWait m item)
-    ∷ cond (isOwn m r item) []
-    (refuse 8 (heldByOther m r item)
-    ∷ refuse 9 (isStale m r item)
-    ∷ refuse 10 (isFull m r)
-    ∷ []))
+    (earlyRefusals (writeLent m) m r item
+    ++ (refuse 7 (mustWait m item)
+    ∷ cond (isOwn m r item) [] (refuse 8 (heldByOther m r item) ∷ refuse 9 (isStale m r item) ∷ refuse 10 (isFull m r) ∷ [])))
 
 -- a write before Req 07
 abbrev pub lockFirstWrite : Memory → ℕ → ℕ → ℤ → Outcome

@@ -72,7 +72,7 @@ pub record Stations : Type 0 where
       → let r = reportOf (after (stationMemory n values) cs) in r .tickets ≡ r .«open_count» + r .«read_only» + r .withdrawn
   -- a block that waits at the turn is another's, so that no writeset that a work meets is its own
   pub others : (n : ℕ) (values : List ℤ) → 2 ≤ n → n ≤ 6 → length values ≡ 128 → (cs : List Call)
-      → let m = after (stationMemory n values) cs in nothingWaits m ≡ false → eqb (getD (blockAtTurn m) 1 0) (m .counts .own) ≡ false
+      → let m = after (stationMemory n values) cs in nothingWaits m ≡ false → eqb (getD (blockAtTurn m) 1 0) (m .group .own) ≡ false
   -- an ask of an open transaction is read-only, never queued; 4 never comes; nobody is aborted
   pub asks : (n : ℕ) (values : List ℤ) → 2 ≤ n → n ≤ 6 → length values ≡ 128 → (cs : List Call) (ticket : ℕ)
       → let m = after (stationMemory n values) cs in step m (ask ticket) .answer ≡ cond (notOpen (rowNo m ticket)) (refused 3) readOnly
@@ -87,6 +87,6 @@ pub record Numbered : Type 0 where
   pub restarts : (m : Memory) (n own : ℕ) (values : List ℤ) (journal block : List ℕ) → restartRefusal m n own values block ≡ 0
       → isStation (restartStep m n own values journal block .memory) ≡ false
   pub stays : (n own : ℕ) (values : List ℤ) → 2 ≤ n → n ≤ 6 → own < n → length values ≡ 128 → (cs : List AnyCall)
-      → let m = afterAll (madeMemory n own values) cs in (isStation m ≡ false) × (m .counts .own < m .counts .replicas)
+      → let m = afterAll (madeMemory n own values) cs in (isStation m ≡ false) × (m .group .own < m .group .replicas)
   pub never-25 : (n own : ℕ) (values : List ℤ) → 2 ≤ n → n ≤ 6 → own < n → length values ≡ 128 → (cs : List AnyCall) (c : AnyCall)
       → anyStep (afterAll (madeMemory n own values) cs) c .answer ≡ refused 25 → ⊥

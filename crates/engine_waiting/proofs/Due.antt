@@ -35,7 +35,7 @@ pub record DueRow (s : ℕ) (m : Memory) (r : ℕ) : Type 0 where
   pub sent : m .turn .slot ≡ s → sentAlready m ≡ true → rowAt (m .txns .table) r .stage ≡ 2
 
 pub record Due (ticket s : ℕ) (m : Memory) : Type 0 where
-  pub owner : ownerOf (m .counts .replicas) s ≡ m .counts .own
+  pub owner : ownerOf (m .group .replicas) s ≡ m .group .own
   pub old : ticket ≤ m .counts .tickets
   pub rows : (r : ℕ) → r < 6 → rowAt (m .txns .table) r .ticket ≡ ticket → DueRow s m r
 
@@ -43,7 +43,7 @@ module _ {over : ℕ} (m : Memory) (S : Shape over m) (Q : SentShape m) (ticket 
   -- with what each call makes of the rows that have it
   due-by : (n : Memory) → Traced ticket m n → ((r : ℕ) → r < 6 → rowAt (n .txns .table) r .ticket ≡ ticket → DueRow s m r → Came m n r → DueRow s n r) → Due ticket s n
   due-by n t f = record {
-    owner = rw (t .replicas, t .own) (D .owner);
+    owner = rw (t .group) (D .owner);
     old = omega (arith, D .old, t .tickets);
     rows = λ r h q. let c = t .rows r h q in f r h q (D .rows r h (c .had ∙ q)) c;
   }

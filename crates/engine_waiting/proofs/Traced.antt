@@ -39,8 +39,7 @@ came-same m n r e = record {
 
 -- from m to n, with what became of the rows that have the ticket
 pub record Traced (ticket : ℕ) (m n : Memory) : Type 0 where
-  pub replicas : n .counts .replicas ≡ m .counts .replicas
-  pub own : n .counts .own ≡ m .counts .own
+  pub group : n .group ≡ m .group
   pub tickets : m .counts .tickets ≤ n .counts .tickets
   pub rows : (r : ℕ) → r < 6 → rowAt (n .txns .table) r .ticket ≡ ticket → Came m n r
 
@@ -51,7 +50,7 @@ shut-ticket l r =
 
 module _ {over : ℕ} (m : Memory) (S : Shape over m) (ticket : ℕ) (some : ticket ≡ 0 → ⊥) (old : ticket ≤ m .counts .tickets) where
   nothing : Traced ticket m m
-  nothing = record { replicas = refl; own = refl; tickets = omega arith; rows = λ r h e. came-same m m r refl }
+  nothing = record { group = refl; tickets = omega arith; rows = λ r h e. came-same m m r refl }
 
   -- row i is put in place of another
   one-row : (n : Memory) (i : ℕ) (t : Txn) → n .txns .table ≡ set (m .txns .table) i t
@@ -72,8 +71,7 @@ module _ {over : ℕ} (m : Memory) (S : Shape over m) (ticket : ℕ) (some : tic
   traced begin = begin-by (λ (o : Outcome). Traced ticket m (o .memory)) m
       (λ e. let i = freeRow (m .txns .table) in
       record {
-        replicas = refl;
-        own = refl;
+        group = refl;
         tickets = omega arith;
         rows = one-row (beginAt m i .memory) i _ refl (λ q.
             let t : _ ≡ ticket = rw (there i _ (begin-passed m e .row)) at q in absurd (omega (arith, old, t)));
@@ -81,12 +79,11 @@ module _ {over : ℕ} (m : Memory) (S : Shape over m) (ticket : ℕ) (some : tic
       (λ e. nothing)
   traced (read t i) = read-by (λ (o : Outcome). Traced ticket m (o .memory)) m t i (λ e. nothing) (λ e. nothing)
   traced (write t i v) = write-by (λ (o : Outcome). Traced ticket m (o .memory)) m t i v
-      (λ e. record { replicas = refl; own = refl; tickets = omega arith; rows = row-shut (staleAt m (rowNo m t) .memory) (rowNo m t) refl })
-      (λ e o. record { replicas = refl; own = refl; tickets = omega arith; rows = λ r h q. came-same m _ r refl })
+      (λ e. record { group = refl; tickets = omega arith; rows = row-shut (staleAt m (rowNo m t) .memory) (rowNo m t) refl })
+      (λ e o. record { group = refl; tickets = omega arith; rows = λ r h q. came-same m _ r refl })
       (λ e o. let p = write-passed m t i e .own in
       record {
-        replicas = refl;
-        own = refl;
+        group = refl;
         tickets = omega arith;
         rows = one-row (insertWrite m (rowNo m t) (rowIn m (rowNo m t)) i v .memory) (rowNo m t) _ refl (λ q.
             let w = there (rowNo m t) _ (p .row) in
@@ -94,11 +91,10 @@ module _ {over : ℕ} (m : Memory) (S : Shape over m) (ticket : ℕ) (some : tic
       })
       (λ k e d. nothing)
   traced (ask t) = ask-by (λ (o : Outcome). Traced ticket m (o .memory)) m t
-      (λ e. record { replicas = refl; own = refl; tickets = omega arith; rows = row-shut (readOnlyAt m (rowNo m t) .memory) (rowNo m t) refl })
+      (λ e. record { group = refl; tickets = omega arith; rows = row-shut (readOnlyAt m (rowNo m t) .memory) (rowNo m t) refl })
       (λ e d. let p = ask-passed m t e in
       record {
-        replicas = refl;
-        own = refl;
+        group = refl;
         tickets = omega arith;
         rows = one-row (queueAt m (rowNo m t) (rowIn m (rowNo m t)) .memory) (rowNo m t) _ refl (λ q.
             let w = there (rowNo m t) _ (p .row) in
@@ -106,13 +102,12 @@ module _ {over : ℕ} (m : Memory) (S : Shape over m) (ticket : ℕ) (some : tic
       })
       (λ e. nothing)
   traced (withdraw t) = withdraw-by (λ (o : Outcome). Traced ticket m (o .memory)) m t
-      (λ e. record { replicas = refl; own = refl; tickets = omega arith; rows = row-shut (withdrawAt m (rowNo m t) .memory) (rowNo m t) refl })
+      (λ e. record { group = refl; tickets = omega arith; rows = row-shut (withdrawAt m (rowNo m t) .memory) (rowNo m t) refl })
       (λ e. nothing)
   traced report = unfold step reportStep in nothing
   traced (send b) = send-by (λ (o : Outcome). Traced ticket m (o .memory)) m b
       (λ e. record {
-        replicas = refl;
-        own = refl;
+        group = refl;
         tickets = omega arith;
         rows = λ r h q. let w = sent-row (m .txns .table) r in
             record {
@@ -125,10 +120,9 @@ module _ {over : ℕ} (m : Memory) (S : Shape over m) (ticket : ℕ) (some : tic
       })
       (λ k e d. nothing)
   traced (deliver b) = deliver-by (λ (o : Outcome). Traced ticket m (o .memory)) m b
-      (λ e. record { replicas = refl; own = refl; tickets = omega arith; rows = λ r h q. came-same m _ r refl }) (λ e. nothing)
+      (λ e. record { group = refl; tickets = omega arith; rows = λ r h q. came-same m _ r refl }) (λ e. nothing)
   traced work = let f = frames .works m in record {
-    replicas = f .replicas;
-    own = f .own;
+    group = f .group;
     tickets = omega (arith, f .tickets);
     rows = λ r h q. left r q (f .rows r);
   }
@@ -138,4 +132,4 @@ module _ {over : ℕ} (m : Memory) (S : Shape over m) (ticket : ℕ) (some : tic
       left r q (inl e) = came-same m (step m work .memory) r e
       left r q (inr e) = absurd (some (sym q ∙ ap (λ (x : Txn). x .ticket) e))
   traced (load l) = load-by (λ (o : Outcome). Traced ticket m (o .memory)) m l
-      (λ e. record { replicas = refl; own = refl; tickets = omega arith; rows = λ r h q. came-same m _ r refl }) (λ e. nothing)
+      (λ e. record { group = refl; tickets = omega arith; rows = λ r h q. came-same m _ r refl }) (λ e. nothing)

@@ -59,7 +59,7 @@ row-below ticket m e = leb-false 6 (rowNo m ticket) (not-true (leb 6 (rowNo m ti
 
 -- ---- the ask
 
-module _ (m : Memory) (R : Reached m) (ticket s : ℕ) (early : m .turn .slot < s) (owns : ownerOf (m .counts .replicas) s ≡ m .counts .own) where
+module _ (m : Memory) (R : Reached m) (ticket s : ℕ) (early : m .turn .slot < s) (owns : ownerOf (m .group .replicas) s ≡ m .group .own) where
   abbrev After : Outcome → Type 0
   After o = Shape (R .over) (o .memory) → o .answer ≡ queued → (ticket ≡ 0 → ⊥) × Due ticket s (o .memory)
 
@@ -102,7 +102,7 @@ due-turn ticket s m R D e =
     let h = row-below ticket m e in
     D .rows (rowNo m ticket) h (row-found ticket (m .txns .table) (R .shape .lengths .table) h .is) .turn
 
-ends-by : (m : Memory) → Reached m → (ticket : ℕ) → step m (ask ticket) .answer ≡ queued → (s : ℕ) → m .turn .slot < s → ownerOf (m .counts .replicas) s ≡ m .counts .own
+ends-by : (m : Memory) → Reached m → (ticket : ℕ) → step m (ask ticket) .answer ≡ queued → (s : ℕ) → m .turn .slot < s → ownerOf (m .group .replicas) s ≡ m .group .own
     → EndsBy m ticket s
 ends-by m R ticket q s l o cs h =
     let k = step m (ask ticket) .memory in
@@ -122,6 +122,6 @@ waiting-bound = record {
   bound = λ n own values l h o v cs ticket q.
       let m = afterAll (madeMemory n own values) cs in
       let R = all-reached (madeMemory n own values) (made-reached n own values l h o v) cs in
-      let s = own-slot (m .counts .replicas) (m .counts .own) (m .turn .slot) (R .shape .ranges .own (R .replica)) in
-      ends-later m ticket (s .0) (m .turn .slot + m .counts .replicas) (s .2) (ends-by m R ticket q (s .0) (s .1) (s .3));
+      let s = own-slot (m .group .replicas) (m .group .own) (m .turn .slot) (R .shape .ranges .own (R .replica)) in
+      ends-later m ticket (s .0) (m .turn .slot + m .group .replicas) (s .2) (ends-by m R ticket q (s .0) (s .1) (s .3));
 }

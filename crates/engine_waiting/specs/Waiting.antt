@@ -7,8 +7,7 @@ use mathlib.Core.List.{List, [], _∷_, _++_}
 use lib.Dec.{eqb}
 use lib.IntN.{ℤ}
 use lib.ListN.{length}
-use Rattle.block.specs.Message.{ownerOf}
-use Rattle.memory.specs.Memory.{Memory}
+use Rattle.memory.specs.Memory.{Memory, ownerAt, span}
 use Rattle.memory.specs.Rows.{openCount}
 use Rattle.engine.specs.Calls.Answer.{refused, queued}
 use Rattle.engine.specs.Make.{madeMemory}
@@ -45,10 +44,10 @@ pub record Waiting : Type 0 where
   -- it has ended by every own slot after the ask's turn, the next one too
   pub slot : (n own : ℕ) (values : List ℤ) → 2 ≤ n → n ≤ 6 → own < n → length values ≡ 128 → (cs : List AnyCall) (ticket : ℕ)
       → let m = afterAll (madeMemory n own values) cs in step m (ask ticket) .answer ≡ queued
-      → (s : ℕ) → m .turn .slot < s → ownerOf (m .counts .replicas) s ≡ m .counts .own → EndsBy m ticket s
+      → (s : ℕ) → m .turn .slot < s → ownerAt (m .group) s ≡ m .group .own → EndsBy m ticket s
   -- and by t + N
   pub bound : (n own : ℕ) (values : List ℤ) → 2 ≤ n → n ≤ 6 → own < n → length values ≡ 128 → (cs : List AnyCall) (ticket : ℕ)
-      → let m = afterAll (madeMemory n own values) cs in step m (ask ticket) .answer ≡ queued → EndsBy m ticket (m .turn .slot + m .counts .replicas)
+      → let m = afterAll (madeMemory n own values) cs in step m (ask ticket) .answer ≡ queued → EndsBy m ticket (m .turn .slot + span (m .group))
 
 -- what it means to have ended
 pub record Ended : Type 0 where

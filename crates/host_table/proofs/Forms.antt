@@ -45,7 +45,7 @@ use Rattle.host_table.proofs.Steps.{frees-cell}
 use Rattle.host_table.proofs.Behind.{PlainType, Value, R, cellTy, val, vals, tells, makes, typed, opens-record, closes-record, looks-record, shuts-record}
 
 -- what a form's code meets, code that is the same meets, and a contract that says the same is met
-formed : {M : Type 1} (𝓤 : URA M) (H : Heap 𝓤) (A : Atoms 𝓤) (T : Ended) (𝓣 : Tables 𝓤 H) {g f : Fn} {d c : Clauses 𝓤 T} → g ≡ f → d ≡ c
+pub formed : {M : Type 1} (𝓤 : URA M) (H : Heap 𝓤) (A : Atoms 𝓤) (T : Ended) (𝓣 : Tables 𝓤 H) {g f : Fn} {d c : Clauses 𝓤 T} → g ≡ f → d ≡ c
     → Meets 𝓤 H A (T .signature) (WpFn 𝓤 H (𝓣 .C) (𝓣 .Λ) g) (closing 𝓤 H A T d) → Meets 𝓤 H A (T .signature) (WpFn 𝓤 H (𝓣 .C) (𝓣 .Λ) f) (closing 𝓤 H A T c)
 formed 𝓤 H A T 𝓣 {g} {f} {d} {c} code says m =
     subst (λ (k : Fn). Meets 𝓤 H A (T .signature) (WpFn 𝓤 H (𝓣 .C) (𝓣 .Λ) k) (closing 𝓤 H A T c)) code
@@ -180,7 +180,7 @@ module _ (X : PlainType) where
 abbrev pub fieldVals : (X : PlainType) → Value X → Vals
 fieldVals X h = ofList (flat (fields (X .declared)) (valss (fields (X .declared)) (LL.spells (X .declared .parts) (X .laws)) (X .declared .to h)))
 
-abbrev fieldTys : PlainType → Tys
+abbrev pub fieldTys : PlainType → Tys
 fieldTys X = toTys (mirs (fields (X .declared)))
 
 -- a field of 32 bits, and the record with another number in it

@@ -5,6 +5,8 @@ pub mod Answers
 pub mod Rows
 pub mod Behind
 pub mod Forms
+pub mod Groups
+pub mod Changes
 pub mod Cursor
 pub mod Numbers
 pub mod TableLaws

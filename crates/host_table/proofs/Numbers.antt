@@ -57,25 +57,25 @@ module _ (h : Counts) (n : ℕ) (fits : n < 2 ^ 32) (was : Is R h (vals h)) wher
   each-is = LL.owed N.the-type N′.the-laws h (vals h) was
 
   pub is-tickets : Is R (withTickets h n) (vals (withTickets h n))
-  is-tickets = let g = each-is in LL.owes N.the-type N′.the-laws (withTickets h n) (g .0, (g .1 .0, (g .1 .1 .0, (g .1 .1 .1 .0, ((refl, fits), g .1 .1 .1 .1 .1)))))
+  is-tickets = let g = each-is in LL.owes N.the-type N′.the-laws (withTickets h n) (g .0, (g .1 .0, ((refl, fits), g .1 .1 .1)))
 
   pub is-read-only : Is R (withReadOnly h n) (vals (withReadOnly h n))
-  is-read-only = let g = each-is in LL.owes N.the-type N′.the-laws (withReadOnly h n) (g .0, (g .1 .0, (g .1 .1 .0, (g .1 .1 .1 .0, (g .1 .1 .1 .1 .0, (g .1 .1 .1 .1 .1 .0, ((refl, fits), g .1 .1 .1 .1 .1 .1 .1)))))))
+  is-read-only = let g = each-is in LL.owes N.the-type N′.the-laws (withReadOnly h n) (g .0, (g .1 .0, (g .1 .1 .0, (g .1 .1 .1 .0, ((refl, fits), g .1 .1 .1 .1 .1)))))
 
   pub is-aborted : Is R (withAborted h n) (vals (withAborted h n))
-  is-aborted = let g = each-is in LL.owes N.the-type N′.the-laws (withAborted h n) (g .0, (g .1 .0, (g .1 .1 .0, (g .1 .1 .1 .0, (g .1 .1 .1 .1 .0, (g .1 .1 .1 .1 .1 .0, (g .1 .1 .1 .1 .1 .1 .0, ((refl, fits), g .1 .1 .1 .1 .1 .1 .1 .1))))))))
+  is-aborted = let g = each-is in LL.owes N.the-type N′.the-laws (withAborted h n) (g .0, (g .1 .0, (g .1 .1 .0, (g .1 .1 .1 .0, (g .1 .1 .1 .1 .0, ((refl, fits), g .1 .1 .1 .1 .1 .1))))))
 
   pub is-withdrawn : Is R (withWithdrawn h n) (vals (withWithdrawn h n))
-  is-withdrawn = let g = each-is in LL.owes N.the-type N′.the-laws (withWithdrawn h n) (g .0, (g .1 .0, (g .1 .1 .0, (g .1 .1 .1 .0, (g .1 .1 .1 .1 .0, (g .1 .1 .1 .1 .1 .0, (g .1 .1 .1 .1 .1 .1 .0, (g .1 .1 .1 .1 .1 .1 .1 .0, ((refl, fits), tt)))))))))
+  is-withdrawn = let g = each-is in LL.owes N.the-type N′.the-laws (withWithdrawn h n) (g .0, (g .1 .0, (g .1 .1 .0, (g .1 .1 .1 .0, (g .1 .1 .1 .1 .0, (g .1 .1 .1 .1 .1 .0, ((refl, fits), tt)))))))
 
 abbrev pub tickets : Number counts
-tickets = record { index = 4; offset = 12; lies = refl; lies-raw = refl; with = withTickets; spelled = λ h n. refl; held = is-tickets }
+tickets = record { index = 2; offset = 8; lies = refl; lies-raw = refl; with = withTickets; spelled = λ h n. refl; held = is-tickets }
 
 abbrev pub read-only : Number counts
-read-only = record { index = 6; offset = 20; lies = refl; lies-raw = refl; with = withReadOnly; spelled = λ h n. refl; held = is-read-only }
+read-only = record { index = 4; offset = 16; lies = refl; lies-raw = refl; with = withReadOnly; spelled = λ h n. refl; held = is-read-only }
 
 abbrev pub aborted : Number counts
-aborted = record { index = 7; offset = 24; lies = refl; lies-raw = refl; with = withAborted; spelled = λ h n. refl; held = is-aborted }
+aborted = record { index = 5; offset = 20; lies = refl; lies-raw = refl; with = withAborted; spelled = λ h n. refl; held = is-aborted }
 
 abbrev pub withdrawn : Number counts
-withdrawn = record { index = 8; offset = 28; lies = refl; lies-raw = refl; with = withWithdrawn; spelled = λ h n. refl; held = is-withdrawn }
+withdrawn = record { index = 6; offset = 24; lies = refl; lies-raw = refl; with = withWithdrawn; spelled = λ h n. refl; held = is-withdrawn }

@@ -1,13 +1,16 @@
-// The table, the turn and the counts as a host lends them: a slice of small records, and records behind references. Each function is thin, and defined on a table of
+// The table, the group, the turn and the counts as a host lends them: a slice of small records, and records behind references. Each function is thin, and defined on a table of
 // any length; what is decided is decided by value elsewhere.
 ghost use mathlib.Core.Path.{_≡_};
 ghost use mathlib.Core.List.{map};
+ghost use lib.Dec.{eqb};
 ghost use lib.ListN.{set};
 ghost use Rattle.memory.specs.Memory.{withTickets, withReadOnly, withAborted, withWithdrawn};
 ghost use Rattle.memory.specs.Rows.{closed, endRows, rowAt, rowFrom, rowOf};
+ghost use Rattle.memory.specs.Turns.{markSent, markApplying, advance, stepTurn};
 ghost use Rattle.engine.specs.Moves.{sendRow};
 ghost use Rattle.host_table.specs.Table.{withStage, withWrites, loaded};
 use memory::Counts;
+use memory::Group;
 use memory::Turn;
 use memory::Txn;
 
@@ -134,14 +137,63 @@ pub fn load(table: &[Txn]) -> [Txn; 6]
     [table[0], table[1], table[2], table[3], table[4], table[5]]
 }
 
+pub fn copy_group(group: &Group) -> Group
+    ensures { λ r. ⌜ r ≡ now (group .entry) ⌝ }
+{
+    *group
+}
+
+// The group as the call by value made it.
+pub fn set_group(group: &mut Group, to: Group)
+    ensures { λ _. ⌜ now (group .exit) ≡ to ⌝ }
+{
+    *group = to;
+}
+
 pub fn copy_turn(turn: &Turn) -> Turn
     ensures { λ r. ⌜ r ≡ now (turn .entry) ⌝ }
 {
     *turn
 }
 
-// The turn advanced, or with a mark set, as the call by value decided it.
-pub fn set_turn(turn: &mut Turn, to: Turn)
+// The turn goes up by one, and both marks go off.
+pub fn advance_turn(turn: &mut Turn)
+    ensures { λ _. ⌜ now (turn .exit) ≡ advance (now (turn .entry)) ⌝ }
+{
+    let before = *turn;
+    *turn = before.advance();
+}
+
+// The sent mark goes on: nothing else is written.
+pub fn mark_sent(turn: &mut Turn)
+    ensures { λ _. ⌜ now (turn .exit) ≡ markSent (now (turn .entry)) ⌝ }
+{
+    turn.sent = 1;
+}
+
+// The applying mark goes on: nothing else is written.
+pub fn mark_applying(turn: &mut Turn)
+    ensures { λ _. ⌜ now (turn .exit) ≡ markApplying (now (turn .entry)) ⌝ }
+{
+    turn.applying = 1;
+}
+
+// What a work that is not refused does to the turn, by what it replies: whether the turn moves, and who sent what it processed.
+pub fn step_turn(turn: &mut Turn, moved: bool, sender: u8, own: u8)
+    ensures { λ _. ⌜ now (turn .exit) ≡ stepTurn moved (eqb sender own) (now (turn .entry)) ⌝ }
+{
+    if moved {
+        advance_turn(turn);
+        return;
+    }
+    if sender == own {
+        return;
+    }
+    mark_applying(turn);
+}
+
+// The whole record anew, where a replica or a station is made or restarted.
+pub fn replace_turn(turn: &mut Turn, to: Turn)
     ensures { λ _. ⌜ now (turn .exit) ≡ to ⌝ }
 {
     *turn = to;

@@ -1,2 +1,3 @@
 -- What belongs to no one function: the laws, over plain lists and numbers, that the proofs cite.
 pub mod RowLaws
+pub mod ByteLaws

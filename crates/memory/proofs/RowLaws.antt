@@ -10,12 +10,12 @@ use borrow.Rule.Slice.PartMut.{putMid}
 use borrow.Author.Tests.{eq-eqb, ne-eqb, lt-ltb, le-ltb}
 use lib.Dec.{eqb, ltb}
 use lib.ListN.{length, getD, set, take, drop, replicate, length-take, length-drop, drop-of-length-le}
-use lib.Seq.{slice, paste, paste-suc, slice-cons, drop-cons, drop-length, drop-drop, take-take, getD-at, length-take-le}
+use lib.Seq.{set-getD, slice, paste, paste-suc, slice-cons, drop-cons, drop-length, drop-drop, take-take, getD-at, length-take-le}
 use Rattle.block.proofs.ListLaws.{take-drop}
 use Rattle.memory.specs.declared.Held.{Held}
 use Rattle.memory.specs.declared.Held.the-variants.{By, Nobody}
 use Rattle.memory.specs.declared.Txn.{Txn}
-use Rattle.memory.specs.Rows.{openCount, rowFrom, indexFrom, has, holderFrom, countBelow, shiftIn, insertAt}
+use Rattle.memory.specs.Rows.{closed, openCount, rowAt, rowFrom, indexFrom, has, holderFrom, countBelow, shiftIn, insertAt}
 
 -- ---- a list from place k on
 
@@ -211,3 +211,7 @@ pub row-within : (x : ℕ) (l : List Txn) (i : ℕ) → rowFrom x i l ≤ i + le
 unfolding rowFrom
 row-within x [] i = omega arith
 row-within x (t ∷ l) i = cond-within (eqb (t .ticket) x) _ _ _ (omega arith) (omega (arith, row-within x l (suc i)))
+
+-- a row put back as it was
+pub same-row : (table : List Txn) (at : ℕ) (t : Txn) → t ≡ rowAt table at → set table at t ≡ table
+same-row table at t e = rw e (set-getD table at closed)

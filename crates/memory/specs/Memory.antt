@@ -5,7 +5,9 @@ use mathlib.Core.List.{List}
 use lib.Dec.{eqb}
 use lib.IntN.{ℤ}
 use lib.ListN.{length}
+use Rattle.block.specs.Message.{ownerOf}
 use Rattle.memory.specs.declared.Counts.{Counts}
+use Rattle.memory.specs.declared.Group.{Group}
 use Rattle.memory.specs.declared.Turn.{Turn}
 use Rattle.memory.specs.declared.Txn.{Txn}
 
@@ -30,6 +32,7 @@ pub record Blocks : Type 0 where
   pub outbox : List ℕ
 
 pub record Memory : Type 0 where
+  pub group : Group
   pub turn : Turn
   pub counts : Counts
   pub txns : Transactions
@@ -46,30 +49,65 @@ maxSlots = 100_000_000
 abbrev pub noNumber : ℕ
 noNumber = 255
 
-abbrev pub numberless : Counts → Bool
-numberless c = eqb (c .own) noNumber
+abbrev pub groupOf : ℕ → ℕ → Group
+groupOf n own = record { replicas = n; own = own }
+
+abbrev pub numberless : Group → Bool
+numberless g = eqb (g .own) noNumber
 
 abbrev pub isStation : Memory → Bool
-isStation m = numberless (m .counts)
+isStation m = numberless (m .group)
+
+-- the replica that a slot belongs to
+abbrev pub ownerAt : Group → ℕ → ℕ
+ownerAt g slot = ownerOf (g .replicas) slot
+
+-- how many places there are: blocks of so many slots, from the turn's on, are kept
+abbrev pub span : Group → ℕ
+span g = g .replicas
 
 -- one more; at its type's limit, where no list of calls leads, a count stays
 unfoldable pub bump : ℕ → ℕ
 bump n = min (n + 1) 4_294_967_295
 
--- the items of all rows and their values have their lengths
-abbrev pub writesLent : Memory → Bool
-writesLent m = eqb (length (m .txns .items)) 48 && eqb (length (m .txns .writes)) 48
+-- ---- lengths: a part that is lent has its own; what is lent for a block, or as one, has 512 bytes
 
--- N blocks
+abbrev pub isBlock : List ℕ → Bool
+isBlock bytes = eqb (length bytes) 512
+
+abbrev pub queueLent : Memory → Bool
+queueLent m = eqb (length (m .txns .queue)) 6
+
+abbrev pub itemsLent : Memory → Bool
+itemsLent m = eqb (length (m .txns .items)) 48
+
+-- the items of all rows and their values
+abbrev pub writesLent : Memory → Bool
+writesLent m = itemsLent m && eqb (length (m .txns .writes)) 48
+
+abbrev pub snapshotsLent : Memory → Bool
+snapshotsLent m = eqb (length (m .txns .snapshots)) 768
+
+abbrev pub valuesLent : Memory → Bool
+valuesLent m = eqb (length (m .store .values)) 128
+
+abbrev pub stampsLent : Memory → Bool
+stampsLent m = eqb (length (m .store .stamps)) 128
+
+abbrev pub classesLent : Memory → Bool
+classesLent m = eqb (length (m .store .classes)) 128
+
+-- a block for each place
 abbrev pub placesLent : Memory → Bool
-placesLent m = eqb (length (m .blocks .places)) (512 * m .counts .replicas)
+placesLent m = eqb (length (m .blocks .places)) (512 * span (m .group))
+
+abbrev pub outboxLent : Memory → Bool
+outboxLent m = isBlock (m .blocks .outbox)
 
 -- ---- a number or a part put in place of another
 
 abbrev pub withTickets : Counts → ℕ → Counts
 withTickets c n = record {
-  replicas = c .replicas;
-  own = c .own;
   commits = c .commits;
   done = c .done;
   tickets = n;
@@ -81,8 +119,6 @@ withTickets c n = record {
 
 abbrev pub withReadOnly : Counts → ℕ → Counts
 withReadOnly c n = record {
-  replicas = c .replicas;
-  own = c .own;
   commits = c .commits;
   done = c .done;
   tickets = c .tickets;
@@ -94,8 +130,6 @@ withReadOnly c n = record {
 
 abbrev pub withAborted : Counts → ℕ → Counts
 withAborted c n = record {
-  replicas = c .replicas;
-  own = c .own;
   commits = c .commits;
   done = c .done;
   tickets = c .tickets;
@@ -107,8 +141,6 @@ withAborted c n = record {
 
 abbrev pub withWithdrawn : Counts → ℕ → Counts
 withWithdrawn c n = record {
-  replicas = c .replicas;
-  own = c .own;
   commits = c .commits;
   done = c .done;
   tickets = c .tickets;
@@ -120,8 +152,6 @@ withWithdrawn c n = record {
 
 abbrev pub withDone : Counts → ℕ → Counts
 withDone c n = record {
-  replicas = c .replicas;
-  own = c .own;
   commits = c .commits;
   done = n;
   tickets = c .tickets;
@@ -133,8 +163,6 @@ withDone c n = record {
 
 abbrev pub withCommit : Counts → ℕ → ℕ → ℕ → Counts
 withCommit c n k a = record {
-  replicas = c .replicas;
-  own = c .own;
   commits = n;
   done = c .done;
   tickets = c .tickets;
@@ -148,13 +176,14 @@ abbrev pub withTable : Transactions → List Txn → Transactions
 withTable x t = record { table = t; queue = x .queue; items = x .items; writes = x .writes; snapshots = x .snapshots }
 
 abbrev pub withTxns : Memory → Counts → Transactions → Memory
-withTxns m c x = record { turn = m .turn; counts = c; txns = x; store = m .store; blocks = m .blocks }
+withTxns m c x = record { group = m .group; turn = m .turn; counts = c; txns = x; store = m .store; blocks = m .blocks }
 
 abbrev pub withBlocks : Memory → Blocks → Memory
-withBlocks m b = record { turn = m .turn; counts = m .counts; txns = m .txns; store = m .store; blocks = b }
+withBlocks m b = record { group = m .group; turn = m .turn; counts = m .counts; txns = m .txns; store = m .store; blocks = b }
 
 abbrev pub withClasses : Memory → List ℕ → Memory
 withClasses m l = record {
+  group = m .group;
   turn = m .turn;
   counts = m .counts;
   txns = m .txns;
@@ -163,4 +192,4 @@ withClasses m l = record {
 }
 
 abbrev pub withTurn : Memory → Turn → Counts → Blocks → Memory
-withTurn m t c b = record { turn = t; counts = c; txns = m .txns; store = m .store; blocks = b }
+withTurn m t c b = record { group = m .group; turn = t; counts = c; txns = m .txns; store = m .store; blocks = b }

@@ -1,6 +1,6 @@
 -- The turn and the places: whose slot it is, where a slot's block waits, and the block that waits there.
 use Prim.Native.Nat.{ℕ, _+_, _*_, _%_}
-use mathlib.Core.Bool.{Bool, not}
+use mathlib.Core.Bool.{Bool, cond, not}
 use mathlib.Core.List.{List}
 use lib.Dec.{eqb}
 use lib.ListN.{getD, set}
@@ -24,17 +24,21 @@ markApplying t = record { slot = t .slot; sent = t .sent; applying = 1 }
 abbrev pub advance : Turn → Turn
 advance t = record { slot = bump (t .slot); sent = 0; applying = 0 }
 
--- the message of slot s waits in place s mod N, which begins at this byte
+-- after a step that is done: the turn advances where the step says so; else it is applying, unless what was processed is the replica's own
+abbrev pub stepTurn : Bool → Bool → Turn → Turn
+stepTurn moved mine t = cond moved (advance t) (cond mine t (markApplying t))
+
+-- with so many places, the message of slot s waits in place s mod span, which begins at this byte
 unfoldable pub placeStart : ℕ → ℕ → ℕ
-placeStart replicas slot = 512 * (slot % replicas)
+placeStart span slot = 512 * (slot % span)
 
 -- the block of the place
 abbrev pub blockIn : ℕ → ℕ → List ℕ → List ℕ
-blockIn replicas slot places = slice (placeStart replicas slot) (placeStart replicas slot + 512) places
+blockIn span slot places = slice (placeStart span slot) (placeStart span slot + 512) places
 
 abbrev pub isEmpty : ℕ → ℕ → List ℕ → Bool
-isEmpty replicas slot places = eqb (getD places (placeStart replicas slot) 0) 0
+isEmpty span slot places = eqb (getD places (placeStart span slot) 0) 0
 
 -- the place empties: its first byte becomes 0
 abbrev pub emptied : ℕ → ℕ → List ℕ → List ℕ
-emptied replicas slot places = set places (placeStart replicas slot) 0
+emptied span slot places = set places (placeStart span slot) 0

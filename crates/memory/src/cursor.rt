@@ -1,17 +1,18 @@
 // The turn as a cursor: methods by value, each of which hands the cursor back; and the place of a slot.
 ghost use mathlib.Core.Path.{_≡_};
-ghost use Rattle.block.specs.Message.{ownerOf};
-ghost use Rattle.memory.specs.Turns.{markSent, advance, placeStart};
+ghost use Rattle.memory.specs.Memory.{ownerAt, span};
+ghost use Rattle.memory.specs.Turns.{markSent, markApplying, advance, placeStart};
+use super::Group;
 use super::Owned;
 use super::Turn;
 use super::rows::bump;
 
 impl Turn {
     // The replica that the slot belongs to; the slot itself where the group has no replica.
-    pub fn owner(self, replicas: u8) -> Owned
-        ensures { λ r. ⌜ (r .turn ≡ self) × (r .replica ≡ ownerOf replicas (self .slot)) ⌝ }
+    pub fn owner(self, group: Group) -> Owned
+        ensures { λ r. ⌜ (r .turn ≡ self) × (r .replica ≡ ownerAt group (self .slot)) ⌝ }
     {
-        if replicas == 0 {
+        if group.replicas == 0 {
             return Owned {
                 turn: self,
                 replica: self.slot,
@@ -19,7 +20,7 @@ impl Turn {
         }
         Owned {
             turn: self,
-            replica: self.slot % (replicas as u32),
+            replica: self.slot % (group.replicas as u32),
         }
     }
 
@@ -30,6 +31,16 @@ impl Turn {
             slot: self.slot,
             sent: 1,
             applying: self.applying,
+        }
+    }
+
+    pub fn mark_applying(self) -> Turn
+        ensures { λ r. ⌜ r ≡ markApplying self ⌝ }
+    {
+        Turn {
+            slot: self.slot,
+            sent: self.sent,
+            applying: 1,
         }
     }
 
@@ -45,11 +56,11 @@ impl Turn {
 }
 
 // Where the place of a slot begins; of a group with no replica it is defined too.
-pub fn place_start(replicas: u8, slot: u32) -> usize
-    ensures { λ r. ⌜ r ≡ placeStart replicas slot ⌝ }
+pub fn place_start(group: Group, slot: u32) -> usize
+    ensures { λ r. ⌜ r ≡ placeStart (span group) slot ⌝ }
 {
-    if replicas == 0 {
+    if group.replicas == 0 {
         return 512 * slot as usize;
     }
-    512 * (slot % (replicas as u32)) as usize
+    512 * (slot % (group.replicas as u32)) as usize
 }

@@ -1,4 +1,5 @@
 // A replica's memory: the rows of its open transactions, its turn and its numbers, and the functions that look at them and change them.
+pub mod bytes;
 pub mod cursor;
 pub mod rows;
 
@@ -24,12 +25,16 @@ pub struct Turn {
 // In place of an own number where there is none, at a station. No replica has it: own numbers are below the group's size, and that is 6 at most.
 pub const NO_NUMBER: u8 = 255;
 
-// Numbers of a replica: the group's size and its own number (NO_NUMBER at a station), the commit count, the writesets done of the block at the turn,
-// the tickets given, and how its own transactions ended.
+// What a replica knows of its group: how many replicas it has, and which of them it is, NO_NUMBER at a station. A make or a restart sets it, and no other call.
 #[repr(C)]
-pub struct Counts {
+pub struct Group {
     pub replicas: u8,
     pub own: u8,
+}
+
+// Numbers of a replica: the commit count, the writesets done of the block at the turn, the tickets given, and how its own transactions ended.
+#[repr(C)]
+pub struct Counts {
     pub commits: u32,
     pub done: u8,
     pub tickets: u32,

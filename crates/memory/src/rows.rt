@@ -5,7 +5,7 @@ ghost use lib.ListN.{length, replicate};
 ghost use lib.Seq.{paste};
 ghost use lib.IntN.{pos};
 ghost use Rattle.memory.specs.Memory.{bump};
-ghost use Rattle.memory.specs.Rows.{openCount, rowOf, freeRow, indexOf, has, holderOf, countBelow, shiftIn};
+ghost use Rattle.memory.specs.Rows.{closed, openCount, rowOf, rowAt, freeRow, indexOf, has, holderOf, countBelow, shiftIn};
 use super::Held;
 use super::Txn;
 
@@ -229,5 +229,32 @@ pub fn clear_values(part: &mut [i32])
     while i < part.len() {
         part[i] = 0i32;
         i += 1;
+    }
+}
+
+// A free row's record.
+pub fn free() -> Txn
+    ensures { λ r. ⌜ r ≡ closed ⌝ }
+{
+    Txn {
+        ticket: 0,
+        stage: 0,
+        snapshot: 0,
+        writes: 0,
+    }
+}
+
+// A free record past the last row. Each row by its own number: an array that is indexed by a variable is first copied to memory.
+pub fn row_at(table: [Txn; 6], at: usize) -> Txn
+    ensures { λ r. ⌜ r ≡ rowAt table at ⌝ }
+{
+    match at {
+        0 => table[0],
+        1 => table[1],
+        2 => table[2],
+        3 => table[3],
+        4 => table[4],
+        5 => table[5],
+        _ => free(),
     }
 }

@@ -8,7 +8,7 @@ use borrow.Author.Tests.{eq-eqb, ne-eqb}
 use lib.Dec.{eqb}
 use lib.ListN.{length}
 use Rattle.memory.specs.Memory.{numberless}
-use Rattle.memory.specs.declared.Counts.{Counts}
+use Rattle.memory.specs.declared.Group.{Group}
 use Rattle.replay_parse.specs.declared.Call.{Call}
 use Rattle.replay_journal.specs.declared.Change.{Change}
 use Rattle.replay_journal.specs.declared.Held.{Held}
@@ -20,13 +20,13 @@ use Rattle.replay.specs.Places.{isReplica, isThere, isAnswered, asMade, 
 
 -- ---- whether there is an answer
 
-pub replica-not : (counts : Counts) → numberless counts ≡ true → false ≡ isReplica counts
-replica-not counts e = rw e
+pub replica-not : (group : Group) → numberless group ≡ true → false ≡ isReplica group
+replica-not group e = rw e
 
-pub replica-made : (counts : Counts) → numberless counts ≡ false → not (eqb (counts .replicas) 0) ≡ isReplica counts
-replica-made counts e = rw e
+pub replica-made : (group : Group) → numberless group ≡ false → not (eqb (group .replicas) 0) ≡ isReplica group
+replica-made group e = rw e
 
-module _ (c : Call) (counts : Counts) where
+module _ (c : Call) (group : Group) where
   -- A, M, Y; and J, P, Z
   abbrev Makes : Type 0
   Makes = (c .letter ≡ 65) ⊎ ((c .letter ≡ 77) ⊎ (c .letter ≡ 89))
@@ -34,17 +34,17 @@ module _ (c : Call) (counts : Counts) where
   abbrev Replicas : Type 0
   Replicas = (c .letter ≡ 74) ⊎ ((c .letter ≡ 80) ⊎ (c .letter ≡ 90))
 
-  pub there-made : Makes → true ≡ isThere c counts
+  pub there-made : Makes → true ≡ isThere c group
   there-made (inl e) = rw e
   there-made (inr (inl e)) = rw e
   there-made (inr (inr e)) = rw e
 
-  pub there-replica : Replicas → isReplica counts ≡ isThere c counts
+  pub there-replica : Replicas → isReplica group ≡ isThere c group
   there-replica (inl e) = rw e
   there-replica (inr (inl e)) = rw e
   there-replica (inr (inr e)) = rw e
 
-  pub there-other : (Makes → ⊥) → (Replicas → ⊥) → not (eqb (counts .replicas) 0) ≡ isThere c counts
+  pub there-other : (Makes → ⊥) → (Replicas → ⊥) → not (eqb (group .replicas) 0) ≡ isThere c group
   there-other h k =
       rw (
         ne-eqb (c .letter) 65 (λ e. h (inl e)),
@@ -56,31 +56,31 @@ module _ (c : Call) (counts : Counts) where
       )
 
   module _ (j : Journal) {known : Bool} where
-    pub answer-unknown : known ≡ false → false ≡ isAnswered known c counts j
+    pub answer-unknown : known ≡ false → false ≡ isAnswered known c group j
     unfolding isAnswered
     answer-unknown k = rw k
 
-    pub answer-none : known ≡ true → c .letter ≡ 0 → false ≡ isAnswered known c counts j
+    pub answer-none : known ≡ true → c .letter ≡ 0 → false ≡ isAnswered known c group j
     unfolding isAnswered
     answer-none k z = rw (k, z)
 
-    pub answer-missing : known ≡ true → (c .letter ≡ 0 → ⊥) → isThere c counts ≡ false → false ≡ isAnswered known c counts j
+    pub answer-missing : known ≡ true → (c .letter ≡ 0 → ⊥) → isThere c group ≡ false → false ≡ isAnswered known c group j
     unfolding isAnswered
     answer-missing k z t = rw (k, ne-eqb (c .letter) 0 z, t)
 
-    pub answer-part : known ≡ true → (c .letter ≡ 0 → ⊥) → isThere c counts ≡ true → hasPart c j ≡ isAnswered known c counts j
+    pub answer-part : known ≡ true → (c .letter ≡ 0 → ⊥) → isThere c group ≡ true → hasPart c j ≡ isAnswered known c group j
     unfolding isAnswered
     answer-part k z t = rw (k, ne-eqb (c .letter) 0 z, t)
 
 -- ---- Z as a Y
 
-module _ (c : Call) (counts : Counts) where
-  pub made-other : (c .letter ≡ 90 → ⊥) → c ≡ asMade c counts
+module _ (c : Call) (group : Group) where
+  pub made-other : (c .letter ≡ 90 → ⊥) → c ≡ asMade c group
   unfolding asMade
   made-other h = rw (ne-eqb (c .letter) 90 h)
 
   pub made-again : c .letter ≡ 90
-      → _≡_ {A = Call} (record { letter = 89; first = counts .replicas; second = counts .own; value = c .value; digits = c .digits }) (asMade c counts)
+      → _≡_ {A = Call} (record { letter = 89; first = group .replicas; second = group .own; value = c .value; digits = c .digits }) (asMade c group)
   unfolding asMade
   made-again e = rw (eq-eqb (c .letter) 90 e)
 
@@ -88,9 +88,9 @@ module _ (c : Call) (counts : Counts) where
 
 module _ (c : Call) (replica : Replica) (held : Held) (named lent page : List ℕ) where
   pub plays-at : {asked : Call} {given block left : List ℕ} {p : Played} {after : Held}
-      → asked ≡ asMade c (replica .counts)
+      → asked ≡ asMade c (replica .group)
       → given ≡ bytesGiven c named (journalOf held page)
-      → Plays (sizeLent asked (replica .counts)) replica p block (played asked given lent (memoryOf (sizeLent asked (replica .counts)) replica))
+      → Plays (sizeLent asked (replica .group)) replica p block (played asked given lent (memoryOf (sizeLent asked (replica .group)) replica))
       → journalOf after left ≡ changed (length page) given block (p .change) (journalOf held page)
       → PlaysAt c named lent (length page) (journalOf held page) replica (record { played = p; held = after }) left block
   plays-at e g h k =

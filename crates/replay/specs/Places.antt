@@ -6,7 +6,7 @@ use mathlib.Core.List.{List}
 use lib.Dec.{eqb}
 use lib.ListN.{length}
 use Rattle.memory.specs.Memory.{numberless}
-use Rattle.memory.specs.declared.Counts.{Counts}
+use Rattle.memory.specs.declared.Group.{Group}
 use Rattle.replay_parse.specs.declared.Call.{Call}
 use Rattle.replay_journal.specs.declared.Held.{Held}
 use Rattle.replay_journal.specs.Journals.{Journal, changed, journalOf, hasPart, bytesGiven}
@@ -15,33 +15,33 @@ use Rattle.replay_calls.specs.declared.Replica.{Replica}
 use Rattle.replay_calls.specs.Effects.{memoryOf, isMake, sizeLent, Effect, played, Plays}
 
 -- a replica was made, and not a station
-abbrev pub isReplica : Counts → Bool
-isReplica counts = not (numberless counts) && not (eqb (counts .replicas) 0)
+abbrev pub isReplica : Group → Bool
+isReplica group = not (numberless group) && not (eqb (group .replicas) 0)
 
 -- J, P and Z are calls at a replica alone: a station has no journal, and no classes
 abbrev pub isReplicas : ℕ → Bool
 isReplicas letter = eqb letter 74 || (eqb letter 80 || eqb letter 90)
 
 -- A, M and Y make what is there; any other call needs what was made
-abbrev pub isThere : Call → Counts → Bool
-isThere c counts = cond (isMake c) true (cond (isReplicas (c .letter)) (isReplica counts) (not (eqb (counts .replicas) 0)))
+abbrev pub isThere : Call → Group → Bool
+isThere c group = cond (isMake c) true (cond (isReplicas (c .letter)) (isReplica group) (not (eqb (group .replicas) 0)))
 
 -- whether the line is answered: the bytes that it names are known, it is a call, what it is for is there, and the journal has the part that it names
-unfoldable pub isAnswered : Bool → Call → Counts → Journal → Bool
-isAnswered known c counts j = known && (not (eqb (c .letter) 0) && (isThere c counts && hasPart c j))
+unfoldable pub isAnswered : Bool → Call → Group → Journal → Bool
+isAnswered known c group j = known && (not (eqb (c .letter) 0) && (isThere c group && hasPart c j))
 
 -- Z is a Y with the N and the own number that the replica has
-unfoldable pub asMade : Call → Counts → Call
-asMade c counts =
-    cond (eqb (c .letter) 90) (record { letter = 89; first = counts .replicas; second = counts .own; value = c .value; digits = c .digits }) c
+unfoldable pub asMade : Call → Group → Call
+asMade c group =
+    cond (eqb (c .letter) 90) (record { letter = 89; first = group .replicas; second = group .own; value = c .value; digits = c .digits }) c
 
 -- how many bytes of places it is lent
 abbrev pub sizeAt : Call → Replica → ℕ
-sizeAt c replica = sizeLent (asMade c (replica .counts)) (replica .counts)
+sizeAt c replica = sizeLent (asMade c (replica .group)) (replica .group)
 
 -- what the call does at the replica, where its line names those bytes
 abbrev pub effectAt : Call → List ℕ → List ℕ → Journal → Replica → Effect
-effectAt c named lent j replica = played (asMade c (replica .counts)) (bytesGiven c named j) lent (memoryOf (sizeAt c replica) replica)
+effectAt c named lent j replica = played (asMade c (replica .group)) (bytesGiven c named j) lent (memoryOf (sizeAt c replica) replica)
 
 -- that effect, and with the block that is left the journal by its rule; `room` is what the page has room for. At a station the rule is the same, and no call asks for what is kept
 pub record PlaysAt (c : Call) (named lent : List ℕ) (room : ℕ) (j : Journal) (replica : Replica) (p : Placed) (page block : List ℕ) : Type 0 where

@@ -6,7 +6,7 @@ ghost use Rattle.replay_journal.specs.Journals.{journalOf};
 ghost use Rattle.replay.specs.Places.{isReplica, isThere, isAnswered, asMade, PlaysAt};
 use super::Place;
 use super::Placed;
-use memory::Counts;
+use memory::Group;
 use replay_calls::is_station;
 use replay_calls::play;
 use replay_journal::give;
@@ -14,30 +14,30 @@ use replay_journal::has_part;
 use replay_journal::keep;
 use replay_parse::Call;
 
-fn is_replica(counts: Counts) -> bool
-    ensures { λ r. ⌜ r ≡ isReplica counts ⌝ }
+fn is_replica(group: Group) -> bool
+    ensures { λ r. ⌜ r ≡ isReplica group ⌝ }
 {
-    if is_station(counts) {
+    if is_station(group) {
         return false;
     }
-    counts.replicas != 0
+    group.replicas != 0
 }
 
 // Whether the place has what the call is for: a replica, or also a station. The call may be one that makes it.
-fn is_there(call: Call, counts: Counts) -> bool
-    ensures { λ r. ⌜ r ≡ isThere call counts ⌝ }
+fn is_there(call: Call, group: Group) -> bool
+    ensures { λ r. ⌜ r ≡ isThere call group ⌝ }
 {
     let letter = call.letter;
     match letter {
         b'A' | b'M' | b'Y' => true,
-        b'J' | b'P' | b'Z' => is_replica(counts),
-        _ => counts.replicas != 0,
+        b'J' | b'P' | b'Z' => is_replica(group),
+        _ => group.replicas != 0,
     }
 }
 
 // Whether there is an answer to the call. `known` where the bytes that its line names are.
 pub fn is_answered(known: bool, call: Call, place: Place, page: &[u8]) -> bool
-    ensures { λ r. ⌜ r ≡ isAnswered known call (place .replica .counts) (journalOf (place .held) (now (page .entry))) ⌝ }
+    ensures { λ r. ⌜ r ≡ isAnswered known call (place .replica .group) (journalOf (place .held) (now (page .entry))) ⌝ }
 {
     if !known {
         return false;
@@ -46,8 +46,8 @@ pub fn is_answered(known: bool, call: Call, place: Place, page: &[u8]) -> bool
         return false;
     }
     let replica = place.replica;
-    let counts = replica.counts;
-    if !is_there(call, counts) {
+    let group = replica.group;
+    if !is_there(call, group) {
         return false;
     }
     let held = place.held;
@@ -55,16 +55,16 @@ pub fn is_answered(known: bool, call: Call, place: Place, page: &[u8]) -> bool
 }
 
 // A restart from the journal that is kept, with the N and the own number that the replica has.
-fn as_made(call: Call, counts: Counts) -> Call
-    ensures { λ r. ⌜ r ≡ asMade call counts ⌝ }
+fn as_made(call: Call, group: Group) -> Call
+    ensures { λ r. ⌜ r ≡ asMade call group ⌝ }
 {
     if call.letter != b'Z' {
         return call;
     }
     let mut made = call;
     made.letter = b'Y';
-    made.first = counts.replicas as u32;
-    made.second = counts.own as u32;
+    made.first = group.replicas as u32;
+    made.second = group.own as u32;
     made
 }
 
@@ -75,11 +75,11 @@ pub fn run(call: Call, place: Place, bytes: &[u8], page: &mut [u8], block: &mut 
         (now (page .exit)) (now (block .exit)) ⌝ }
 {
     let replica = place.replica;
-    let counts = replica.counts;
+    let group = replica.group;
     let held = place.held;
     let mut given = io::large_buffer();
     let n = give(call, held, &*page, bytes, &mut given);
-    let played = play::run(as_made(call, counts), replica, &given[..n], &mut *block);
+    let played = play::run(as_made(call, group), replica, &given[..n], &mut *block);
     let change = played.change;
     let after = keep(change, held, &given[..n], &*block, &mut *page);
     Placed {

@@ -155,7 +155,7 @@ module _ (m : Memory) (lent : List ℕ) where
   unfolding workStep passNext commitWriteset work-shows
   step-shows =
       let next = passNext m in
-      let commit = commitWriteset m (eqb (getD (blockAtTurn m) 1 0) (m .counts .own)) (writesetAt (blockAtTurn m) (m .counts .done)) in
+      let commit = commitWriteset m (eqb (getD (blockAtTurn m) 1 0) (m .group .own)) (writesetAt (blockAtTurn m) (m .counts .done)) in
       unless-by work-shows (workRefusal m) m _
       (by-number work-shows (eqb (getD (blockAtTurn m) 0 0) 1) (λ e. worked-shows (stepIn (next .answer)) (next .memory)) (λ e. worked-shows (stepIn (commit .answer)) (commit .memory)))
       (λ e. rw e)

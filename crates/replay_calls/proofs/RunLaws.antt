@@ -22,7 +22,7 @@ use Rattle.replay_calls.specs.Effects.{placesSize, memoryOf, sizeLent, e
 module _ (c : Call) (replica : Replica) (p : Played) (bytes lent : List ℕ) where
   -- the contract of `play::run`
   abbrev Runs : List ℕ → Type 0
-  Runs left = Plays (sizeLent c (replica .counts)) replica p left (played c bytes lent (memoryOf (sizeLent c (replica .counts)) replica))
+  Runs left = Plays (sizeLent c (replica .group)) replica p left (played c bytes lent (memoryOf (sizeLent c (replica .group)) replica))
 
   -- a step that does not look at the places
   abbrev Client : (Memory → Outcome) → Type 0
@@ -36,32 +36,32 @@ module _ (c : Call) (replica : Replica) (p : Played) (bytes lent : List ℕ) whe
 
   pub run-begin : c .letter ≡ 66 → Client (λ (m : Memory). beginStep m) → Runs lent
   unfolding played
-  run-begin e h = rw e (h (placesSize (replica .counts .replicas)) lent)
+  run-begin e h = rw e (h (placesSize (replica .group .replicas)) lent)
 
   pub run-read : c .letter ≡ 82 → Client (λ (m : Memory). readStep m (c .first) (c .second)) → Runs lent
   unfolding played
-  run-read e h = rw e (h (placesSize (replica .counts .replicas)) lent)
+  run-read e h = rw e (h (placesSize (replica .group .replicas)) lent)
 
   pub run-ask : c .letter ≡ 67 → Client (λ (m : Memory). askStep m (c .first)) → Runs lent
   unfolding played
-  run-ask e h = rw e (h (placesSize (replica .counts .replicas)) lent)
+  run-ask e h = rw e (h (placesSize (replica .group .replicas)) lent)
 
   pub run-withdraw : c .letter ≡ 88 → Client (λ (m : Memory). withdrawStep m (c .first)) → Runs lent
   unfolding played
-  run-withdraw e h = rw e (h (placesSize (replica .counts .replicas)) lent)
+  run-withdraw e h = rw e (h (placesSize (replica .group .replicas)) lent)
 
   pub run-report : c .letter ≡ 81 → Client (λ (m : Memory). reportStep m) → Runs lent
   unfolding played
-  run-report e h = rw e (h (placesSize (replica .counts .replicas)) lent)
+  run-report e h = rw e (h (placesSize (replica .group .replicas)) lent)
 
   pub run-send : (left : List ℕ) → c .letter ≡ 83 → ((size : ℕ) → Plays size replica p left (effect lent (unlessStation (memoryOf size replica) (sendStep (memoryOf size replica) lent)))) → Runs left
   unfolding played
-  run-send left e h = rw e (h (placesSize (replica .counts .replicas)))
+  run-send left e h = rw e (h (placesSize (replica .group .replicas)))
 
   -- a step at the replica's own places
   abbrev AtPlaces : (Memory → Outcome) → Type 0
   AtPlaces step =
-      (block : List ℕ) → Plays (placesSize (replica .counts .replicas)) replica p block (effect block (step (memoryOf (placesSize (replica .counts .replicas)) replica)))
+      (block : List ℕ) → Plays (placesSize (replica .group .replicas)) replica p block (effect block (step (memoryOf (placesSize (replica .group .replicas)) replica)))
 
   pub run-write : c .letter ≡ 87 → AtPlaces (λ (m : Memory). unlessStation m (writeStep m (c .first) (c .second) (c .value))) → Runs lent
   unfolding played
@@ -74,7 +74,7 @@ module _ (c : Call) (replica : Replica) (p : Played) (bytes lent : List ℕ) whe
   run-deliver (inr (inr e)) h = rw e (h lent)
 
   pub run-work : (left : List ℕ) → c .letter ≡ 75
-      → Plays (placesSize (replica .counts .replicas)) replica p left (effect lent (withBlock lent workStep (memoryOf (placesSize (replica .counts .replicas)) replica)))
+      → Plays (placesSize (replica .group .replicas)) replica p left (effect lent (withBlock lent workStep (memoryOf (placesSize (replica .group .replicas)) replica)))
       → Runs left
   unfolding played
   run-work left e h = rw e h
@@ -88,11 +88,11 @@ module _ (c : Call) (replica : Replica) (p : Played) (bytes lent : List ℕ) whe
 
   pub run-load : c .letter ≡ 80 → Client (λ (m : Memory). loadStep m bytes) → Runs lent
   unfolding played
-  run-load e h = rw e (h (placesSize (replica .counts .replicas)) lent)
+  run-load e h = rw e (h (placesSize (replica .group .replicas)) lent)
 
   pub run-show : (left : List ℕ) → c .letter ≡ 74 → ((size : ℕ) → Plays size replica p left (show bytes lent (memoryOf size replica))) → Runs left
   unfolding played
-  run-show left e h = rw e (h (placesSize (replica .counts .replicas)))
+  run-show left e h = rw e (h (placesSize (replica .group .replicas)))
 
   pub run-station : c .letter ≡ 65
       → ((block : List ℕ) → Plays (placesSize (c .first)) replica p block (effect block (stationStep (memoryOf (placesSize (c .first)) replica) (c .first) (replicate 128 (c .value)))))
@@ -126,4 +126,4 @@ module _ (c : Call) (replica : Replica) (p : Played) (bytes lent : List ℕ) whe
         ne-eqb (c .letter) 74 o,
         ne-eqb (c .letter) 65 s,
       )
-      (h (placesSize (replica .counts .replicas)) lent)
+      (h (placesSize (replica .group .replicas)) lent)

@@ -7,7 +7,7 @@ use native.Mathlib.Omega.{arith}
 use borrow.Author.Tests.{eq-eqb}
 use lib.Dec.{eqb}
 use lib.IntN.{ℤ}
-use Rattle.memory.specs.Memory.{Memory, noNumber, numberless}
+use Rattle.memory.specs.Memory.{Memory, noNumber, groupOf, numberless}
 use Rattle.engine.specs.Calls.{numberOf, Outcome, outcome, unlessStation}
 use Rattle.engine.specs.Calls.Answer.{refused, made}
 use Rattle.engine.specs.Make.{madeMemory, makeRefusal, makeStep}
@@ -16,25 +16,25 @@ use Rattle.engine.proofs.Stations.{stations}
 use Rattle.replay_journal.specs.declared.Change.the-variants.{Stays, Begins}
 use Rattle.replay_calls.specs.declared.Played.{Played}
 use Rattle.replay_calls.specs.declared.Replica.{Replica}
-use Rattle.replay_calls.specs.Effects.{memoryOf, withoutNumber, withCounts, Effect, effect, Plays}
+use Rattle.replay_calls.specs.Effects.{memoryOf, withGroup, Effect, effect, Plays}
 use Rattle.replay_calls.proofs.EffectLaws.{plays-bare}
 
 -- ---- 25 at a station
 
 module _ (size : ℕ) (replica : Replica) {p : Played} (lent : List ℕ) (o : Outcome) where
-  pub station-refuses : numberless (replica .counts) ≡ true
+  pub station-refuses : numberless (replica .group) ≡ true
       → p ≡ record { replica = replica; number = 25; count = 0; numbers = p .numbers; shown = 0; values = p .values; change = Stays }
       → Plays size replica p lent (effect lent (unlessStation (memoryOf size replica) o))
   station-refuses e is = rw e (plays-bare is refl refl)
 
-  pub replica-does : {left : List ℕ} → numberless (replica .counts) ≡ false → Plays size replica p left (effect lent o)
+  pub replica-does : {left : List ℕ} → numberless (replica .group) ≡ false → Plays size replica p left (effect lent o)
       → Plays size replica p left (effect lent (unlessStation (memoryOf size replica) o))
   replica-does e h = rw e h
 
 -- ---- its make: a replica's with number 0, and then without it
 
 abbrev unnumbered : Memory → Memory
-unnumbered m = record { turn = m .turn; counts = withoutNumber (m .counts); txns = m .txns; store = m .store; blocks = m .blocks }
+unnumbered m = record { group = groupOf (m .group .replicas) noNumber; turn = m .turn; counts = m .counts; txns = m .txns; store = m .store; blocks = m .blocks }
 
 -- by whether the refusal is 0
 kept-either : (b : Bool) (k : ℕ) (m x y : Memory) → (numberOf (cond b (outcome made x) (outcome (refused k) m) .answer) ≡ 0 → ⊥)
@@ -67,7 +67,7 @@ module _ (size : ℕ) (replica : Replica) (n : ℕ) (values : List ℤ) {p : Pla
 
   pub station-made : {q : Played} → p .number ≡ 0
       → q ≡ record {
-        replica = withCounts (p .replica) (withoutNumber (p .replica .counts));
+        replica = withGroup (p .replica) (groupOf (p .replica .group .replicas) noNumber);
         number = 0;
         count = 0;
         numbers = q .numbers;

@@ -8,13 +8,14 @@ use lib.IntN.{ℤ, pos}
 use lib.ListN.{length, take, drop, set, replicate}
 use lib.Seq.{paste}
 use Rattle.memory.specs.declared.Counts.{Counts}
+use Rattle.memory.specs.declared.Group.{Group}
 use Rattle.memory.specs.declared.Txn.{Txn}
-use Rattle.memory.specs.Memory.{Memory, noNumber}
+use Rattle.memory.specs.Memory.{Memory, groupOf}
 use Rattle.memory.specs.Rows.{closed}
 use Rattle.engine.specs.declared.Report.{Report}
 use Rattle.engine.specs.Calls.{Step, Answer, numberOf, Outcome, unlessStation}
 use Rattle.engine.specs.Calls.Answer.{refused, made, began, got, wrote, queued, readOnly, withdrew, reported, sent, kept, worked, loaded, restarted}
-use Rattle.engine.specs.Make.{countsFor, makeStep}
+use Rattle.engine.specs.Make.{turnZero, countsZero, makeStep}
 use Rattle.engine.specs.Classes.{loadStep}
 use Rattle.engine.specs.Client.{beginStep, readStep, writeStep, askStep, withdrawStep, reportStep}
 use Rattle.engine.specs.Moves.{sendStep, deliverStep, workStep}
@@ -40,8 +41,9 @@ placesSize n = 512 * min n 6
 -- where none was made: a group of no replicas
 abbrev pub noReplica : Replica
 noReplica = record {
-  turn = record { slot = 0; sent = 0; applying = 0 };
-  counts = countsFor 0 0;
+  group = groupOf 0 0;
+  turn = turnZero;
+  counts = countsZero;
   rows = replicate 6 closed;
   queue = replicate 6 0;
   items = replicate 48 0;
@@ -57,33 +59,21 @@ noReplica = record {
 -- the memory that a call is lent: of the bytes for places the first `size`
 abbrev pub memoryOf : ℕ → Replica → Memory
 memoryOf size r =
-    allParts (r .turn) (r .counts) (r .rows) (r .queue) (r .items) (r .writes) (r .snapshots) (r .values) (r .stamps) (r .classes) (take size (r .places)) (r .outbox)
+    allParts (r .group) (r .turn) (r .counts) (r .rows) (r .queue) (r .items) (r .writes) (r .snapshots) (r .values) (r .stamps) (r .classes) (take size (r .places)) (r .outbox)
 
 -- A, M and Y make what the place has
 abbrev pub isMake : Call → Bool
 isMake c = eqb (c .letter) 77 || (eqb (c .letter) 89 || eqb (c .letter) 65)
 
 -- they are lent the places of the group that they name, any other call those of the replica's own
-abbrev pub sizeLent : Call → Counts → ℕ
-sizeLent c counts = placesSize (cond (isMake c) (c .first) (counts .replicas))
+abbrev pub sizeLent : Call → Group → ℕ
+sizeLent c group = placesSize (cond (isMake c) (c .first) (group .replicas))
 
-abbrev pub withoutNumber : Counts → Counts
-withoutNumber c = record {
-  replicas = c .replicas;
-  own = noNumber;
-  commits = c .commits;
-  done = c .done;
-  tickets = c .tickets;
-  committed = c .committed;
-  «read_only» = c .«read_only»;
-  aborted = c .aborted;
-  withdrawn = c .withdrawn;
-}
-
-abbrev pub withCounts : Replica → Counts → Replica
-withCounts replica counts = record {
+abbrev pub withGroup : Replica → Group → Replica
+withGroup replica group = record {
+  group = group;
   turn = replica .turn;
-  counts = counts;
+  counts = replica .counts;
   rows = replica .rows;
   queue = replica .queue;
   items = replica .items;
@@ -99,6 +89,7 @@ withCounts replica counts = record {
 -- with other numbers, and another record at row r
 abbrev pub withRow : Replica → Counts → ℕ → Txn → Replica
 withRow replica counts r t = record {
+  group = replica .group;
   turn = replica .turn;
   counts = counts;
   rows = set (replica .rows) r t;
@@ -113,9 +104,10 @@ withRow replica counts r t = record {
   outbox = replica .outbox;
 }
 
--- with turn, counts and free rows by a restart, where it is accepted
+-- with group, turn, counts and free rows by a restart, where it is accepted
 abbrev pub withMade : Replica → Restarted → Replica
 withMade replica r = record {
+  group = ifMade (r .reply .number) (r .group) (replica .group);
   turn = ifMade (r .reply .number) (r .turn) (replica .turn);
   counts = ifMade (r .reply .number) (r .counts) (replica .counts);
   rows = ifMade (r .reply .number) (replicate 6 closed) (replica .rows);

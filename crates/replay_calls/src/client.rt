@@ -17,10 +17,10 @@ use super::results::repeated;
 use super::results::with_number;
 use super::results::with_numbers;
 use super::results::with_values;
-use call_client::rows::row_at;
 use memory::Counts;
 use memory::Txn;
 use memory::rows::free_row;
+use memory::rows::row_at;
 use memory::rows::row_of;
 use replay_journal::Change;
 
@@ -79,8 +79,9 @@ pub fn read(replica: Replica, ticket: u32, item: u32) -> Played
 }
 
 pub fn write(replica: Replica, ticket: u32, item: u32, value: i32) -> Played
-    ensures { λ r. ⌜ ((lent : List ℕ) → Plays (placesSize (replica .counts .replicas)) replica r lent (effect lent (writeStep (memoryOf (placesSize (replica .counts .replicas)) replica) ticket item value))) ⌝ }
+    ensures { λ r. ⌜ ((lent : List ℕ) → Plays (placesSize (replica .group .replicas)) replica r lent (effect lent (writeStep (memoryOf (placesSize (replica .group .replicas)) replica) ticket item value))) ⌝ }
 {
+    let group = replica.group;
     let turn = replica.turn;
     let rows = replica.rows;
     let counts = replica.counts;
@@ -89,13 +90,14 @@ pub fn write(replica: Replica, ticket: u32, item: u32, value: i32) -> Played
     let stamps = replica.stamps;
     let classes = replica.classes;
     let places = replica.places;
-    let size = places_size(counts.replicas as u32);
+    let size = places_size(group.replicas as u32);
     let at = row_of(rows, ticket);
     let row = row_at(rows, at);
     let changed = call_write::write(
         at,
         row,
         rows,
+        group,
         turn,
         counts,
         &mut items,

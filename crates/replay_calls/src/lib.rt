@@ -3,6 +3,7 @@ ghost use mathlib.Core.Path.{_≡_};
 ghost use Rattle.memory.specs.Memory.{numberless};
 ghost use Rattle.replay_calls.specs.Effects.{noReplica};
 use memory::Counts;
+use memory::Group;
 use memory::NO_NUMBER;
 use memory::Turn;
 use memory::Txn;
@@ -16,6 +17,7 @@ mod stations;
 
 // A replica's memory, or a station's. Of the bytes for places a group of n uses the first 512·n. The group of one that was not made has no replicas.
 pub struct Replica {
+    pub group: Group,
     pub turn: Turn,
     pub counts: Counts,
     pub rows: [Txn; 6],
@@ -42,11 +44,11 @@ pub struct Played {
     pub change: Change,
 }
 
-// Whether the numbers are a station's.
-pub fn is_station(counts: Counts) -> bool
-    ensures { λ r. ⌜ r ≡ numberless counts ⌝ }
+// Whether it is a station that knows this of its group.
+pub fn is_station(group: Group) -> bool
+    ensures { λ r. ⌜ r ≡ numberless group ⌝ }
 {
-    counts.own == NO_NUMBER
+    group.own == NO_NUMBER
 }
 
 // No replica.
@@ -54,14 +56,16 @@ pub fn nobody() -> Replica
     ensures { λ r. ⌜ r ≡ noReplica ⌝ }
 {
     Replica {
+        group: Group {
+            replicas: 0,
+            own: 0,
+        },
         turn: Turn {
             slot: 0,
             sent: 0,
             applying: 0,
         },
         counts: Counts {
-            replicas: 0,
-            own: 0,
             commits: 0,
             done: 0,
             tickets: 0,

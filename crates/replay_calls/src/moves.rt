@@ -22,10 +22,10 @@ use super::results::growing;
 use super::results::repeated;
 use super::results::with_number;
 use super::results::with_numbers;
-use call_client::rows::free;
 use call_reply::Restarted;
 use call_reply::WorkReply;
 use memory::Txn;
+use memory::rows::free;
 use replay_journal::Change;
 
 // How many of the bytes for places a group of n uses.
@@ -35,7 +35,7 @@ pub fn places_size(n: u32) -> usize
     if n < 6 { 512 * (n as usize) } else { 3072 }
 }
 
-// The replica with turn, counts and rows of a restart, where it is accepted.
+// The replica with group, turn, counts and rows of a restart, where it is accepted.
 fn if_made(replica: Replica, restarted: Restarted) -> Replica
     ensures { λ r. ⌜ r ≡ withMade replica restarted ⌝ }
 {
@@ -43,10 +43,12 @@ fn if_made(replica: Replica, restarted: Restarted) -> Replica
     if reply.number != 0 {
         return replica;
     }
+    let group = restarted.group;
     let turn = restarted.turn;
     let counts = restarted.counts;
     let rows = [free(); 6];
     let mut after = replica;
+    after.group = group;
     after.turn = turn;
     after.counts = counts;
     after.rows = rows;
@@ -121,8 +123,8 @@ pub fn make(replica: Replica, n: u32, own: u32, value: i32) -> Played
 pub fn send(replica: Replica, block: &mut [u8]) -> Played
     ensures { λ r. ⌜ ((size : ℕ) → Plays size replica r (now (block .exit)) (effect (now (block .entry)) (sendStep (memoryOf size replica) (now (block .entry))))) ⌝ }
 {
+    let group = replica.group;
     let turn = replica.turn;
-    let counts = replica.counts;
     let rows = replica.rows;
     let mut queue = replica.queue;
     let items = replica.items;
@@ -130,8 +132,8 @@ pub fn send(replica: Replica, block: &mut [u8]) -> Played
     let mut outbox = replica.outbox;
     let sent = call_send::send(
         rows,
+        group,
         turn,
-        counts,
         &mut queue,
         &items,
         &writes,
@@ -149,14 +151,14 @@ pub fn send(replica: Replica, block: &mut [u8]) -> Played
 }
 
 pub fn deliver(replica: Replica, bytes: &[u8]) -> Played
-    ensures { λ r. ⌜ ((lent : List ℕ) → Plays (placesSize (replica .counts .replicas)) replica r lent (effect lent (deliverStep (memoryOf (placesSize (replica .counts .replicas)) replica) (now (bytes .entry))))) ⌝ }
+    ensures { λ r. ⌜ ((lent : List ℕ) → Plays (placesSize (replica .group .replicas)) replica r lent (effect lent (deliverStep (memoryOf (placesSize (replica .group .replicas)) replica) (now (bytes .entry))))) ⌝ }
 {
+    let group = replica.group;
     let turn = replica.turn;
-    let counts = replica.counts;
     let outbox = replica.outbox;
     let mut places = replica.places;
-    let size = places_size(counts.replicas as u32);
-    let number = call_deliver::deliver(turn, counts, &mut places[..size], &outbox, bytes);
+    let size = places_size(group.replicas as u32);
+    let number = call_deliver::deliver(group, turn, &mut places[..size], &outbox, bytes);
     let mut after = replica;
     after.places = places;
     bare(after, number, Change::Stays)
@@ -213,9 +215,10 @@ fn step_of(replica: Replica, reply: WorkReply) -> Played
 
 // A block that is to be appended to the journal goes into the bytes lent.
 pub fn work(replica: Replica, block: &mut [u8]) -> Played
-    ensures { λ r. ⌜ Plays (placesSize (replica .counts .replicas)) replica r (now (block .exit))
-        (effect (now (block .entry)) (withBlock (now (block .entry)) workStep (memoryOf (placesSize (replica .counts .replicas)) replica))) ⌝ }
+    ensures { λ r. ⌜ Plays (placesSize (replica .group .replicas)) replica r (now (block .exit))
+        (effect (now (block .entry)) (withBlock (now (block .entry)) workStep (memoryOf (placesSize (replica .group .replicas)) replica))) ⌝ }
 {
+    let group = replica.group;
     let turn = replica.turn;
     let counts = replica.counts;
     let rows = replica.rows;
@@ -224,9 +227,10 @@ pub fn work(replica: Replica, block: &mut [u8]) -> Played
     let mut values = replica.values;
     let mut stamps = replica.stamps;
     let mut places = replica.places;
-    let size = places_size(counts.replicas as u32);
+    let size = places_size(group.replicas as u32);
     let worked = call_work::work(
         rows,
+        group,
         turn,
         counts,
         &mut queue,

@@ -9,7 +9,7 @@ use super::moves;
 use super::results::bare;
 use super::results::with_values;
 use super::stations;
-use call_reply::blocks::copy_bytes;
+use memory::bytes::copy_bytes;
 use replay_journal::Change;
 use replay_parse::Call;
 
@@ -31,8 +31,8 @@ fn show(replica: Replica, bytes: &[u8], block: &mut [u8]) -> Played
 
 // The call, by its letter: `bytes` are what it is given, `block` takes the block that it gives.
 pub fn run(call: Call, replica: Replica, bytes: &[u8], block: &mut [u8]) -> Played
-    ensures { λ r. ⌜ Plays (sizeLent call (replica .counts)) replica r (now (block .exit))
-        (played call (now (bytes .entry)) (now (block .entry)) (memoryOf (sizeLent call (replica .counts)) replica)) ⌝ }
+    ensures { λ r. ⌜ Plays (sizeLent call (replica .group)) replica r (now (block .exit))
+        (played call (now (bytes .entry)) (now (block .entry)) (memoryOf (sizeLent call (replica .group)) replica)) ⌝ }
 {
     let letter = call.letter;
     match letter {

@@ -3,11 +3,12 @@ ghost use Prim.Native.Nat.{ℕ};
 ghost use mathlib.Core.Path.{_≡_};
 ghost use mathlib.Core.List.{List};
 ghost use lib.ListN.{replicate};
+ghost use Rattle.memory.specs.Memory.{noNumber, groupOf};
 ghost use Rattle.engine.specs.Calls.{unlessStation};
 ghost use Rattle.engine.specs.Client.{writeStep};
 ghost use Rattle.engine.specs.Moves.{sendStep};
 ghost use Rattle.engine.specs.Station.{stationStep};
-ghost use Rattle.replay_calls.specs.Effects.{placesSize, memoryOf, withoutNumber, withCounts, effect, Plays};
+ghost use Rattle.replay_calls.specs.Effects.{placesSize, memoryOf, withGroup, effect, Plays};
 use super::Played;
 use super::Replica;
 use super::client;
@@ -18,12 +19,12 @@ use memory::NO_NUMBER;
 use replay_journal::Change;
 
 fn without_number(replica: Replica) -> Replica
-    ensures { λ r. ⌜ r ≡ withCounts replica (withoutNumber (replica .counts)) ⌝ }
+    ensures { λ r. ⌜ r ≡ withGroup replica (groupOf (replica .group .replicas) noNumber) ⌝ }
 {
-    let mut counts = replica.counts;
-    counts.own = NO_NUMBER;
+    let mut group = replica.group;
+    group.own = NO_NUMBER;
     let mut after = replica;
-    after.counts = counts;
+    after.group = group;
     after
 }
 
@@ -41,12 +42,12 @@ pub fn make(replica: Replica, n: u32, value: i32) -> Played
 
 // 25 at a station, whatever is to be written.
 pub fn write(replica: Replica, ticket: u32, item: u32, value: i32) -> Played
-    ensures { λ r. ⌜ ((lent : List ℕ) → Plays (placesSize (replica .counts .replicas)) replica r lent
-        (effect lent (unlessStation (memoryOf (placesSize (replica .counts .replicas)) replica)
-        (writeStep (memoryOf (placesSize (replica .counts .replicas)) replica) ticket item value)))) ⌝ }
+    ensures { λ r. ⌜ ((lent : List ℕ) → Plays (placesSize (replica .group .replicas)) replica r lent
+        (effect lent (unlessStation (memoryOf (placesSize (replica .group .replicas)) replica)
+        (writeStep (memoryOf (placesSize (replica .group .replicas)) replica) ticket item value)))) ⌝ }
 {
-    let counts = replica.counts;
-    if is_station(counts) {
+    let group = replica.group;
+    if is_station(group) {
         return bare(replica, 25, Change::Stays);
     }
     client::write(replica, ticket, item, value)
@@ -57,8 +58,8 @@ pub fn send(replica: Replica, block: &mut [u8]) -> Played
     ensures { λ r. ⌜ ((size : ℕ) → Plays size replica r (now (block .exit))
         (effect (now (block .entry)) (unlessStation (memoryOf size replica) (sendStep (memoryOf size replica) (now (block .entry)))))) ⌝ }
 {
-    let counts = replica.counts;
-    if is_station(counts) {
+    let group = replica.group;
+    if is_station(group) {
         return bare(replica, 25, Change::Stays);
     }
     moves::send(replica, &mut *block)

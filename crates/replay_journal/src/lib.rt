@@ -4,7 +4,7 @@ ghost use mathlib.Core.Path.{_≡_};
 ghost use lib.ListN.{length, take};
 ghost use lib.Seq.{slice};
 ghost use Rattle.replay_journal.specs.Journals.{grown, changed, journalOf, isPart, partStart, partEnd, hasPart, bytesGiven};
-use call_reply::blocks::copy_bytes;
+use memory::bytes::copy_bytes;
 use memory::rows::lesser;
 use replay_parse::Call;
 

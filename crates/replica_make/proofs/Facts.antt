@@ -5,12 +5,13 @@ use mathlib.Core.List.{List}
 use lib.IntN.{ℤ}
 use lib.ListN.{length, replicate}
 use Rattle.memory.specs.declared.Counts.{Counts}
+use Rattle.memory.specs.declared.Group.{Group}
 use Rattle.memory.specs.declared.Turn.{Turn}
 use Rattle.memory.specs.declared.Txn.{Txn}
-use Rattle.memory.specs.Memory.{Memory}
+use Rattle.memory.specs.Memory.{Memory, groupOf}
 use Rattle.memory.specs.Rows.{closed}
-use Rattle.engine.specs.Make.{turnZero, countsFor, makeStep}
-use Rattle.engine.specs.Restart.{restartStep}
+use Rattle.engine.specs.Make.{turnZero, countsZero, makeStep}
+use Rattle.engine.specs.Restart.{blocksIn, restartedMemory, restartStep}
 use Rattle.call_reply.specs.Parts.{allParts}
 use Rattle.call_reply.specs.Replies.{number, restartReply, Gives, GivesWith}
 use Rattle.call_reply.specs.declared.RestartReply.{RestartReply}
@@ -21,19 +22,19 @@ use Rattle.call_make.specs.Made.{ifMade}
 use Rattle.call_reply.proofs.CalledLaws.{called-other}
 
 abbrev pub MakeOn : ℕ → ℕ → List ℤ → List ℕ → List ℕ → List ℤ → List ℤ → List ℤ → List ℕ → List ℕ → List ℕ → List ℕ → Made → List ℕ → List ℕ → List ℤ → List ℤ → List ℤ → List ℕ → List ℕ → List ℕ → List ℕ → Type 0
-MakeOn size me start queue items writes snapshots values stamps classes places outbox r queue′ items′ writes′ snapshots′ values′ stamps′ classes′ places′ outbox′ = ((turn : Turn) (counts : Counts) (table : List Txn) → Gives number (makeStep (allParts turn counts table queue items writes snapshots values stamps classes places outbox) size me start) (r .number) (allParts (ifMade (r .number) (r .turn) turn) (ifMade (r .number) (r .counts) counts) (ifMade (r .number) (replicate 6 closed) table) queue′ items′ writes′ snapshots′ values′ stamps′ classes′ places′ outbox′)) × (r .turn ≡ turnZero) × (r .counts ≡ ifMade (r .number) (countsFor size me) (countsFor 0 0))
+MakeOn size me start queue items writes snapshots values stamps classes places outbox r queue′ items′ writes′ snapshots′ values′ stamps′ classes′ places′ outbox′ = ((group : Group) (turn : Turn) (counts : Counts) (table : List Txn) → Gives number (makeStep (allParts group turn counts table queue items writes snapshots values stamps classes places outbox) size me start) (r .number) (allParts (ifMade (r .number) (r .group) group) (ifMade (r .number) (r .turn) turn) (ifMade (r .number) (r .counts) counts) (ifMade (r .number) (replicate 6 closed) table) queue′ items′ writes′ snapshots′ values′ stamps′ classes′ places′ outbox′)) × (r .group ≡ ifMade (r .number) (groupOf size me) (groupOf 0 0)) × (r .turn ≡ turnZero) × (r .counts ≡ countsZero)
 
-abbrev pub MakeDid : List Txn → Turn → Counts → ℕ → ℕ → List ℤ → List ℕ → List ℕ → List ℤ → List ℤ → List ℤ → List ℕ → List ℕ → List ℕ → List ℕ → ℕ → List Txn → Turn → Counts → List ℕ → List ℕ → List ℤ → List ℤ → List ℤ → List ℕ → List ℕ → List ℕ → List ℕ → Type 0
-MakeDid table turn counts size me start queue items writes snapshots values stamps classes places outbox r table′ turn′ counts′ queue′ items′ writes′ snapshots′ values′ stamps′ classes′ places′ outbox′ = Gives number (called (λ (x : Memory). makeStep x size me start) (allParts turn counts table queue items writes snapshots values stamps classes places outbox)) (r) (allParts turn′ counts′ table′ queue′ items′ writes′ snapshots′ values′ stamps′ classes′ places′ outbox′)
+abbrev pub MakeDid : List Txn → Group → Turn → Counts → ℕ → ℕ → List ℤ → List ℕ → List ℕ → List ℤ → List ℤ → List ℤ → List ℕ → List ℕ → List ℕ → List ℕ → ℕ → List Txn → Group → Turn → Counts → List ℕ → List ℕ → List ℤ → List ℤ → List ℤ → List ℕ → List ℕ → List ℕ → List ℕ → Type 0
+MakeDid table group turn counts size me start queue items writes snapshots values stamps classes places outbox r table′ group′ turn′ counts′ queue′ items′ writes′ snapshots′ values′ stamps′ classes′ places′ outbox′ = Gives number (called (λ (x : Memory). makeStep x size me start) (allParts group turn counts table queue items writes snapshots values stamps classes places outbox)) (r) (allParts group′ turn′ counts′ table′ queue′ items′ writes′ snapshots′ values′ stamps′ classes′ places′ outbox′)
 
-pub make-not : (table : List Txn) (turn : Turn) (counts : Counts) (size : ℕ) (me : ℕ) (start : List ℤ) (queue : List ℕ) (items : List ℕ) (writes : List ℤ) (snapshots : List ℤ) (values : List ℤ) (stamps : List ℕ) (classes : List ℕ) (places : List ℕ) (outbox : List ℕ) → (length table ≡ 6 → ⊥) → MakeDid table turn counts size me start queue items writes snapshots values stamps classes places outbox (1) table turn counts queue items writes snapshots values stamps classes places outbox
-make-not table turn counts size me start queue items writes snapshots values stamps classes places outbox other = rw (called-other (λ (x : Memory). makeStep x size me start) (allParts turn counts table queue items writes snapshots values stamps classes places outbox) other) (refl, refl)
+pub make-not : (table : List Txn) (group : Group) (turn : Turn) (counts : Counts) (size : ℕ) (me : ℕ) (start : List ℤ) (queue : List ℕ) (items : List ℕ) (writes : List ℤ) (snapshots : List ℤ) (values : List ℤ) (stamps : List ℕ) (classes : List ℕ) (places : List ℕ) (outbox : List ℕ) → (length table ≡ 6 → ⊥) → MakeDid table group turn counts size me start queue items writes snapshots values stamps classes places outbox (1) table group turn counts queue items writes snapshots values stamps classes places outbox
+make-not table group turn counts size me start queue items writes snapshots values stamps classes places outbox other = rw (called-other (λ (x : Memory). makeStep x size me start) (allParts group turn counts table queue items writes snapshots values stamps classes places outbox) other) (refl, refl)
 
 abbrev pub RestartOn : ℕ → ℕ → List ℤ → List ℕ → List ℕ → List ℤ → List ℤ → List ℤ → List ℕ → List ℕ → List ℕ → List ℕ → List ℕ → List ℕ → Restarted → List ℕ → List ℕ → List ℤ → List ℤ → List ℤ → List ℕ → List ℕ → List ℕ → List ℕ → List ℕ → Type 0
-RestartOn size me start queue items writes snapshots values stamps classes places outbox journal block r queue′ items′ writes′ snapshots′ values′ stamps′ classes′ places′ outbox′ block′ = (turn : Turn) (counts : Counts) (table : List Txn) → GivesWith restartReply (restartStep (allParts turn counts table queue items writes snapshots values stamps classes places outbox) size me start journal block) block (r .reply) (allParts (ifMade (r .reply .number) (r .turn) turn) (ifMade (r .reply .number) (r .counts) counts) (ifMade (r .reply .number) (replicate 6 closed) table) queue′ items′ writes′ snapshots′ values′ stamps′ classes′ places′ outbox′) block′
+RestartOn size me start queue items writes snapshots values stamps classes places outbox journal block r queue′ items′ writes′ snapshots′ values′ stamps′ classes′ places′ outbox′ block′ = ((group : Group) (turn : Turn) (counts : Counts) (table : List Txn) → GivesWith restartReply (restartStep (allParts group turn counts table queue items writes snapshots values stamps classes places outbox) size me start journal block) block (r .reply) (allParts (ifMade (r .reply .number) (r .group) group) (ifMade (r .reply .number) (r .turn) turn) (ifMade (r .reply .number) (r .counts) counts) (ifMade (r .reply .number) (replicate 6 closed) table) queue′ items′ writes′ snapshots′ values′ stamps′ classes′ places′ outbox′) block′) × (r .group ≡ ifMade (r .reply .number) (groupOf size me) (groupOf 0 0)) × (r .turn ≡ ifMade (r .reply .number) (restartedMemory size me start (blocksIn size journal) .turn) turnZero) × (r .counts ≡ ifMade (r .reply .number) (restartedMemory size me start (blocksIn size journal) .counts) countsZero)
 
-abbrev pub RestartDid : List Txn → Turn → Counts → ℕ → ℕ → List ℤ → List ℕ → List ℕ → List ℤ → List ℤ → List ℤ → List ℕ → List ℕ → List ℕ → List ℕ → List ℕ → List ℕ → RestartReply → List Txn → Turn → Counts → List ℕ → List ℕ → List ℤ → List ℤ → List ℤ → List ℕ → List ℕ → List ℕ → List ℕ → List ℕ → Type 0
-RestartDid table turn counts size me start queue items writes snapshots values stamps classes places outbox journal block r table′ turn′ counts′ queue′ items′ writes′ snapshots′ values′ stamps′ classes′ places′ outbox′ block′ = GivesWith restartReply (called (λ (x : Memory). restartStep x size me start journal block) (allParts turn counts table queue items writes snapshots values stamps classes places outbox)) block (r) (allParts turn′ counts′ table′ queue′ items′ writes′ snapshots′ values′ stamps′ classes′ places′ outbox′) block′
+abbrev pub RestartDid : List Txn → Group → Turn → Counts → ℕ → ℕ → List ℤ → List ℕ → List ℕ → List ℤ → List ℤ → List ℤ → List ℕ → List ℕ → List ℕ → List ℕ → List ℕ → List ℕ → RestartReply → List Txn → Group → Turn → Counts → List ℕ → List ℕ → List ℤ → List ℤ → List ℤ → List ℕ → List ℕ → List ℕ → List ℕ → List ℕ → Type 0
+RestartDid table group turn counts size me start queue items writes snapshots values stamps classes places outbox journal block r table′ group′ turn′ counts′ queue′ items′ writes′ snapshots′ values′ stamps′ classes′ places′ outbox′ block′ = GivesWith restartReply (called (λ (x : Memory). restartStep x size me start journal block) (allParts group turn counts table queue items writes snapshots values stamps classes places outbox)) block (r) (allParts group′ turn′ counts′ table′ queue′ items′ writes′ snapshots′ values′ stamps′ classes′ places′ outbox′) block′
 
-pub restart-not : (table : List Txn) (turn : Turn) (counts : Counts) (size : ℕ) (me : ℕ) (start : List ℤ) (queue : List ℕ) (items : List ℕ) (writes : List ℤ) (snapshots : List ℤ) (values : List ℤ) (stamps : List ℕ) (classes : List ℕ) (places : List ℕ) (outbox : List ℕ) (journal : List ℕ) (block : List ℕ) → (length table ≡ 6 → ⊥) → RestartDid table turn counts size me start queue items writes snapshots values stamps classes places outbox journal block (record { number = 1; count = 0 }) table turn counts queue items writes snapshots values stamps classes places outbox block
-restart-not table turn counts size me start queue items writes snapshots values stamps classes places outbox journal block other = rw (called-other (λ (x : Memory). restartStep x size me start journal block) (allParts turn counts table queue items writes snapshots values stamps classes places outbox) other) ((refl, refl), refl)
+pub restart-not : (table : List Txn) (group : Group) (turn : Turn) (counts : Counts) (size : ℕ) (me : ℕ) (start : List ℤ) (queue : List ℕ) (items : List ℕ) (writes : List ℤ) (snapshots : List ℤ) (values : List ℤ) (stamps : List ℕ) (classes : List ℕ) (places : List ℕ) (outbox : List ℕ) (journal : List ℕ) (block : List ℕ) → (length table ≡ 6 → ⊥) → RestartDid table group turn counts size me start queue items writes snapshots values stamps classes places outbox journal block (record { number = 1; count = 0 }) table group turn counts queue items writes snapshots values stamps classes places outbox block
+restart-not table group turn counts size me start queue items writes snapshots values stamps classes places outbox journal block other = rw (called-other (λ (x : Memory). restartStep x size me start journal block) (allParts group turn counts table queue items writes snapshots values stamps classes places outbox) other) ((refl, refl), refl)

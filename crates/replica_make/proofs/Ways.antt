@@ -9,6 +9,7 @@ use borrow.Author.Tests.{eq-eqb, ne-eqb}
 use lib.IntN.{ℤ}
 use lib.ListN.{length, replicate}
 use Rattle.memory.specs.declared.Counts.{Counts}
+use Rattle.memory.specs.declared.Group.{Group}
 use Rattle.memory.specs.declared.Turn.{Turn}
 use Rattle.memory.specs.declared.Txn.{Txn}
 use Rattle.memory.specs.Memory.{Memory}
@@ -23,38 +24,38 @@ use Rattle.call_make.proofs.HostLaws.{all-free, kept, did}
 use Rattle.replica_make.proofs.Facts.{MakeOn, MakeDid, RestartOn, RestartDid}
 
 -- ---- make
-module _ (table : List Txn) (turn : Turn) (counts : Counts) (size me : ℕ) (start : List ℤ) (queue items : List ℕ) (writes snapshots values : List ℤ) (stamps classes places outbox : List ℕ) (r : Made)
+module _ (table : List Txn) (group : Group) (turn : Turn) (counts : Counts) (size me : ℕ) (start : List ℤ) (queue items : List ℕ) (writes snapshots values : List ℤ) (stamps classes places outbox : List ℕ) (r : Made)
     (queue′ items′ : List ℕ) (writes′ snapshots′ values′ : List ℤ) (stamps′ classes′ places′ outbox′ : List ℕ) (six : length table ≡ 6)
     (said : MakeOn size me start queue items writes snapshots values stamps classes places outbox r queue′ items′ writes′ snapshots′ values′ stamps′ classes′ places′ outbox′) where
-  abbrev make-parts : Turn → Counts → List Txn → Memory
-  make-parts h c t = allParts h c t queue items writes snapshots values stamps classes places outbox
+  abbrev make-parts : Group → Turn → Counts → List Txn → Memory
+  make-parts g h c t = allParts g h c t queue items writes snapshots values stamps classes places outbox
 
-  abbrev make-left : Turn → Counts → List Txn → Memory
-  make-left h c t = allParts h c t queue′ items′ writes′ snapshots′ values′ stamps′ classes′ places′ outbox′
+  abbrev make-left : Group → Turn → Counts → List Txn → Memory
+  make-left g h c t = allParts g h c t queue′ items′ writes′ snapshots′ values′ stamps′ classes′ places′ outbox′
 
   pub make-kept : (r .number ≡ 0 → ⊥)
-      → MakeDid table turn counts size me start queue items writes snapshots values stamps classes places outbox (r .number) table turn counts queue′ items′ writes′ snapshots′ values′ stamps′ classes′ places′ outbox′
-  make-kept = kept (λ (x : Memory). makeStep x size me start) make-parts make-left r turn counts table refl six (said .0 turn counts table)
+      → MakeDid table group turn counts size me start queue items writes snapshots values stamps classes places outbox (r .number) table group turn counts queue′ items′ writes′ snapshots′ values′ stamps′ classes′ places′ outbox′
+  make-kept = kept (λ (x : Memory). makeStep x size me start) make-parts make-left r group turn counts table refl six (said .0 group turn counts table)
 
   pub make-did : r .number ≡ 0
-      → MakeDid table turn counts size me start queue items writes snapshots values stamps classes places outbox 0 (endRows (replicate 6 true) table) (r .turn) (r .counts) queue′ items′ writes′ snapshots′ values′ stamps′ classes′ places′ outbox′
-  make-did = did (λ (x : Memory). makeStep x size me start) make-parts make-left r turn counts table refl six (said .0 turn counts table)
+      → MakeDid table group turn counts size me start queue items writes snapshots values stamps classes places outbox 0 (endRows (replicate 6 true) table) (r .group) (r .turn) (r .counts) queue′ items′ writes′ snapshots′ values′ stamps′ classes′ places′ outbox′
+  make-did = did (λ (x : Memory). makeStep x size me start) make-parts make-left r group turn counts table refl six (said .0 group turn counts table)
 
 -- ---- restart
-module _ (table : List Txn) (turn : Turn) (counts : Counts) (size me : ℕ) (start : List ℤ) (queue items : List ℕ) (writes snapshots values : List ℤ) (stamps classes places outbox journal block : List ℕ) (r : Restarted)
+module _ (table : List Txn) (group : Group) (turn : Turn) (counts : Counts) (size me : ℕ) (start : List ℤ) (queue items : List ℕ) (writes snapshots values : List ℤ) (stamps classes places outbox journal block : List ℕ) (r : Restarted)
     (queue′ items′ : List ℕ) (writes′ snapshots′ values′ : List ℤ) (stamps′ classes′ places′ outbox′ block′ : List ℕ) (six : length table ≡ 6)
     (said : RestartOn size me start queue items writes snapshots values stamps classes places outbox journal block r queue′ items′ writes′ snapshots′ values′ stamps′ classes′ places′ outbox′ block′) where
   abbrev restart-before : Memory
-  restart-before = allParts turn counts table queue items writes snapshots values stamps classes places outbox
+  restart-before = allParts group turn counts table queue items writes snapshots values stamps classes places outbox
 
   pub restart-kept : (r .reply .number ≡ 0 → ⊥)
-      → RestartDid table turn counts size me start queue items writes snapshots values stamps classes places outbox journal block (r .reply) table turn counts queue′ items′ writes′ snapshots′ values′ stamps′ classes′ places′ outbox′ block′
+      → RestartDid table group turn counts size me start queue items writes snapshots values stamps classes places outbox journal block (r .reply) table group turn counts queue′ items′ writes′ snapshots′ values′ stamps′ classes′ places′ outbox′ block′
   restart-kept z =
-      let q = rw (ne-eqb (r .reply .number) 0 z) at said turn counts table in
+      let q = rw (ne-eqb (r .reply .number) 0 z) at said .0 group turn counts table in
       rw (called-six (λ (x : Memory). restartStep x size me start journal block) restart-before six) q
 
   pub restart-did : r .reply .number ≡ 0
-      → RestartDid table turn counts size me start queue items writes snapshots values stamps classes places outbox journal block (r .reply) (endRows (replicate 6 true) table) (r .turn) (r .counts) queue′ items′ writes′ snapshots′ values′ stamps′ classes′ places′ outbox′ block′
+      → RestartDid table group turn counts size me start queue items writes snapshots values stamps classes places outbox journal block (r .reply) (endRows (replicate 6 true) table) (r .group) (r .turn) (r .counts) queue′ items′ writes′ snapshots′ values′ stamps′ classes′ places′ outbox′ block′
   restart-did z =
-      let q = rw (eq-eqb (r .reply .number) 0 z) at said turn counts table in
+      let q = rw (eq-eqb (r .reply .number) 0 z) at said .0 group turn counts table in
       rw (called-six (λ (x : Memory). restartStep x size me start journal block) restart-before six, all-free table six) q

@@ -1,5 +1,5 @@
 // The calls that make a replica, as a host makes them: make, and the restart of document 02.
-// The table is lent as a slice of records, turn and counts behind references. Each call copies what it needs of the lent parts, makes the call by value, and writes what changed where it
+// The table is lent as a slice of records, group, turn and counts behind references. Each call copies what it needs of the lent parts, makes the call by value, and writes what changed where it
 // lies. Its contract: what the call gives is what the engine's step gives, on every memory with the lent parts.
 ghost use Rattle.engine.specs.Make.{makeStep};
 ghost use Rattle.engine.specs.Restart.{restartStep};
@@ -11,15 +11,18 @@ use call_reply::RestartReply;
 use call_reply::replies::no_restart;
 use call_restart::restart;
 use host_table::end_rows;
+use host_table::replace_turn;
 use host_table::set_counts;
-use host_table::set_turn;
+use host_table::set_group;
 use memory::Counts;
+use memory::Group;
 use memory::Turn;
 use memory::Txn;
 
 #[no_mangle]
 pub extern "C" fn stemline_make(
     table: &mut [Txn],
+    group: &mut Group,
     turn: &mut Turn,
     counts: &mut Counts,
     n: u32,
@@ -37,9 +40,9 @@ pub extern "C" fn stemline_make(
 ) -> u8
     ensures { λ r. ⌜ (Gives number
         (called (λ x. makeStep x n own (now (start .entry)))
-        (allParts (now (turn .entry)) (now (counts .entry)) (now (table .entry)) (now (queue .entry)) (now (items .entry)) (now (writes .entry)) (now (snapshots .entry)) (now (values .entry)) (now (stamps .entry)) (now (classes .entry)) (now (places .entry)) (now (outbox .entry))))
+        (allParts (now (group .entry)) (now (turn .entry)) (now (counts .entry)) (now (table .entry)) (now (queue .entry)) (now (items .entry)) (now (writes .entry)) (now (snapshots .entry)) (now (values .entry)) (now (stamps .entry)) (now (classes .entry)) (now (places .entry)) (now (outbox .entry))))
         r
-        (allParts (now (turn .exit)) (now (counts .exit)) (now (table .exit)) (now (queue .exit)) (now (items .exit)) (now (writes .exit)) (now (snapshots .exit)) (now (values .exit)) (now (stamps .exit)) (now (classes .exit)) (now (places .exit)) (now (outbox .exit)))) ⌝ }
+        (allParts (now (group .exit)) (now (turn .exit)) (now (counts .exit)) (now (table .exit)) (now (queue .exit)) (now (items .exit)) (now (writes .exit)) (now (snapshots .exit)) (now (values .exit)) (now (stamps .exit)) (now (classes .exit)) (now (places .exit)) (now (outbox .exit)))) ⌝ }
 {
     if table.len() != 6 {
         return 1;
@@ -62,7 +65,8 @@ pub extern "C" fn stemline_make(
         return done.number;
     }
     end_rows(table, [true; 6]);
-    set_turn(turn, done.turn);
+    set_group(group, done.group);
+    replace_turn(turn, done.turn);
     set_counts(counts, done.counts);
     0
 }
@@ -70,6 +74,7 @@ pub extern "C" fn stemline_make(
 #[no_mangle]
 pub extern "C" fn stemline_restart(
     table: &mut [Txn],
+    group: &mut Group,
     turn: &mut Turn,
     counts: &mut Counts,
     n: u32,
@@ -89,10 +94,10 @@ pub extern "C" fn stemline_restart(
 ) -> RestartReply
     ensures { λ r. ⌜ (GivesWith restartReply
         (called (λ x. restartStep x n own (now (start .entry)) (now (journal .entry)) (now (block .entry)))
-        (allParts (now (turn .entry)) (now (counts .entry)) (now (table .entry)) (now (queue .entry)) (now (items .entry)) (now (writes .entry)) (now (snapshots .entry)) (now (values .entry)) (now (stamps .entry)) (now (classes .entry)) (now (places .entry)) (now (outbox .entry))))
+        (allParts (now (group .entry)) (now (turn .entry)) (now (counts .entry)) (now (table .entry)) (now (queue .entry)) (now (items .entry)) (now (writes .entry)) (now (snapshots .entry)) (now (values .entry)) (now (stamps .entry)) (now (classes .entry)) (now (places .entry)) (now (outbox .entry))))
         (now (block .entry))
         r
-        (allParts (now (turn .exit)) (now (counts .exit)) (now (table .exit)) (now (queue .exit)) (now (items .exit)) (now (writes .exit)) (now (snapshots .exit)) (now (values .exit)) (now (stamps .exit)) (now (classes .exit)) (now (places .exit)) (now (outbox .exit)))
+        (allParts (now (group .exit)) (now (turn .exit)) (now (counts .exit)) (now (table .exit)) (now (queue .exit)) (now (items .exit)) (now (writes .exit)) (now (snapshots .exit)) (now (values .exit)) (now (stamps .exit)) (now (classes .exit)) (now (places .exit)) (now (outbox .exit)))
         (now (block .exit))) ⌝ }
 {
     if table.len() != 6 {
@@ -119,7 +124,8 @@ pub extern "C" fn stemline_restart(
         return reply;
     }
     end_rows(table, [true; 6]);
-    set_turn(turn, done.turn);
+    set_group(group, done.group);
+    replace_turn(turn, done.turn);
     set_counts(counts, done.counts);
     reply
 }

@@ -6,6 +6,7 @@ use mathlib.Core.List.{List}
 use lib.IntN.{ℤ}
 use lib.ListN.{length, replicate}
 use Rattle.memory.specs.declared.Counts.{Counts}
+use Rattle.memory.specs.declared.Group.{Group}
 use Rattle.memory.specs.declared.Turn.{Turn}
 use Rattle.memory.specs.declared.Txn.{Txn}
 use Rattle.memory.specs.Memory.{Memory}
@@ -16,19 +17,19 @@ use Rattle.call_reply.specs.Parts.{allParts}
 use Rattle.call_make.proofs.HostLaws.{kept, did}
 use Rattle.replica_station.proofs.Facts.{StationOn, StationDid}
 
-module _ (table : List Txn) (turn : Turn) (counts : Counts) (size : ℕ) (start : List ℤ) (queue items : List ℕ) (writes snapshots values : List ℤ) (stamps classes places outbox : List ℕ) (r : Made)
+module _ (table : List Txn) (group : Group) (turn : Turn) (counts : Counts) (size : ℕ) (start : List ℤ) (queue items : List ℕ) (writes snapshots values : List ℤ) (stamps classes places outbox : List ℕ) (r : Made)
     (queue′ items′ : List ℕ) (writes′ snapshots′ values′ : List ℤ) (stamps′ classes′ places′ outbox′ : List ℕ) (six : length table ≡ 6)
     (said : StationOn size start queue items writes snapshots values stamps classes places outbox r queue′ items′ writes′ snapshots′ values′ stamps′ classes′ places′ outbox′) where
-  abbrev station-parts : Turn → Counts → List Txn → Memory
-  station-parts h c t = allParts h c t queue items writes snapshots values stamps classes places outbox
+  abbrev station-parts : Group → Turn → Counts → List Txn → Memory
+  station-parts g h c t = allParts g h c t queue items writes snapshots values stamps classes places outbox
 
-  abbrev station-left : Turn → Counts → List Txn → Memory
-  station-left h c t = allParts h c t queue′ items′ writes′ snapshots′ values′ stamps′ classes′ places′ outbox′
+  abbrev station-left : Group → Turn → Counts → List Txn → Memory
+  station-left g h c t = allParts g h c t queue′ items′ writes′ snapshots′ values′ stamps′ classes′ places′ outbox′
 
   pub station-kept : (r .number ≡ 0 → ⊥)
-      → StationDid table turn counts size start queue items writes snapshots values stamps classes places outbox (r .number) table turn counts queue′ items′ writes′ snapshots′ values′ stamps′ classes′ places′ outbox′
-  station-kept = kept (λ (x : Memory). stationStep x size start) station-parts station-left r turn counts table refl six (said .0 turn counts table)
+      → StationDid table group turn counts size start queue items writes snapshots values stamps classes places outbox (r .number) table group turn counts queue′ items′ writes′ snapshots′ values′ stamps′ classes′ places′ outbox′
+  station-kept = kept (λ (x : Memory). stationStep x size start) station-parts station-left r group turn counts table refl six (said .0 group turn counts table)
 
   pub station-did : r .number ≡ 0
-      → StationDid table turn counts size start queue items writes snapshots values stamps classes places outbox 0 (endRows (replicate 6 true) table) (r .turn) (r .counts) queue′ items′ writes′ snapshots′ values′ stamps′ classes′ places′ outbox′
-  station-did = did (λ (x : Memory). stationStep x size start) station-parts station-left r turn counts table refl six (said .0 turn counts table)
+      → StationDid table group turn counts size start queue items writes snapshots values stamps classes places outbox 0 (endRows (replicate 6 true) table) (r .group) (r .turn) (r .counts) queue′ items′ writes′ snapshots′ values′ stamps′ classes′ places′ outbox′
+  station-did = did (λ (x : Memory). stationStep x size start) station-parts station-left r group turn counts table refl six (said .0 group turn counts table)

@@ -6,15 +6,18 @@ ghost use Rattle.call_reply.specs.Replies.{number, Gives};
 ghost use Rattle.call_reply.specs.Called.{called};
 use call_make::make_station;
 use host_table::end_rows;
+use host_table::replace_turn;
 use host_table::set_counts;
-use host_table::set_turn;
+use host_table::set_group;
 use memory::Counts;
+use memory::Group;
 use memory::Turn;
 use memory::Txn;
 
 #[no_mangle]
 pub extern "C" fn stemline_make_station(
     table: &mut [Txn],
+    group: &mut Group,
     turn: &mut Turn,
     counts: &mut Counts,
     n: u32,
@@ -31,9 +34,9 @@ pub extern "C" fn stemline_make_station(
 ) -> u8
     ensures { λ r. ⌜ (Gives number
         (called (λ x. stationStep x n (now (start .entry)))
-        (allParts (now (turn .entry)) (now (counts .entry)) (now (table .entry)) (now (queue .entry)) (now (items .entry)) (now (writes .entry)) (now (snapshots .entry)) (now (values .entry)) (now (stamps .entry)) (now (classes .entry)) (now (places .entry)) (now (outbox .entry))))
+        (allParts (now (group .entry)) (now (turn .entry)) (now (counts .entry)) (now (table .entry)) (now (queue .entry)) (now (items .entry)) (now (writes .entry)) (now (snapshots .entry)) (now (values .entry)) (now (stamps .entry)) (now (classes .entry)) (now (places .entry)) (now (outbox .entry))))
         r
-        (allParts (now (turn .exit)) (now (counts .exit)) (now (table .exit)) (now (queue .exit)) (now (items .exit)) (now (writes .exit)) (now (snapshots .exit)) (now (values .exit)) (now (stamps .exit)) (now (classes .exit)) (now (places .exit)) (now (outbox .exit)))) ⌝ }
+        (allParts (now (group .exit)) (now (turn .exit)) (now (counts .exit)) (now (table .exit)) (now (queue .exit)) (now (items .exit)) (now (writes .exit)) (now (snapshots .exit)) (now (values .exit)) (now (stamps .exit)) (now (classes .exit)) (now (places .exit)) (now (outbox .exit)))) ⌝ }
 {
     if table.len() != 6 {
         return 1;
@@ -55,7 +58,8 @@ pub extern "C" fn stemline_make_station(
         return done.number;
     }
     end_rows(table, [true; 6]);
-    set_turn(turn, done.turn);
+    set_group(group, done.group);
+    replace_turn(turn, done.turn);
     set_counts(counts, done.counts);
     0
 }

@@ -4,15 +4,18 @@
 use Prim.Native.Nat.{ℕ}
 use mathlib.Core.Path.{_≡_, refl, sym, ap, _∙_}
 use mathlib.Core.List.{List, map}
+use native.Mathlib.Omega.{arith}
 use lib.Dec.{eqb}
 use borrow.Author.Tests.{ne-eqb}
 use lib.IntN.{ℤ}
 use lib.ListN.{length, getD}
 use Rattle.memory.specs.declared.Counts.{Counts}
+use Rattle.memory.specs.declared.Group.{Group}
 use Rattle.memory.specs.declared.Turn.{Turn}
 use Rattle.memory.specs.declared.Txn.{Txn}
 use Rattle.memory.specs.Memory.{Memory}
 use Rattle.memory.specs.Rows.{endRows}
+use Rattle.memory.specs.Turns.{markSent, stepTurn}
 use Rattle.engine.specs.Calls.{Outcome, outcome, unlessStation}
 use Rattle.engine.specs.Calls.Answer.{refused}
 use Rattle.engine.specs.Moves.{sendRow, sendRefusal, sendNow, sendStep, blockAtTurn, workRefusal, passNext, commitWriteset, workStep}
@@ -29,40 +32,43 @@ use Rattle.host_table.proofs.TableLaws.{loaded-six}
 use Rattle.replica_turn.proofs.Facts.{SendOn, SendDid, WorkOn, WorkDid}
 
 -- ---- send
-module _ (table : List Txn) (turn : Turn) (counts : Counts) (queue items : List ℕ) (writes : List ℤ) (outbox block : List ℕ) (r : Sent) (queue′ outbox′ block′ : List ℕ) (ours : counts .own ≡ 255 → ⊥) (six : length table ≡ 6)
-    (said : SendOn (loaded table) turn counts queue items writes outbox block r queue′ outbox′ block′) where
+module _ (table : List Txn) (group : Group) (turn : Turn) (queue items : List ℕ) (writes : List ℤ) (outbox block : List ℕ) (r : Sent) (queue′ outbox′ block′ : List ℕ) (ours : group .own ≡ 255 → ⊥) (six : length table ≡ 6)
+    (said : SendOn (loaded table) group turn queue items writes outbox block r queue′ outbox′ block′) where
   module _ (m : Memory) where
     abbrev send-before : Memory
-    send-before = sendParts m turn counts table queue items writes outbox
+    send-before = sendParts m group turn table queue items writes outbox
 
     abbrev SendWay : ℕ → List Txn → Turn → Outcome → Type 0
-    SendWay n t h o = GivesBlock o block (r .number) (sendParts m (r .turn) counts (r .rows) queue′ items writes outbox′) block′ → GivesBlock o block n (sendParts m h counts t queue′ items writes outbox′) block′
+    SendWay n t h o = GivesBlock o block (r .number) (sendParts m group (r .turn) (r .rows) queue′ items writes outbox′) block′ → GivesBlock o block n (sendParts m group h t queue′ items writes outbox′) block′
 
-    send-way : (n : ℕ) (t : List Txn) (h : Turn) → SendWay n t h (sendStep send-before block) → GivesBlock (unlessStation send-before (called (λ (x : Memory). sendStep x block) send-before)) block n (sendParts m h counts t queue′ items writes outbox′) block′
-    send-way n t h way = rw (ne-eqb (counts .own) 255 ours, called-six (λ (x : Memory). sendStep x block) send-before six) (way ((rw (loaded-six table six) at said) m))
+    send-way : (n : ℕ) (t : List Txn) (h : Turn) → SendWay n t h (sendStep send-before block) → GivesBlock (unlessStation send-before (called (λ (x : Memory). sendStep x block) send-before)) block n (sendParts m group h t queue′ items writes outbox′) block′
+    send-way n t h way = rw (ne-eqb (group .own) 255 ours, called-six (λ (x : Memory). sendStep x block) send-before six) (way ((rw (loaded-six table six) at said) m))
 
-  pub send-kept : (r .number ≡ 0 → ⊥) → SendDid table turn counts queue items writes outbox block (r .number) table turn queue′ outbox′ block′
+  pub send-kept : (r .number ≡ 0 → ⊥) → SendDid table group turn queue items writes outbox block (r .number) table turn queue′ outbox′ block′
   unfolding sendStep sendNow
   send-kept z = λ m. send-way m (r .number) table turn (unless-by (SendWay m (r .number) table turn) (sendRefusal (send-before m) block) (send-before m) (λ e g. absurd (z (g .0 .0)))
-      (λ e g. ((g .0 .0, ap (λ (x : Memory). sendParts m turn counts table (x .txns .queue) items writes (x .blocks .outbox)) (g .0 .1)), g .1)))
+      (λ e g. ((g .0 .0, ap (λ (x : Memory). sendParts m group turn table (x .txns .queue) items writes (x .blocks .outbox)) (g .0 .1)), g .1)))
 
-  pub send-did : r .number ≡ 0 → SendDid table turn counts queue items writes outbox block 0 (map sendRow table) (r .turn) queue′ outbox′ block′
+  pub send-did : r .number ≡ 0 → SendDid table group turn queue items writes outbox block 0 (map sendRow table) (markSent turn) queue′ outbox′ block′
   unfolding sendStep sendNow
-  send-did z = λ m. send-way m 0 (map sendRow table) (r .turn) (unless-by (SendWay m 0 (map sendRow table) (r .turn)) (sendRefusal (send-before m) block) (send-before m)
-      (λ e g. ((refl, ap (λ (x : Memory). sendParts m (x .turn) counts (map sendRow table) (x .txns .queue) items writes (x .blocks .outbox)) (g .0 .1)), g .1)) (λ e g. absurd (e (sym (g .0 .0) ∙ z))))
+  send-did z = λ m. send-way m 0 (map sendRow table) (markSent turn) (unless-by (SendWay m 0 (map sendRow table) (markSent turn)) (sendRefusal (send-before m) block) (send-before m)
+      (λ e g. ((refl, ap (λ (x : Memory). sendParts m group (markSent turn) (map sendRow table) (x .txns .queue) items writes (x .blocks .outbox)) (g .0 .1)), g .1)) (λ e g. absurd (e (sym (g .0 .0) ∙ z))))
 
 -- ---- work
-module _ (table : List Txn) (turn : Turn) (counts : Counts) (queue items : List ℕ) (values : List ℤ) (stamps places block : List ℕ) (r : Worked) (queue′ : List ℕ) (values′ : List ℤ) (stamps′ places′ block′ : List ℕ) (six : length table ≡ 6)
-    (said : WorkOn (loaded table) turn counts queue items values stamps places block r queue′ values′ stamps′ places′ block′) where
+module _ (table : List Txn) (group : Group) (turn : Turn) (counts : Counts) (queue items : List ℕ) (values : List ℤ) (stamps places block : List ℕ) (r : Worked) (queue′ : List ℕ) (values′ : List ℤ) (stamps′ places′ block′ : List ℕ) (six : length table ≡ 6)
+    (said : WorkOn (loaded table) group turn counts queue items values stamps places block r queue′ values′ stamps′ places′ block′) where
+  abbrev stepped : WorkReply → Turn
+  stepped w = stepTurn (w .moved) (eqb (w .sender) (group .own)) turn
+
   module _ (m : Memory) where
     abbrev work-before : Memory
-    work-before = workParts m turn counts table queue items values stamps places
+    work-before = workParts m group turn counts table queue items values stamps places
 
     abbrev WorkWay : List Txn → Turn → Counts → Outcome → Type 0
-    WorkWay t h c o = GivesWith workReply o block (r .reply) (workParts m (r .turn) (r .counts) (endRows (r .ended) table) queue′ items values′ stamps′ places′) block′ → GivesWith workReply o block (r .reply) (workParts m h c t queue′ items values′ stamps′ places′) block′
+    WorkWay t h c o = GivesWith workReply o block (r .reply) (workParts m group (r .turn) (r .counts) (endRows (r .ended) table) queue′ items values′ stamps′ places′) block′ → GivesWith workReply o block (r .reply) (workParts m group h c t queue′ items values′ stamps′ places′) block′
 
     work-way : (t : List Txn) (h : Turn) (c : Counts) → WorkWay t h c (withBlock block workStep work-before)
-        → GivesWith workReply (called (λ (x : Memory). withBlock block workStep x) work-before) block (r .reply) (workParts m h c t queue′ items values′ stamps′ places′) block′
+        → GivesWith workReply (called (λ (x : Memory). withBlock block workStep x) work-before) block (r .reply) (workParts m group h c t queue′ items values′ stamps′ places′) block′
     work-way t h c way = rw (called-six (λ (x : Memory). withBlock block workStep x) work-before six) (way ((rw (loaded-six table six) at said) m .0))
 
     -- by the ends of a work
@@ -71,10 +77,19 @@ module _ (table : List Txn) (turn : Turn) (counts : Counts) (queue items : List 
     work-by P done kept = cond-by P (eqb (length block) 512)
         (λ y. unless-by P (workRefusal work-before) work-before (λ e. cond-by P (eqb (getD (blockAtTurn work-before) 0 0) 1) (λ k. done _ refl) (λ k. done _ refl)) (λ e. kept _)) (λ y. kept 1)
 
-  pub work-kept : (r .reply .number ≡ 0 → ⊥) → WorkDid table turn counts queue items values stamps places block (r .reply) table turn counts queue′ values′ stamps′ places′ block′
+    -- what a work that is not refused replies says what it does to the turn
+    work-turn : number (withBlock block workStep work-before) ≡ 0 → stepped (workReply (withBlock block workStep work-before)) ≡ withBlock block workStep work-before .memory .turn
+    unfolding withBlock workStep passNext commitWriteset
+    work-turn = cond-by (λ (o : Outcome). number o ≡ 0 → stepped (workReply o) ≡ o .memory .turn) (eqb (length block) 512)
+        (λ y. unless-by (λ (o : Outcome). number o ≡ 0 → stepped (workReply o) ≡ o .memory .turn) (workRefusal work-before) work-before
+        (λ e. cond-by (λ (o : Outcome). number o ≡ 0 → stepped (workReply o) ≡ o .memory .turn) (eqb (getD (blockAtTurn work-before) 0 0) 1) (λ k z. refl) (λ k z. refl)) (λ e z. absurd (e z))) (λ y z. absurd (omega (arith, z)))
+
+  pub work-kept : (r .reply .number ≡ 0 → ⊥) → WorkDid table group turn counts queue items values stamps places block (r .reply) table turn counts queue′ values′ stamps′ places′ block′
   work-kept z = λ m. work-way m table turn counts (work-by m (WorkWay m table turn counts)
       (λ o e g. absurd (z (ap (λ (x : WorkReply). x .number) (g .0 .0) ∙ e)))
-      (λ n g. ((g .0 .0, ap (λ (x : Memory). workParts m turn counts table (x .txns .queue) items (x .store .values) (x .store .stamps) (x .blocks .places)) (g .0 .1)), g .1)))
+      (λ n g. ((g .0 .0, ap (λ (x : Memory). workParts m group turn counts table (x .txns .queue) items (x .store .values) (x .store .stamps) (x .blocks .places)) (g .0 .1)), g .1)))
 
-  pub work-did : r .reply .number ≡ 0 → WorkDid table turn counts queue items values stamps places block (r .reply) (endRows (r .ended) table) (r .turn) (r .counts) queue′ values′ stamps′ places′ block′
-  work-did z = λ m. work-way m (endRows (r .ended) table) (r .turn) (r .counts) (λ g. g)
+  pub work-did : r .reply .number ≡ 0 → WorkDid table group turn counts queue items values stamps places block (r .reply) (endRows (r .ended) table) (stepped (r .reply)) (r .counts) queue′ values′ stamps′ places′ block′
+  work-did z = λ m. work-way m (endRows (r .ended) table) (stepped (r .reply)) (r .counts) (λ g.
+      let e : stepped (r .reply) ≡ r .turn = ap stepped (g .0 .0) ∙ work-turn m (sym (ap (λ (x : WorkReply). x .number) (g .0 .0)) ∙ z) ∙ sym (ap (λ (x : Memory). x .turn) (g .0 .1)) in
+      ((g .0 .0, ap (λ (h : Turn). workParts m group h (r .counts) (endRows (r .ended) table) queue′ items values′ stamps′ places′) e ∙ g .0 .1), g .1))

@@ -1,5 +1,5 @@
 // The calls that move the turn, as a host makes them: send, deliver, work.
-// The table is lent as a slice of records, turn and counts behind references. Each call copies what it needs of the lent parts, makes the call by value, and writes what changed where it
+// The table is lent as a slice of records, group, turn and counts behind references. Each call copies what it needs of the lent parts, makes the call by value, and writes what changed where it
 // lies. Its contract: what the call gives is what the engine's step gives, on every memory with the lent parts.
 ghost use Rattle.memory.specs.Memory.{Memory};
 ghost use Rattle.engine.specs.Calls.{unlessStation};
@@ -13,13 +13,16 @@ use call_reply::replies::no_work;
 use call_send::send;
 use call_work::work;
 use host_table::copy_counts;
+use host_table::copy_group;
 use host_table::copy_turn;
 use host_table::end_rows;
 use host_table::load;
 use host_table::mark_rows;
+use host_table::mark_sent;
 use host_table::set_counts;
-use host_table::set_turn;
+use host_table::step_turn;
 use memory::Counts;
+use memory::Group;
 use memory::NO_NUMBER;
 use memory::Turn;
 use memory::Txn;
@@ -27,8 +30,8 @@ use memory::Txn;
 #[no_mangle]
 pub extern "C" fn stemline_send(
     table: &mut [Txn],
+    group: &Group,
     turn: &mut Turn,
-    counts: &Counts,
     queue: &mut [u32],
     items: &[u8],
     writes: &[i32],
@@ -37,16 +40,16 @@ pub extern "C" fn stemline_send(
 ) -> u8
     ensures { λ r. ⌜ ((m : Memory) → GivesBlock
         (unlessStation
-        (sendParts m (now (turn .entry)) (now (counts .entry)) (now (table .entry)) (now (queue .entry)) (now (items .entry)) (now (writes .entry)) (now (outbox .entry)))
+        (sendParts m (now (group .entry)) (now (turn .entry)) (now (table .entry)) (now (queue .entry)) (now (items .entry)) (now (writes .entry)) (now (outbox .entry)))
         (called (λ x. sendStep x (now (block .entry)))
-        (sendParts m (now (turn .entry)) (now (counts .entry)) (now (table .entry)) (now (queue .entry)) (now (items .entry)) (now (writes .entry)) (now (outbox .entry)))))
+        (sendParts m (now (group .entry)) (now (turn .entry)) (now (table .entry)) (now (queue .entry)) (now (items .entry)) (now (writes .entry)) (now (outbox .entry)))))
         (now (block .entry))
         r
-        (sendParts m (now (turn .exit)) (now (counts .entry)) (now (table .exit)) (now (queue .exit)) (now (items .entry)) (now (writes .entry)) (now (outbox .exit)))
+        (sendParts m (now (group .entry)) (now (turn .exit)) (now (table .exit)) (now (queue .exit)) (now (items .entry)) (now (writes .entry)) (now (outbox .exit)))
         (now (block .exit))) ⌝ }
 {
-    let before = copy_counts(counts);
-    if before.own == NO_NUMBER {
+    let known = copy_group(group);
+    if known.own == NO_NUMBER {
         return 25;
     }
     if table.len() != 6 {
@@ -54,38 +57,39 @@ pub extern "C" fn stemline_send(
     }
     let rows = load(table);
     let cursor = copy_turn(turn);
-    let done = send(rows, cursor, before, queue, items, writes, outbox, block);
+    let done = send(rows, known, cursor, queue, items, writes, outbox, block);
     if done.number != 0 {
         return done.number;
     }
     mark_rows(table);
-    set_turn(turn, done.turn);
+    mark_sent(turn);
     0
 }
 
 #[no_mangle]
 pub extern "C" fn stemline_deliver(
+    group: &Group,
     turn: &Turn,
-    counts: &Counts,
     places: &mut [u8],
     outbox: &[u8],
     bytes: &[u8],
 ) -> u8
     ensures { λ r. ⌜ ((m : Memory) → Gives number
         (deliverStep
-        (deliverParts m (now (turn .entry)) (now (counts .entry)) (now (places .entry)) (now (outbox .entry)))
+        (deliverParts m (now (group .entry)) (now (turn .entry)) (now (places .entry)) (now (outbox .entry)))
         (now (bytes .entry)))
         r
-        (deliverParts m (now (turn .entry)) (now (counts .entry)) (now (places .exit)) (now (outbox .entry)))) ⌝ }
+        (deliverParts m (now (group .entry)) (now (turn .entry)) (now (places .exit)) (now (outbox .entry)))) ⌝ }
 {
+    let known = copy_group(group);
     let cursor = copy_turn(turn);
-    let before = copy_counts(counts);
-    deliver(cursor, before, places, outbox, bytes)
+    deliver(known, cursor, places, outbox, bytes)
 }
 
 #[no_mangle]
 pub extern "C" fn stemline_work(
     table: &mut [Txn],
+    group: &Group,
     turn: &mut Turn,
     counts: &mut Counts,
     queue: &mut [u32],
@@ -97,20 +101,22 @@ pub extern "C" fn stemline_work(
 ) -> WorkReply
     ensures { λ r. ⌜ ((m : Memory) → GivesWith workReply
         (called (withBlock (now (block .entry)) workStep)
-        (workParts m (now (turn .entry)) (now (counts .entry)) (now (table .entry)) (now (queue .entry)) (now (items .entry)) (now (values .entry)) (now (stamps .entry)) (now (places .entry))))
+        (workParts m (now (group .entry)) (now (turn .entry)) (now (counts .entry)) (now (table .entry)) (now (queue .entry)) (now (items .entry)) (now (values .entry)) (now (stamps .entry)) (now (places .entry))))
         (now (block .entry))
         r
-        (workParts m (now (turn .exit)) (now (counts .exit)) (now (table .exit)) (now (queue .exit)) (now (items .entry)) (now (values .exit)) (now (stamps .exit)) (now (places .exit)))
+        (workParts m (now (group .entry)) (now (turn .exit)) (now (counts .exit)) (now (table .exit)) (now (queue .exit)) (now (items .entry)) (now (values .exit)) (now (stamps .exit)) (now (places .exit)))
         (now (block .exit))) ⌝ }
 {
     if table.len() != 6 {
         return no_work(1);
     }
     let rows = load(table);
+    let known = copy_group(group);
     let cursor = copy_turn(turn);
     let before = copy_counts(counts);
     let done = work(
         rows,
+        known,
         cursor,
         before,
         queue,
@@ -125,7 +131,7 @@ pub extern "C" fn stemline_work(
         return reply;
     }
     end_rows(table, done.ended);
-    set_turn(turn, done.turn);
+    step_turn(turn, reply.moved, reply.sender, known.own);
     set_counts(counts, done.counts);
     reply
 }

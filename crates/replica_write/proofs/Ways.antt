@@ -10,6 +10,7 @@ use lib.IntN.{ℤ}
 use lib.ListN.{length, set}
 use lib.Seq.{set-getD}
 use Rattle.memory.specs.declared.Counts.{Counts}
+use Rattle.memory.specs.declared.Group.{Group}
 use Rattle.memory.specs.declared.Turn.{Turn}
 use Rattle.memory.specs.declared.Txn.{Txn}
 use Rattle.memory.specs.Memory.{Memory, withAborted}
@@ -28,29 +29,29 @@ use Rattle.host_table.specs.Table.{withWrites, loaded}
 use Rattle.host_table.proofs.TableLaws.{loaded-six, written-same, written-put}
 use Rattle.replica_write.proofs.Facts.{WriteOn, WriteDid}
 
-module _ (table : List Txn) (turn : Turn) (counts : Counts) (ticket : ℕ) (items : List ℕ) (writes : List ℤ) (stamps classes places : List ℕ) (item : ℕ) (value : ℤ) (r : Changed) (items′ : List ℕ) (writes′ : List ℤ) (ours : counts .own ≡ 255 → ⊥) (six : length table ≡ 6)
-    (said : WriteOn (rowOf ticket table) (rowAt table (rowOf ticket table)) (loaded table) turn counts items writes stamps classes places item value r items′ writes′) where
+module _ (table : List Txn) (group : Group) (turn : Turn) (counts : Counts) (ticket : ℕ) (items : List ℕ) (writes : List ℤ) (stamps classes places : List ℕ) (item : ℕ) (value : ℤ) (r : Changed) (items′ : List ℕ) (writes′ : List ℤ) (ours : group .own ≡ 255 → ⊥) (six : length table ≡ 6)
+    (said : WriteOn (rowOf ticket table) (rowAt table (rowOf ticket table)) (loaded table) group turn counts items writes stamps classes places item value r items′ writes′) where
   abbrev at₃ : ℕ
   at₃ = rowOf ticket table
 
   module _ (m : Memory) where
     abbrev before₃ : Memory
-    before₃ = writeParts m turn counts table items writes stamps classes places
+    before₃ = writeParts m group turn counts table items writes stamps classes places
 
     abbrev WriteWay : ℕ → List Txn → Counts → Outcome → Type 0
-    WriteWay n t c o = Gives number o (r .number) (writeParts m turn (r .counts) (set table at₃ (r .row)) items′ writes′ stamps classes places) → Gives number o n (writeParts m turn c t items′ writes′ stamps classes places)
+    WriteWay n t c o = Gives number o (r .number) (writeParts m group turn (r .counts) (set table at₃ (r .row)) items′ writes′ stamps classes places) → Gives number o n (writeParts m group turn c t items′ writes′ stamps classes places)
 
     write-way : (n : ℕ) (t : List Txn) (c : Counts) → WriteWay n t c (writeRow before₃ at₃ item value)
-        → Gives number (unlessStation before₃ (called (λ (x : Memory). writeStep x ticket item value) before₃)) n (writeParts m turn c t items′ writes′ stamps classes places)
-    write-way n t c way = rw (ne-eqb (counts .own) 255 ours, called-six (λ (x : Memory). writeStep x ticket item value) before₃ six) (way ((rw (loaded-six table six, set-getD table at₃ closed) at said .0) m))
+        → Gives number (unlessStation before₃ (called (λ (x : Memory). writeStep x ticket item value) before₃)) n (writeParts m group turn c t items′ writes′ stamps classes places)
+    write-way n t c way = rw (ne-eqb (group .own) 255 ours, called-six (λ (x : Memory). writeStep x ticket item value) before₃ six) (way ((rw (loaded-six table six, set-getD table at₃ closed) at said .0) m))
 
     -- a memory's parts with this table
     abbrev written : List Txn → Memory → Memory
-    written l x = writeParts m turn counts l (x .txns .items) (x .txns .writes) stamps classes places
+    written l x = writeParts m group turn counts l (x .txns .items) (x .txns .writes) stamps classes places
 
     -- what the call by value leaves
     abbrev said-left : Memory
-    said-left = writeParts m turn (r .counts) (set table at₃ (r .row)) items′ writes′ stamps classes places
+    said-left = writeParts m group turn (r .counts) (set table at₃ (r .row)) items′ writes′ stamps classes places
 
     put-back : (x : Memory) (u : Txn) → written (set table at₃ (withWrites (rowAt table at₃) (rowAt (set table at₃ u) at₃ .writes))) x ≡ written (set table at₃ (withWrites (rowAt table at₃) (u .writes))) x
     put-back x u = ap (λ (l : List Txn). written l x) (written-put table at₃ u)
@@ -63,26 +64,26 @@ module _ (table : List Txn) (turn : Turn) (counts : Counts) (ticket : ℕ) (item
         let n = writeRefusal before₃ at₃ item in
         cond-by P (eqb n 9) (λ e. stale) (λ e. unless-by P n before₃ (λ z. cond-by P (isOwn before₃ at₃ item) (λ y. again) (λ y. new)) (λ z. kept n z (eqb-false n 9 e)))
 
-  pub write-stale : r .number ≡ 9 → WriteDid table turn counts ticket items writes stamps classes places item value 9 (set table at₃ closed) (withAborted counts (r .counts .aborted)) items′ writes′
+  pub write-stale : r .number ≡ 9 → WriteDid table group turn counts ticket items writes stamps classes places item value 9 (set table at₃ closed) (withAborted counts (r .counts .aborted)) items′ writes′
   unfolding staleAt rewriteAt insertWrite
   write-stale z = λ m.
       let c = withAborted counts (r .counts .aborted) in
       write-way m 9 (set table at₃ closed) c (write-by m (WriteWay m 9 (set table at₃ closed) c)
-      (λ g. (refl, ap (λ (x : Memory). writeParts m turn (withAborted counts (x .counts .aborted)) (set table at₃ closed) (x .txns .items) (x .txns .writes) stamps classes places) (g .1)))
+      (λ g. (refl, ap (λ (x : Memory). writeParts m group turn (withAborted counts (x .counts .aborted)) (set table at₃ closed) (x .txns .items) (x .txns .writes) stamps classes places) (g .1)))
       (λ g. absurd (nine (sym (g .0) ∙ z))) (λ g. absurd (nine (sym (g .0) ∙ z))) (λ n y w g. absurd (w (sym (g .0) ∙ z))))
     where
       nine : _≡_ {A = ℕ} 0 9 → ⊥
       nine e = omega (arith, e)
 
   module _ (other : r .number ≡ 9 → ⊥) where
-    pub write-kept : (r .number ≡ 0 → ⊥) → WriteDid table turn counts ticket items writes stamps classes places item value (r .number) table counts items′ writes′
+    pub write-kept : (r .number ≡ 0 → ⊥) → WriteDid table group turn counts ticket items writes stamps classes places item value (r .number) table counts items′ writes′
     unfolding staleAt rewriteAt insertWrite
     write-kept z = λ m. write-way m (r .number) table counts (write-by m (WriteWay m (r .number) table counts)
         (λ g. absurd (other (g .0))) (λ g. absurd (z (g .0))) (λ g. absurd (z (g .0)))
-        (λ n y w g. (g .0, ap (λ (x : Memory). writeParts m turn counts table (x .txns .items) (x .txns .writes) stamps classes places) (g .1))))
+        (λ n y w g. (g .0, ap (λ (x : Memory). writeParts m group turn counts table (x .txns .items) (x .txns .writes) stamps classes places) (g .1))))
 
     -- of the row put back only the number of its written items is another
-    pub write-did : r .number ≡ 0 → WriteDid table turn counts ticket items writes stamps classes places item value 0 (set table at₃ (withWrites (rowAt table at₃) (r .row .writes))) counts items′ writes′
+    pub write-did : r .number ≡ 0 → WriteDid table group turn counts ticket items writes stamps classes places item value 0 (set table at₃ (withWrites (rowAt table at₃) (r .row .writes))) counts items′ writes′
     unfolding staleAt rewriteAt insertWrite
     write-did z = λ m.
         let t = set table at₃ (withWrites (rowAt table at₃) (r .row .writes)) in

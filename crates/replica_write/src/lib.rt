@@ -9,6 +9,7 @@ ghost use Rattle.call_reply.specs.Called.{called};
 use call_classes::load_classes;
 use call_write::write;
 use host_table::copy_counts;
+use host_table::copy_group;
 use host_table::copy_turn;
 use host_table::end;
 use host_table::find;
@@ -17,6 +18,7 @@ use host_table::row;
 use host_table::set_aborted;
 use host_table::set_writes;
 use memory::Counts;
+use memory::Group;
 use memory::NO_NUMBER;
 use memory::Turn;
 use memory::Txn;
@@ -24,6 +26,7 @@ use memory::Txn;
 #[no_mangle]
 pub extern "C" fn stemline_write(
     table: &mut [Txn],
+    group: &Group,
     turn: &Turn,
     counts: &mut Counts,
     ticket: u32,
@@ -37,14 +40,14 @@ pub extern "C" fn stemline_write(
 ) -> u8
     ensures { λ r. ⌜ ((m : Memory) → Gives number
         (unlessStation
-        (writeParts m (now (turn .entry)) (now (counts .entry)) (now (table .entry)) (now (items .entry)) (now (writes .entry)) (now (stamps .entry)) (now (classes .entry)) (now (places .entry)))
+        (writeParts m (now (group .entry)) (now (turn .entry)) (now (counts .entry)) (now (table .entry)) (now (items .entry)) (now (writes .entry)) (now (stamps .entry)) (now (classes .entry)) (now (places .entry)))
         (called (λ x. writeStep x ticket item value)
-        (writeParts m (now (turn .entry)) (now (counts .entry)) (now (table .entry)) (now (items .entry)) (now (writes .entry)) (now (stamps .entry)) (now (classes .entry)) (now (places .entry)))))
+        (writeParts m (now (group .entry)) (now (turn .entry)) (now (counts .entry)) (now (table .entry)) (now (items .entry)) (now (writes .entry)) (now (stamps .entry)) (now (classes .entry)) (now (places .entry)))))
         r
-        (writeParts m (now (turn .entry)) (now (counts .exit)) (now (table .exit)) (now (items .exit)) (now (writes .exit)) (now (stamps .entry)) (now (classes .entry)) (now (places .entry)))) ⌝ }
+        (writeParts m (now (group .entry)) (now (turn .entry)) (now (counts .exit)) (now (table .exit)) (now (items .exit)) (now (writes .exit)) (now (stamps .entry)) (now (classes .entry)) (now (places .entry)))) ⌝ }
 {
-    let before = copy_counts(counts);
-    if before.own == NO_NUMBER {
+    let known = copy_group(group);
+    if known.own == NO_NUMBER {
         return 25;
     }
     if table.len() != 6 {
@@ -54,10 +57,12 @@ pub extern "C" fn stemline_write(
     let t = row(table, at);
     let rows = load(table);
     let cursor = copy_turn(turn);
+    let before = copy_counts(counts);
     let done = write(
         at,
         t,
         rows,
+        known,
         cursor,
         before,
         items,

@@ -221,11 +221,11 @@ pub fn worked(work: &Work) -> second::Work {
 
 /// Stops where the library's memory is not the model's.
 pub fn same(model: &second::Replica, memory: &Memory) {
-    let counts = &memory.counts;
+    let (group, counts) = (&memory.group, &memory.counts);
     assert_eq!(
         [
-            usize::from(counts.replicas),
-            usize::from(counts.own),
+            usize::from(group.replicas),
+            usize::from(group.own),
             usize::from(counts.done)
         ],
         [

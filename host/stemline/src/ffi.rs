@@ -39,14 +39,20 @@ pub struct Turn {
     pub applying: u8,
 }
 
-/// The numbers of a replica, lent as the turn is.
+/// What a replica knows of its group. A make or a restart sets it, and no other call.
 #[repr(C)]
 #[derive(Clone, Copy, Debug, Default, PartialEq, Eq)]
-pub struct Counts {
+pub struct Group {
     /// The replicas of the group, n.
     pub replicas: u8,
     /// The replica's own number, below n; [`crate::NO_NUMBER`] for a station.
     pub own: u8,
+}
+
+/// The numbers of a replica, lent as the turn is.
+#[repr(C)]
+#[derive(Clone, Copy, Debug, Default, PartialEq, Eq)]
+pub struct Counts {
     /// The writesets committed, own and others'.
     pub commits: u32,
     /// The writesets committed of the block at the turn.
@@ -228,7 +234,8 @@ impl fmt::Display for Entry {
 const _: () = {
     assert!(size_of::<Txn>() == 16);
     assert!(size_of::<Turn>() == 8);
-    assert!(size_of::<Counts>() == 32);
+    assert!(size_of::<Group>() == 2);
+    assert!(size_of::<Counts>() == 28);
     assert!(size_of::<Report>() == 32);
     assert!(size_of::<BeginReply>() == 8);
     assert!(size_of::<ReadReply>() == 8);
@@ -273,15 +280,15 @@ calls! {
     /// Fills the parts, whatever they held: replica `own` of `n`, with 128 values to start with. Refused
     /// by 1, 2; with an `n` out of range the places may have any length.
     fn make = stemline_make(
-        table: mut [Txn], turn: &mut Turn, counts: &mut Counts, n: u32, own: u32, start: ref [i32],
-        queue: mut [u32], items: mut [u8], writes: mut [i32], snapshots: mut [i32],
+        table: mut [Txn], group: &mut Group, turn: &mut Turn, counts: &mut Counts, n: u32, own: u32,
+        start: ref [i32], queue: mut [u32], items: mut [u8], writes: mut [i32], snapshots: mut [i32],
         values: mut [i32], stamps: mut [u32], classes: mut [u8], places: mut [u8], outbox: mut [u8]
     ) -> u8;
 
     /// As a make, of a station in a group of `n`, which has no number. Refused by 1, 2.
     fn make_station = stemline_make_station(
-        table: mut [Txn], turn: &mut Turn, counts: &mut Counts, n: u32, start: ref [i32],
-        queue: mut [u32], items: mut [u8], writes: mut [i32], snapshots: mut [i32],
+        table: mut [Txn], group: &mut Group, turn: &mut Turn, counts: &mut Counts, n: u32,
+        start: ref [i32], queue: mut [u32], items: mut [u8], writes: mut [i32], snapshots: mut [i32],
         values: mut [i32], stamps: mut [u32], classes: mut [u8], places: mut [u8], outbox: mut [u8]
     ) -> u8;
 
@@ -289,8 +296,8 @@ calls! {
     /// check or form, has another `n` or is not the next slot's. Fills the block with the last own one
     /// of them, with zeros if there is none. Refused by 1, 2; a journal may have any length.
     fn restart = stemline_restart(
-        table: mut [Txn], turn: &mut Turn, counts: &mut Counts, n: u32, own: u32, start: ref [i32],
-        queue: mut [u32], items: mut [u8], writes: mut [i32], snapshots: mut [i32],
+        table: mut [Txn], group: &mut Group, turn: &mut Turn, counts: &mut Counts, n: u32, own: u32,
+        start: ref [i32], queue: mut [u32], items: mut [u8], writes: mut [i32], snapshots: mut [i32],
         values: mut [i32], stamps: mut [u32], classes: mut [u8], places: mut [u8], outbox: mut [u8],
         journal: ref [u8], block: mut [u8]
     ) -> RestartReply;
@@ -308,9 +315,9 @@ calls! {
 
     /// Puts an item and its value into a writeset. Refused by 25, 1, 2, 3, 4, 7, 9, 8, 10.
     fn write = stemline_write(
-        table: mut [Txn], turn: &Turn, counts: &mut Counts, ticket: u32, items: mut [u8],
-        writes: mut [i32], stamps: ref [u32], classes: ref [u8], places: ref [u8], item: u32,
-        value: i32
+        table: mut [Txn], group: &Group, turn: &Turn, counts: &mut Counts, ticket: u32,
+        items: mut [u8], writes: mut [i32], stamps: ref [u32], classes: ref [u8], places: ref [u8],
+        item: u32, value: i32
     ) -> u8;
 
     /// Requests commit. Refused by 1, 3, 4.
@@ -326,20 +333,20 @@ calls! {
 
     /// Writes the block for the own slot. Refused by 25, 1, 13, 11, 12.
     fn send = stemline_send(
-        table: mut [Txn], turn: &mut Turn, counts: &Counts, queue: mut [u32], items: ref [u8],
+        table: mut [Txn], group: &Group, turn: &mut Turn, queue: mut [u32], items: ref [u8],
         writes: ref [i32], outbox: mut [u8], block: mut [u8]
     ) -> u8;
 
     /// Keeps a block until its slot is the turn. Refused by 1, 14, 15, 16, 17, 18, 19, 20.
     fn deliver = stemline_deliver(
-        turn: &Turn, counts: &Counts, places: mut [u8], outbox: ref [u8], bytes: ref [u8]
+        group: &Group, turn: &Turn, places: mut [u8], outbox: ref [u8], bytes: ref [u8]
     ) -> u8;
 
     /// Takes one step at the block of the turn. Where the turn leaves another's slot it fills the lent
     /// block, which is otherwise not touched. Refused by 1, 21.
     fn work = stemline_work(
-        table: mut [Txn], turn: &mut Turn, counts: &mut Counts, queue: mut [u32], items: ref [u8],
-        values: mut [i32], stamps: mut [u32], places: mut [u8], block: mut [u8]
+        table: mut [Txn], group: &Group, turn: &mut Turn, counts: &mut Counts, queue: mut [u32],
+        items: ref [u8], values: mut [i32], stamps: mut [u32], places: mut [u8], block: mut [u8]
     ) -> WorkReply;
 
     /// Puts the 128 classes given, each 1 to 8, in the place of those there. Refused by 1, 2, 23.

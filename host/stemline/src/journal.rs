@@ -10,7 +10,7 @@ use crate::head::{Head, HEAD};
 use crate::map::lend;
 use crate::round::Round;
 use crate::tally::Tally;
-use crate::{Block, Blocks, Stop, BLOCK};
+use crate::{owner, Block, Blocks, Stop, BLOCK};
 
 /// A journal over a file.
 ///
@@ -267,7 +267,7 @@ fn good(disk: &mut Disk, n: u32, tally: &mut Tally) -> io::Result<Stop> {
 /// The most bytes that a cut tears behind so many good blocks: those of the slots up to the next own one,
 /// which is durable before anything follows.
 pub(crate) fn torn(n: u32, own: u32, blocks: u32) -> u64 {
-    let others = (own + n - blocks % n) % n;
+    let others = (own + n - owner(blocks, n)) % n;
     BLOCK as u64 * u64::from(others + 1)
 }
 

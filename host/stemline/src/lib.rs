@@ -113,6 +113,17 @@ pub const STEPS: usize = 36;
 /// In the place of an own number: a station, which has none.
 pub const NO_NUMBER: u8 = 255;
 
+/// Whose slot it is in a group of `n`: the number of the replica that sends for it.
+///
+/// ```
+/// assert_eq!([6, 7, 8, 9].map(|slot| stemline::owner(slot, 3)), [0, 1, 2, 0]);
+/// ```
+#[inline]
+pub fn owner(slot: u32, n: u32) -> u32 {
+    // Only in altered memory is n 0; a slot mod 0 is then the slot itself.
+    slot.checked_rem(n).unwrap_or(slot)
+}
+
 /// `Ok` of a value for 0, the refusal for any other number.
 #[inline]
 fn accepted<T>(number: u8, value: T) -> Result<T, Refusal> {

@@ -1,6 +1,6 @@
 //! The parts of a replica's memory in one value that owns them.
 
-use crate::ffi::{Counts, Turn, Txn};
+use crate::ffi::{Counts, Group, Turn, Txn};
 use crate::{BLOCK, ITEMS, QUEUE, REPLICAS, SNAPSHOTS, TABLE, WRITTEN};
 
 /// A replica's memory. Each call is defined on any content, so the fields are open to a host that
@@ -9,6 +9,8 @@ use crate::{BLOCK, ITEMS, QUEUE, REPLICAS, SNAPSHOTS, TABLE, WRITTEN};
 pub struct Memory {
     /// The open transactions; a free row has ticket 0.
     pub table: [Txn; TABLE],
+    /// What it knows of its group.
+    pub group: Group,
     /// The slot that is processed next, and its marks.
     pub turn: Turn,
     /// The numbers of the replica.
@@ -40,6 +42,7 @@ impl Memory {
     pub(crate) fn zero(n: u32) -> Memory {
         Memory {
             table: [Txn::default(); TABLE],
+            group: Group::default(),
             turn: Turn::default(),
             counts: Counts::default(),
             items: [0; WRITTEN],

@@ -2,8 +2,8 @@
 
 use crate::ffi::{self, WorkReply};
 use crate::{
-    accepted, Asked, Memory, Refusal, Report, Restarted, Taken, Work, BLOCK, ITEMS, NO_NUMBER,
-    SLOTS, STEPS,
+    accepted, owner, Asked, Memory, Refusal, Report, Restarted, Taken, Work, BLOCK, ITEMS,
+    NO_NUMBER, SLOTS, STEPS,
 };
 
 /// One replica of a group.
@@ -19,6 +19,7 @@ impl Replica {
         let m = &mut *memory;
         let number = ffi::make(
             &mut m.table,
+            &mut m.group,
             &mut m.turn,
             &mut m.counts,
             n,
@@ -55,6 +56,7 @@ impl Replica {
         let m = &mut *memory;
         let reply = ffi::restart(
             &mut m.table,
+            &mut m.group,
             &mut m.turn,
             &mut m.counts,
             n,
@@ -81,7 +83,7 @@ impl Replica {
     }
 
     /// A replica of a memory that was taken from one before. Where its places have another length
-    /// than its counts say, write, deliver and work are refused by 1. Of a station's memory, which has no
+    /// than its group says, write, deliver and work are refused by 1. Of a station's memory, which has no
     /// number, write and send are refused by 25, and [`crate::Station::from_memory`] makes a station.
     pub fn from_memory(memory: Memory) -> Replica {
         Replica {
@@ -124,6 +126,7 @@ impl Replica {
         let m = &mut *self.memory;
         let number = ffi::write(
             &mut m.table,
+            &m.group,
             &m.turn,
             &mut m.counts,
             ticket,
@@ -169,11 +172,9 @@ impl Replica {
     /// for that slot is not sent yet, and slots are left.
     #[inline]
     pub fn is_turn(&self) -> bool {
-        let (turn, counts) = (&self.memory.turn, &self.memory.counts);
-        // Only in altered memory are there no replicas; a slot mod 0 is then the slot itself.
-        let owner = turn.slot.checked_rem(counts.replicas.into());
-        let is_owner = owner.unwrap_or(turn.slot) == counts.own.into() && counts.own != NO_NUMBER;
-        turn.slot < SLOTS && is_owner && turn.sent == 0
+        let (group, turn) = (&self.memory.group, &self.memory.turn);
+        let is_owner = owner(turn.slot, group.replicas.into()) == group.own.into();
+        turn.slot < SLOTS && is_owner && group.own != NO_NUMBER && turn.sent == 0
     }
 
     /// The block for the own slot, with the writesets of all transactions asked so far, be it none. It
@@ -185,8 +186,8 @@ impl Replica {
         let m = &mut *self.memory;
         let number = ffi::send(
             &mut m.table,
+            &m.group,
             &mut m.turn,
-            &m.counts,
             &mut m.queue,
             &m.items,
             &m.writes,
@@ -200,7 +201,7 @@ impl Replica {
     #[inline]
     pub fn deliver(&mut self, bytes: &[u8]) -> Result<(), Refusal> {
         let m = &mut *self.memory;
-        let number = ffi::deliver(&m.turn, &m.counts, &mut m.places, &m.outbox, bytes);
+        let number = ffi::deliver(&m.group, &m.turn, &mut m.places, &m.outbox, bytes);
         accepted(number, ())
     }
 
@@ -219,6 +220,7 @@ impl Replica {
         let m = &mut *self.memory;
         ffi::work(
             &mut m.table,
+            &m.group,
             &mut m.turn,
             &mut m.counts,
             &mut m.queue,

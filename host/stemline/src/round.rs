@@ -10,7 +10,7 @@
 
 use crate::digest::{digest, START};
 use crate::head::PAGE;
-use crate::{Block, BLOCK};
+use crate::{owner, Block, BLOCK};
 
 /// The bytes in front of the blocks.
 const FRONT: usize = 16;
@@ -57,7 +57,7 @@ impl Round {
         }
         let (blocks, _) = bytes[FRONT..].as_chunks();
         let (blocks, last) = (blocks.to_vec(), first.checked_add(count - 1)?);
-        let whole = first == last.saturating_sub(n - 1) && last % n == own;
+        let whole = first == last.saturating_sub(n - 1) && owner(last, n) == own;
         let good = blocks.iter().zip(first..).all(|(bytes, slot)| {
             Block::read(bytes)
                 .is_ok_and(|block| (block.slot(), u32::from(block.replicas())) == (slot, n))

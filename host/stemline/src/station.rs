@@ -79,6 +79,7 @@ impl Station {
         let m = &mut *memory;
         let number = ffi::make_station(
             &mut m.table,
+            &mut m.group,
             &mut m.turn,
             &mut m.counts,
             n,
@@ -98,9 +99,9 @@ impl Station {
     }
 
     /// A station of a memory that was taken from one before; `None` where it is a replica's, which has a
-    /// number. Where its places have another length than its counts say, deliver and work are refused by 1.
+    /// number. Where its places have another length than its group says, deliver and work are refused by 1.
     pub fn from_memory(memory: Memory) -> Option<Station> {
-        let has_none = memory.counts.own == NO_NUMBER;
+        let has_none = memory.group.own == NO_NUMBER;
         has_none.then(|| Station {
             replica: Replica::from_memory(memory),
         })

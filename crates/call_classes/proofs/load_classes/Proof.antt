@@ -5,7 +5,7 @@ use borrow.Author.Needs.{needs}
 use Rattle.memory.specs.Memory.{Memory}
 use Rattle.call_reply.specs.Parts.{loadParts}
 use Rattle.call_reply.specs.Replies.{number}
-use Rattle.call_reply.proofs.BlockLaws.{copied}
+use Rattle.memory.proofs.ByteLaws.{copied}
 use Rattle.call_reply.proofs.ReplyLaws.{gives}
 use Rattle.call_classes.proofs.LoadLaws.{load-part, load-length, load-out, load-waits, load-taken}
 use Rattle.call_classes.proofs.load_classes.Statement.{statement}

@@ -11,16 +11,16 @@ use Rattle.call_classes.proofs.must_wait.Statement.{statement}
 use Rattle.call_classes.proofs.must_wait.Tie as tie
 
 returns : tie.Need-returns
-returns c = λ m t k l p. wait-off m _ (ap (λ (x : Turn). x .applying) t ∙ c .if1 .taken)
+returns c = λ m g t k l p. wait-off m _ (ap (λ (x : Turn). x .applying) t ∙ c .if1 .taken)
 
 place-start-requires : tie.Need-place-start-requires
 place-start-requires c κs = search needs
 
 add-end : tie.Need-add-end
-add-end c = omega (arith, c .place-start .ensures, place-low (c .before .before .before .before .before .args .counts .replicas) (c .before .before .before .before .before .args .turn .slot))
+add-end c = omega (arith, c .place-start .ensures, place-low (c .before .before .before .before .before .args .group .replicas) (c .before .before .before .before .before .args .turn .slot))
 
 returns-2 : tie.Need-returns-2
-returns-2 c = λ m t k l p. wait-short m _ (rw (t, k, p) (omega (arith, c .before .place-start .ensures, c .if2 .taken)))
+returns-2 c = λ m g t k l p. wait-short m _ (rw (g, t, p) (omega (arith, c .before .place-start .ensures, c .if2 .taken)))
 
 byte-at-requires : tie.Need-byte-at-requires
 byte-at-requires c κs = search needs
@@ -41,7 +41,7 @@ class-from-requires : tie.Need-class-from-requires
 class-from-requires c κs = search needs
 
 returns-3 : tie.Need-returns-3
-returns-3 c = λ m t k l p.
+returns-3 c = λ m g t k l p.
     let y = c .before .before .before in
     let e = y .before in
     let q = e .before in
@@ -51,6 +51,7 @@ returns-3 c = λ m t k l p.
     let at = q .place-start .result in
     rw (
       wait-on m (a .item) (λ z. o .if1 .left (sym (ap (λ (x : Turn). x .applying) t) ∙ z)),
+      g,
       t,
       k,
       l,

@@ -5,7 +5,7 @@ use Rattle.engine.specs.Client.{readOnlyAt, queueAt}
 use Rattle.call_reply.specs.Parts.{askParts}
 use Rattle.call_reply.specs.Replies.{askReply}
 use Rattle.call_reply.proofs.ReplyLaws.{gives}
-use Rattle.call_client.proofs.RowLaws.{same-row}
+use Rattle.memory.proofs.RowLaws.{same-row}
 use Rattle.call_client.proofs.AskLaws.{ask-queue, ask-absent, ask-asked, ask-empty, ask-taken}
 use borrow.Author.Needs.{needs}
 use Rattle.call_client.proofs.ask.Statement.{statement}

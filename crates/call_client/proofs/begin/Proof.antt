@@ -1,7 +1,7 @@
 -- `begin` meets its contract: each answer by its law.
 use Rattle.call_reply.specs.Replies.{beginReply}
 use Rattle.call_reply.proofs.ReplyLaws.{gives}
-use Rattle.call_client.proofs.RowLaws.{same-row}
+use Rattle.memory.proofs.RowLaws.{same-row}
 use Rattle.call_client.proofs.BeginLaws.{begin-values, begin-snapshots, begin-full, begin-spent, begin-taken}
 use borrow.Author.Needs.{needs}
 use Rattle.call_client.proofs.begin.Statement.{statement}

@@ -2,7 +2,7 @@
 use Rattle.engine.specs.Client.{withdrawAt}
 use Rattle.call_reply.specs.Replies.{number}
 use Rattle.call_reply.proofs.ReplyLaws.{gives}
-use Rattle.call_client.proofs.RowLaws.{same-row}
+use Rattle.memory.proofs.RowLaws.{same-row}
 use Rattle.call_client.proofs.AskLaws.{withdraw-absent, withdraw-asked, withdraw-taken}
 use borrow.Author.Needs.{needs}
 use Rattle.call_client.proofs.withdraw.Statement.{statement}

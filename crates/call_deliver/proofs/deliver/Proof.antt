@@ -9,7 +9,7 @@ use lib.ListN.{length, take, drop}
 use Rattle.block.specs.Answers.{blockRefusal, headerOf}
 use Rattle.call_reply.specs.Parts.{deliverParts}
 use Rattle.call_reply.specs.Replies.{number}
-use Rattle.call_reply.proofs.BlockLaws.{copied}
+use Rattle.memory.proofs.ByteLaws.{copied}
 use Rattle.call_reply.proofs.ReplyLaws.{gives}
 use Rattle.call_deliver.specs.Lengths.{lengthsFit}
 use Rattle.call_deliver.proofs.DeliverLaws.{reader-took, deliver-lengths, deliver-unread, deliver-refused, deliver-kept, lengths-long, place-in, part-long, group-some}
@@ -19,7 +19,7 @@ use Rattle.call_deliver.proofs.deliver.Tie as tie
 -- past the test the lengths are right
 fit : (c : tie.Else1)
     → let a = c .before .before .before .before .before .args in
-    lengthsFit (a .counts .replicas) (length (a .places .now)) (length (a .outbox .now)) (length (a .bytes .now)) ≡ true
+    lengthsFit (a .group .replicas) (length (a .places .now)) (length (a .outbox .now)) (length (a .bytes .now)) ≡ true
 fit c = sym (c .before .lengths-fit .ensures) ∙ not-false _ (c .if1 .left)
 
 lengths-fit-requires : tie.Need-lengths-fit-requires
@@ -66,10 +66,10 @@ returns-3 : tie.Need-returns-3
 returns-3 c = λ m. gives number (deliver-refused _ _ (c .before .refusal .result) (c .before .refusal .ensures m) (c .if2 .taken))
 
 -- past the refusals the group has replicas
-some : (c : tie.Else2) → 0 < c .before .before .before .before .before .before .before .before .before .before .before .before .args .counts .replicas
+some : (c : tie.Else2) → 0 < c .before .before .before .before .before .before .before .before .before .before .before .before .args .group .replicas
 some c =
     let a = c .before .before .before .before .before .before .before .before .before .before .before .before .args in
-    group-some (a .turn) (a .counts) (a .places .now) (a .outbox .now) (a .bytes .now) (c .before .refusal .result) (c .before .refusal .ensures) (c .if2 .left)
+    group-some (a .group) (a .turn) (a .places .now) (a .outbox .now) (a .bytes .now) (c .before .refusal .result) (c .before .refusal .ensures) (c .if2 .left)
 
 place-start-requires : tie.Need-place-start-requires
 place-start-requires c κs = search needs
@@ -110,7 +110,7 @@ returns-4 c = λ m.
     let at = p .place-start .result in
     let long = lengths-long _ (a .places .now) (a .outbox .now) (a .bytes .now) (fit (r .before .before .before)) .bytes in
     gives number
-    (deliver-kept (deliverParts m (a .turn) (a .counts) (a .places .now) (a .outbox .now)) (a .bytes .now)
+    (deliver-kept (deliverParts m (a .group) (a .turn) (a .places .now) (a .outbox .now)) (a .bytes .now)
     (f .refusal .result) (f .refusal .ensures m) (p .before .if2 .left) (r .read .given .0 .0) (took r .1)
     at (p .place-start .ensures) (w .copy-bytes .last .1 .0)
     (w .copy-bytes .ensures ∙ copied (take (at + 512 - at) (drop at (a .places .now))) (a .bytes .now) (part-long at (a .places .now) (a .bytes .now) (inside p) long)))

@@ -47,7 +47,7 @@ shared-slice-read-if5 c =
     let p = c .before in
     let e = p .before in
     let s = e .before .before .before .before .before .before .before .before .before .before .before .before .before .before .before in
-    omega (arith, place-in (s .args .counts .replicas) (s .args .header .slot) (s .args .places .now) (s .args .outbox .now) (s .args .bytes .now) (s .pre .0) (omega arith) (p .place-start .result) (p .place-start .ensures))
+    omega (arith, place-in (s .args .group .replicas) (s .args .header .slot) (s .args .places .now) (s .args .outbox .now) (s .args .bytes .now) (s .pre .0) (omega arith) (p .place-start .result) (p .place-start .ensures))
 
 returns-5 : tie.Need-returns-5
 returns-5 c = λ m.

@@ -23,27 +23,31 @@ cast-add c = search needs
 add-requires : tie.Need-add-requires
 add-requires c κs = search needs
 
+mark-applying-requires : tie.Need-mark-applying-requires
+mark-applying-requires c κs = search needs
+
 cast-t20 : tie.Need-cast-t20
 cast-t20 c = search needs
 
 same-length : tie.Need-same-length
-same-length c = ⊎-elim (λ w. ap length (w .5) ∙ w .3 .given) (λ w. ap length (w .1)) (c .before .before .if1 .came)
+same-length c = ⊎-elim (λ w. ap length (w .5) ∙ w .3 .given) (λ w. ap length (w .1)) (c .before .before .before .if1 .came)
 
 six : (c : tie.After-abort-rows) → length (c .abort-rows .result .tickets) ≡ 6
 six c = search needs
 
 returns : tie.Need-returns
 returns c =
-    let b = c .before in
+    let e = c .before in
+    let b = e .before in
     let q = b .before in
     let h = q .before .before .before in
     let s = h .before .before .before .before in
     let a = s .args in
     let o = h .abort-rows .result in
     let hit = h .abort-rows .ensures in (
-      rw (s .pre)
+      rw (c .mark-applying .ensures, s .pre)
           (other-ended (writesetAt (a .block .now) (a .j)) (a .turn) (a .counts) (a .rows) (a .items .now) (o .tickets) (o .count) (hit .2) (hit .1)
-          (six h) (hit .3) (o .marks) (hit .0) (b .bump .result) (c .add .result) (b .bump .ensures) (c .add .ensures)),
+          (six h) (hit .3) (o .marks) (hit .0) (b .bump .result) (e .add .result) (b .bump .ensures) (e .add .ensures)),
       other-queue (writesetAt (a .block .now) (a .j)) (a .turn) (a .counts) (a .rows) (a .items .now) (o .tickets) (o .count) (hit .2) (hit .1)
           (q .if1 .queue) (a .queue .now)
           (⊎-elim (λ w. inl (w .5 ∙ w .2 .ensures)) (λ w. inr (w .0 .left, w .1)) (q .if1 .came)),
@@ -58,6 +62,7 @@ end-other-spec =
     bump-requires
     cast-add
     add-requires
+    mark-applying-requires
     cast-t20
     same-length
     returns)

@@ -31,7 +31,7 @@ returns : tie.Need-returns
 returns c =
     let p = c .before .before .before in
     let e = p .before .before .before .before .before .before in
-    rw (← e .before .before .before .before .byte-at .ensures) (e .end-transactions .ensures .0, e .end-transactions .ensures .1, p .apply .ensures .0, p .apply .ensures .1)
+    rw (← e .before .before .before .byte-at .ensures) (e .end-transactions .ensures .0, e .end-transactions .ensures .1, p .apply .ensures .0, p .apply .ensures .1)
 
 pub end-writeset-spec : {M : Type 1} → statement M
 end-writeset-spec =

@@ -4,11 +4,12 @@ use mathlib.Core.List.{List, []}
 use native.Mathlib.Omega.{arith}
 use lib.ListN.{replicate}
 use Rattle.memory.specs.declared.Counts.{Counts}
+use Rattle.memory.specs.declared.Group.{Group}
 use Rattle.memory.specs.declared.Turn.{Turn}
 use Rattle.memory.specs.declared.Txn.{Txn}
-use Rattle.memory.specs.Memory.{Memory}
+use Rattle.memory.specs.Memory.{Memory, groupOf}
 use Rattle.memory.specs.Rows.{closed}
-use Rattle.engine.specs.Make.{turnZero, countsFor, placesFit, makeRefusal}
+use Rattle.engine.specs.Make.{turnZero, countsZero, placesFit, makeRefusal}
 use Rattle.call_reply.specs.Parts.{allParts}
 use Rattle.call_reply.specs.Replies.{number}
 use Rattle.call_reply.proofs.ReplyLaws.{gives}
@@ -17,21 +18,21 @@ use borrow.Author.Needs.{needs}
 use Rattle.call_make.proofs.make.Statement.{statement}
 use Rattle.call_make.proofs.make.Tie as tie
 
--- the memory lent, with any turn, counts and table
-abbrev before : tie.Start → Turn → Counts → List Txn → Memory
-before s turn counts rows =
+-- the memory lent, with any group, turn, counts and table
+abbrev before : tie.Start → Group → Turn → Counts → List Txn → Memory
+before s group turn counts rows =
     let a = s .args in
-    allParts turn counts rows (a .queue .now) (a .items .now) (a .writes .now) (a .snapshots .now) (a .values .now) (a .stamps .now) (a .classes .now) (a .places .now) (a .outbox .now)
+    allParts group turn counts rows (a .queue .now) (a .items .now) (a .writes .now) (a .snapshots .now) (a .values .now) (a .stamps .now) (a .classes .now) (a .places .now) (a .outbox .now)
 
 -- the number is the refusal's
-said : (c : tie.After-refusal) (turn : Turn) (counts : Counts) (rows : List Txn)
-    → let s = c .before .before .before .before .before .before .before .before .before in c .refusal .result ≡ makeRefusal (before s turn counts rows) (s .args .n) (s .args .own) (s .args .start .now)
+said : (c : tie.After-refusal) (group : Group) (turn : Turn) (counts : Counts) (rows : List Txn)
+    → let s = c .before .before .before .before .before .before .before .before .before in c .refusal .result ≡ makeRefusal (before s group turn counts rows) (s .args .n) (s .args .own) (s .args .start .now)
 unfolding placesFit
-said c turn counts rows =
+said c group turn counts rows =
     let f = c .before in
     let p = f .before in
     let s = p .before .before .before .before .before .before .before in
-    c .refusal .ensures (before s turn counts rows) (s .args .start .now) refl (sym (p .parts-fit .ensures)) (sym (f .places-fit .ensures))
+    c .refusal .ensures (before s group turn counts rows) (s .args .start .now) refl (sym (p .parts-fit .ensures)) (sym (f .places-fit .ensures))
 
 parts-fit-requires : tie.Need-parts-fit-requires
 parts-fit-requires c κs = search needs
@@ -52,9 +53,10 @@ returns c =
     let k = r .refusal .result in
     let no = c .before .if1 .taken in
     rw (c .answer .ensures) (
-      λ turn counts rows. gives number (make-refused (before s turn counts rows) (s .args .n) (s .args .own) (s .args .start .now) k (said r turn counts rows) no turnZero (countsFor 0 0) (replicate 6 closed)),
+      λ group turn counts rows. gives number (make-refused (before s group turn counts rows) (s .args .n) (s .args .own) (s .args .start .now) k (said r group turn counts rows) no (groupOf 0 0) turnZero countsZero (replicate 6 closed)),
+      if-refused k (groupOf (s .args .n) (s .args .own)) (groupOf 0 0) no,
       refl,
-      if-refused k (countsFor (s .args .n) (s .args .own)) (countsFor 0 0) no,
+      refl,
     )
 
 clear-numbers-requires : tie.Need-clear-numbers-requires
@@ -85,11 +87,11 @@ clear-bytes-requires-4 : tie.Need-clear-bytes-requires-4
 clear-bytes-requires-4 c κs = search needs
 
 -- what is known once the make is not refused
-taken : (c : tie.Else1) → let s = c .before .before .before .before .before .before .before .before .before .before in Given (before s turnZero (countsFor 0 0) []) (s .args .n) (s .args .own) (s .args .start .now)
+taken : (c : tie.Else1) → let s = c .before .before .before .before .before .before .before .before .before .before in Given (before s (groupOf 0 0) turnZero countsZero []) (s .args .n) (s .args .own) (s .args .start .now)
 taken c =
     let r = c .before in
     let s = r .before .before .before .before .before .before .before .before .before in
-    given (before s turnZero (countsFor 0 0) []) (s .args .n) (s .args .own) (s .args .start .now) (sym (said r turnZero (countsFor 0 0) []) ∙ c .if1 .left)
+    given (before s (groupOf 0 0) turnZero countsZero []) (s .args .n) (s .args .own) (s .args .start .now) (sym (said r (groupOf 0 0) turnZero countsZero []) ∙ c .if1 .left)
 
 cast-answer : tie.Need-cast-answer
 cast-answer c = omega (arith, taken (c .before .before .before .before .before .before .before .before .before .before .before .before .before .before .before .before .before .before .before .before .before .before .before .before .before .before .before .before .before .before .before .before .before) .most)
@@ -109,7 +111,7 @@ same-length-2 : tie.Need-same-length-2
 same-length-2 c = c .before .before .before .before .before .before .before .before .before .before .before .before .before .before .before .before .before .before .before .before .before .before .before .before .before .before .before .before .clear-bytes .kept .0
 
 same-length-3 : tie.Need-same-length-3
-same-length-3 c = search needs
+same-length-3 c = c .before .before .before .before .before .before .before .before .before .before .before .before .before .before .before .before .before .before .before .before .before .before .before .before .clear-values .kept .0
 
 same-length-4 : tie.Need-same-length-4
 same-length-4 c = search needs
@@ -144,12 +146,13 @@ returns-2 c =
     let r = e .before in
     let s = r .before .before .before .before .before .before .before .before .before in
     rw (c .answer2 .ensures) (
-      λ turn counts rows.
+      λ group turn counts rows.
           gives number
-          (make-taken (before s turn counts rows) (s .args .n) (s .args .own) (s .args .start .now) (r .refusal .result) (said r turn counts rows) (e .if1 .left)
+          (make-taken (before s group turn counts rows) (s .args .n) (s .args .own) (s .args .start .now) (r .refusal .result) (said r group turn counts rows) (e .if1 .left)
           (q .clear-numbers .last .0) (i .clear-bytes .last .0) (w .clear-values .last .0) (n .clear-values2 .last .0) (v .copy-values .last .1 .0) (st .clear-numbers2 .last .0)
           (cl .clear-bytes2 .last .0) (pl .clear-bytes3 .last .0) (o .clear-bytes4 .last .0) (q .clear-numbers .ensures) (i .clear-bytes .ensures) (w .clear-values .ensures) (n .clear-values2 .ensures)
           (v .copy-values .ensures) (st .clear-numbers2 .ensures) (cl .clear-bytes2 .ensures) (pl .clear-bytes3 .ensures) (o .clear-bytes4 .ensures)),
+      refl,
       refl,
       refl,
     )

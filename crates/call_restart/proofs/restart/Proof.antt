@@ -1,29 +1,30 @@
 -- `restart` meets its contract: refused as its make is, or what the journal's blocks leave of the parts just made.
-use mathlib.Core.Path.{_≡_, _∙_}
+use mathlib.Core.Path.{_≡_, refl, _∙_}
 use mathlib.Core.List.{List, []}
 use native.Mathlib.Omega.{arith}
 use lib.ListN.{length, replicate}
 use Rattle.memory.specs.declared.Counts.{Counts}
+use Rattle.memory.specs.declared.Group.{Group}
 use Rattle.memory.specs.declared.Turn.{Turn}
 use Rattle.memory.specs.declared.Txn.{Txn}
-use Rattle.memory.specs.Memory.{Memory}
+use Rattle.memory.specs.Memory.{Memory, groupOf}
 use Rattle.memory.specs.Rows.{closed}
-use Rattle.engine.specs.Make.{turnZero, countsFor}
+use Rattle.engine.specs.Make.{turnZero, countsZero}
 use Rattle.call_reply.specs.Parts.{allParts}
 use Rattle.call_reply.specs.Replies.{restartReply}
 use Rattle.call_reply.proofs.ReplyLaws.{gives-with}
-use Rattle.call_make.proofs.MakeLaws.{Given}
+use Rattle.call_make.proofs.MakeLaws.{Given, if-refused}
 use Rattle.call_restart.specs.Answered.{answered}
-use Rattle.call_restart.proofs.AnswerLaws.{restart-other, restart-refused, restart-given, restart-taken}
+use Rattle.call_restart.proofs.AnswerLaws.{restart-other, restart-refused, restart-given, restart-taken, restart-turn, restart-counts}
 use borrow.Author.Needs.{needs}
 use Rattle.call_restart.proofs.restart.Statement.{statement}
 use Rattle.call_restart.proofs.restart.Tie as tie
 
--- the memory lent, with any turn, counts and table
-abbrev before : tie.Start → Turn → Counts → List Txn → Memory
-before s turn counts rows =
+-- the memory lent, with any group, turn, counts and table
+abbrev before : tie.Start → Group → Turn → Counts → List Txn → Memory
+before s group turn counts rows =
     let a = s .args in
-    allParts turn counts rows (a .queue .now) (a .items .now) (a .writes .now) (a .snapshots .now) (a .values .now) (a .stamps .now) (a .classes .now) (a .places .now) (a .outbox .now)
+    allParts group turn counts rows (a .queue .now) (a .items .now) (a .writes .now) (a .snapshots .now) (a .values .now) (a .stamps .now) (a .classes .now) (a .places .now) (a .outbox .now)
 
 refused-requires : tie.Need-refused-requires
 refused-requires c κs = search needs
@@ -33,7 +34,7 @@ returns c =
     let s = c .before .before .before .before .before .before .before .before .before .before in
     let a = s .args in
     rw (c .refused .ensures)
-    (λ turn counts rows. gives-with restartReply (a .block .now) (restart-other (before s turn counts rows) (a .n) (a .own) (a .start .now) (a .journal .now) (a .block .now) (c .before .if1 .taken)))
+    (λ group turn counts rows. gives-with restartReply (a .block .now) (restart-other (before s group turn counts rows) (a .n) (a .own) (a .start .now) (a .journal .now) (a .block .now) (c .before .if1 .taken)), refl, refl, refl)
 
 make-requires : tie.Need-make-requires
 make-requires c κs = search needs
@@ -42,7 +43,7 @@ refused-requires-2 : tie.Need-refused-requires-2
 refused-requires-2 c κs = search needs
 
 same-length : tie.Need-same-length
-same-length c = search needs
+same-length c = c .before .before .before .before .before .before .before .before .before .before .before .before .before .before .before .before .before .before .make .kept .1 .1 .1 .0
 
 same-length-2 : tie.Need-same-length-2
 same-length-2 c = search needs
@@ -73,20 +74,24 @@ returns-2 c =
     let d = c .before .before .before .before .before .before .before .before .before .before .before .before .before .before .before .before .before .before in
     let s = d .before .before .before .before .before .before .before .before .before .before .before .before .before .before .before .before .before .before .before in
     let a = s .args in
-    rw (c .refused2 .ensures)
-    (λ turn counts rows.
-    gives-with restartReply (a .block .now)
-    (restart-refused (before s turn counts rows) (a .n) (a .own) (a .start .now) (a .journal .now) (a .block .now) (d .before .before .before .before .before .before .before .before .before .before .if1 .left)
-    (d .make .result .number) _ (d .make .ensures .0 turn counts rows) (c .before .if2 .taken) turnZero (countsFor 0 0) (replicate 6 closed)))
+    rw (c .refused2 .ensures) (
+      λ group turn counts rows.
+          gives-with restartReply (a .block .now)
+          (restart-refused (before s group turn counts rows) (a .n) (a .own) (a .start .now) (a .journal .now) (a .block .now) (d .before .before .before .before .before .before .before .before .before .before .if1 .left)
+          (d .make .result .number) _ (d .make .ensures .0 group turn counts rows) (c .before .if2 .taken) _ _ _ (replicate 6 closed)),
+      if-refused _ _ _ (c .before .if2 .taken),
+      if-refused _ _ _ (c .before .if2 .taken),
+      if-refused _ _ _ (c .before .if2 .taken),
+    )
 
 -- what is known once the restart is not refused
-taken : (c : tie.Else2) → let s = c .before .before .before .before .before .before .before .before .before .before .before .before .before .before .before .before .before .before .before .before .before .before .before .before .before .before .before .before .before .before .before .before .before .before .before .before in Given (before s turnZero (countsFor 0 0) []) (s .args .n) (s .args .own) (s .args .start .now)
+taken : (c : tie.Else2) → let s = c .before .before .before .before .before .before .before .before .before .before .before .before .before .before .before .before .before .before .before .before .before .before .before .before .before .before .before .before .before .before .before .before .before .before .before .before in Given (before s (groupOf 0 0) turnZero countsZero []) (s .args .n) (s .args .own) (s .args .start .now)
 taken c =
     let d = c .before .before .before .before .before .before .before .before .before .before .before .before .before .before .before .before .before in
     let s = d .before .before .before .before .before .before .before .before .before .before .before .before .before .before .before .before .before .before .before in
     let a = s .args in
-    restart-given (before s turnZero (countsFor 0 0) []) (a .n) (a .own) (a .start .now) (a .journal .now) (a .block .now) (d .before .before .before .before .before .before .before .before .before .before .if1 .left)
-    (d .make .result .number) _ (d .make .ensures .0 turnZero (countsFor 0 0) []) (c .if2 .left)
+    restart-given (before s (groupOf 0 0) turnZero countsZero []) (a .n) (a .own) (a .start .now) (a .journal .now) (a .block .now) (d .before .before .before .before .before .before .before .before .before .before .if1 .left)
+    (d .make .result .number) _ (d .make .ensures .0 (groupOf 0 0) turnZero countsZero []) (c .if2 .left)
 
 read-journal-requires : tie.Need-read-journal-requires
 read-journal-requires c κs = search needs
@@ -138,7 +143,7 @@ same-length-17 : tie.Need-same-length-17
 same-length-17 c = c .before .before .before .before .before .before .before .before .before .before .before .before .before .before .before .before .before .before .before .before .before .before .before .before .before .before .before .before .make .kept .1 .1 .1 .1 .1 .1 .1 .1 .1 .1 .0
 
 same-length-18 : tie.Need-same-length-18
-same-length-18 c = search needs
+same-length-18 c = c .before .before .before .before .before .before .before .before .before .before .before .before .before .before .before .before .before .before .before .before .before .before .before .before .before .before .before .before .make .kept .1 .1 .1 .1 .1 .1 .1 .1 .1 .1 .1 .0
 
 same-length-19 : tie.Need-same-length-19
 same-length-19 c = search needs
@@ -152,12 +157,20 @@ returns-3 c =
     let d = e .before .before .before .before .before .before .before .before .before .before .before .before .before .before .before .before .before in
     let s = d .before .before .before .before .before .before .before .before .before .before .before .before .before .before .before .before .before .before .before in
     let a = s .args in
-    rw (c .answer .ensures, g .give-back .ensures)
-    (λ turn counts rows.
-    gives-with restartReply (a .block .now)
-    (restart-taken (before s turn counts rows) (a .n) (a .own) (a .start .now) (a .journal .now) (a .block .now) (d .before .before .before .before .before .before .before .before .before .before .if1 .left)
-    (d .make .result .number) _ (d .make .ensures .0 turn counts rows) (e .if2 .left)
-    (r .read-journal .result) _ _ (r .read-journal .ensures)))
+    let b = before s (groupOf 0 0) turnZero countsZero [] in
+    let long = d .before .before .before .before .before .before .before .before .before .before .if1 .left in
+    rw (c .answer .ensures, g .give-back .ensures) (
+      λ group turn counts rows.
+          gives-with restartReply (a .block .now)
+          (restart-taken (before s group turn counts rows) (a .n) (a .own) (a .start .now) (a .journal .now) (a .block .now) (d .before .before .before .before .before .before .before .before .before .before .if1 .left)
+          (d .make .result .number) _ (d .make .ensures .0 group turn counts rows) (e .if2 .left)
+          (r .read-journal .result) _ _ (r .read-journal .ensures)),
+      refl,
+      restart-turn b (a .n) (a .own) (a .start .now) (a .journal .now) (a .block .now) long
+          (d .make .result .number) _ (d .make .ensures .0 (groupOf 0 0) turnZero countsZero []) (e .if2 .left) (r .read-journal .result) _ _ (r .read-journal .ensures),
+      restart-counts b (a .n) (a .own) (a .start .now) (a .journal .now) (a .block .now) long
+          (d .make .result .number) _ (d .make .ensures .0 (groupOf 0 0) turnZero countsZero []) (e .if2 .left) (r .read-journal .result) _ _ (r .read-journal .ensures),
+    )
 
 pub restart-spec : {M : Type 1} → statement M
 restart-spec =

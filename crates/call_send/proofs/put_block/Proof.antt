@@ -5,7 +5,7 @@ use native.Mathlib.Omega.{arith}
 use lib.ListN.{replicate}
 use Rattle.memory.proofs.RowLaws.{index-within}
 use Rattle.call_reply.specs.Parts.{sendParts}
-use Rattle.call_reply.proofs.BlockLaws.{copied}
+use Rattle.memory.proofs.ByteLaws.{copied}
 use Rattle.call_send.proofs.BlockLaws.{header-written, zeros-behind, message-put}
 use borrow.Author.Needs.{needs}
 use Rattle.call_send.proofs.put_block.Statement.{statement}
@@ -81,7 +81,7 @@ returns c = λ m.
     let e = z .before .before .before in
     let s = e .before .before .before .before in
     let a = s .args in
-    message-put (sendParts m (a .turn) (a .counts) (a .rows) (a .queue .now) (a .items .now) (a .writes .now) (m .blocks .outbox))
+    message-put (sendParts m (a .group) (a .turn) (a .rows) (a .queue .now) (a .items .now) (a .writes .now) (m .blocks .outbox))
     (e .queue-end .result) (e .queue-end .ensures) (few e) 512 (w .write-check .result)
     (z .copy-bytes .last .1 .0) (h .write-header .last .0) (p .put-writesets .last .0) (w .write-check .last .0)
     refl (zeros z) (header-written 512 (z .copy-bytes .last .1 .0) (h .write-header .last .0) refl (zeros z) (h .write-header .result) _ (rw (f .header-for .ensures) at (h .write-header .ensures)))

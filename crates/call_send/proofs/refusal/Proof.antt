@@ -7,10 +7,10 @@ use Rattle.call_send.proofs.refusal.Statement.{statement}
 use Rattle.call_send.proofs.refusal.Tie as tie
 
 returns : tie.Need-returns
-returns c = λ m block et ec lent. send-lengths m block (lent ∙ not-true _ (c .if1 .taken))
+returns c = λ m block eg et lent. send-lengths m block (lent ∙ not-true _ (c .if1 .taken))
 
 returns-2 : tie.Need-returns-2
-returns-2 c = λ m block et ec lent. send-spent m block (lent ∙ not-false _ (c .before .before .if1 .left)) (rw et (c .if2 .taken))
+returns-2 c = λ m block eg et lent. send-spent m block (lent ∙ not-false _ (c .before .before .if1 .left)) (rw et (c .if2 .taken))
 
 owner-requires : tie.Need-owner-requires
 owner-requires c κs = search needs
@@ -19,24 +19,24 @@ cast-if3 : tie.Need-cast-if3
 cast-if3 c = search needs
 
 returns-3 : tie.Need-returns-3
-returns-3 c = λ m block et ec lent.
+returns-3 c = λ m block eg et lent.
     let o = c .before .before .before in
     let l = o .before in
-    send-others m block (lent ∙ not-false _ (l .before .before .if1 .left)) (rw et (l .if2 .left)) (o .owner .result .replica) (rw (et, ec) (o .owner .ensures .1)) (rw ec (c .if3 .taken))
+    send-others m block (lent ∙ not-false _ (l .before .before .if1 .left)) (rw et (l .if2 .left)) (o .owner .result .replica) (rw (eg, et) (o .owner .ensures .1)) (rw eg (c .if3 .taken))
 
 returns-4 : tie.Need-returns-4
-returns-4 c = λ m block et ec lent.
+returns-4 c = λ m block eg et lent.
     let s = c .before .before in
     let o = s .before .before .before in
     let l = o .before in
-    send-already m block (lent ∙ not-false _ (l .before .before .if1 .left)) (rw et (l .if2 .left)) (o .owner .result .replica) (rw (et, ec) (o .owner .ensures .1)) (rw ec (s .if3 .left)) (rw et (c .if4 .taken))
+    send-already m block (lent ∙ not-false _ (l .before .before .if1 .left)) (rw et (l .if2 .left)) (o .owner .result .replica) (rw (eg, et) (o .owner .ensures .1)) (rw eg (s .if3 .left)) (rw et (c .if4 .taken))
 
 returns-5 : tie.Need-returns-5
-returns-5 c = λ m block et ec lent.
+returns-5 c = λ m block eg et lent.
     let s = c .before .before in
     let o = s .before .before .before in
     let l = o .before in
-    send-free m block (lent ∙ not-false _ (l .before .before .if1 .left)) (rw et (l .if2 .left)) (o .owner .result .replica) (rw (et, ec) (o .owner .ensures .1)) (rw ec (s .if3 .left)) (rw et (c .if4 .left))
+    send-free m block (lent ∙ not-false _ (l .before .before .if1 .left)) (rw et (l .if2 .left)) (o .owner .result .replica) (rw (eg, et) (o .owner .ensures .1)) (rw eg (s .if3 .left)) (rw et (c .if4 .left))
 
 pub refusal-spec : {M : Type 1} → statement M
 refusal-spec =

@@ -5,7 +5,7 @@ use Rattle.memory.specs.Memory.{Memory}
 use Rattle.engine.specs.Make.{madeMemory}
 use Rattle.engine.specs.Moves.{sendRefusal}
 use Rattle.call_reply.specs.Parts.{sendParts}
-use Rattle.call_reply.proofs.BlockLaws.{copied}
+use Rattle.memory.proofs.ByteLaws.{copied}
 use Rattle.call_reply.proofs.ReplyLaws.{gives-block}
 use Rattle.call_send.proofs.SendLaws.{Long, send-long, send-refused, send-taken}
 use borrow.Author.Needs.{needs}
@@ -14,7 +14,7 @@ use Rattle.call_send.proofs.send.Tie as tie
 
 -- the memory lent
 abbrev before : tie.Start → Memory → Memory
-before s m = let a = s .args in sendParts m (a .turn) (a .counts) (a .rows) (a .queue .now) (a .items .now) (a .writes .now) (a .outbox .now)
+before s m = let a = s .args in sendParts m (a .group) (a .turn) (a .rows) (a .queue .now) (a .items .now) (a .writes .now) (a .outbox .now)
 
 -- the number is the refusal's
 said : (c : tie.After-refusal) (m : Memory) → let s = c .before .before .before .before .before .before in c .refusal .result ≡ sendRefusal (before s m) (s .args .block .now)

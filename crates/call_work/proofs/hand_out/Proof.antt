@@ -1,7 +1,7 @@
 -- `hand_out` meets its contract: the replica's own, or another's.
 use mathlib.Core.Path.{refl, _∙_}
 use borrow.Author.Tests.{eq-eqb, ne-eqb}
-use Rattle.call_reply.proofs.BlockLaws.{copied}
+use Rattle.memory.proofs.ByteLaws.{copied}
 use borrow.Author.Needs.{needs}
 use Rattle.call_work.proofs.hand_out.Statement.{statement}
 use Rattle.call_work.proofs.hand_out.Tie as tie

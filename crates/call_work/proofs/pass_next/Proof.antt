@@ -52,7 +52,7 @@ returns c =
     let s = h .before .before .before .before .before .before .before in
     let a = s .args in
     let part = lent-slice (a .at) (a .at + 512) (a .places .now) (omega arith) in (
-      λ m. next-passed (turnParts m (a .turn) (a .counts) (m .txns .table) (a .places .now)) (a .at) (s .pre .0) (s .pre .1) (c .advance .result) (c .advance .ensures)
+      λ m. next-passed (turnParts m (a .group) (a .turn) (a .counts) (m .txns .table) (a .places .now)) (a .at) (s .pre .0) (s .pre .1) (c .advance .result) (c .advance .ensures)
           (h .hand-out .result) (h .hand-out .ensures .0) (a .block .now) _ (rw part at (h .hand-out .ensures .1)),
       refl,
     )

@@ -23,7 +23,10 @@ use Rattle.call_work.proofs.work.Tie as tie
 abbrev before : tie.Start → Memory → Memory
 before s m =
     let a = s .args in
-    workParts m (a .turn) (a .counts) (a .rows) (a .queue .now) (a .items .now) (a .values .now) (a .stamps .now) (a .places .now)
+    workParts m (a .group) (a .turn) (a .counts) (a .rows) (a .queue .now) (a .items .now) (a .values .now) (a .stamps .now) (a .places .now)
+
+six : (s : tie.Start) → length (s .args .rows) ≡ 6
+six s = search needs
 
 -- where 512 bytes are lent for a block: the start, and the step that the call then is
 abbrev start : tie.Else1 → tie.Start
@@ -167,15 +170,14 @@ returns-4 c = λ m.
     let at = place r .place-start .result in
     let placed = place r .place-start .ensures in
     let block = lent-slice at (at + 512) (a .places .now) (omega (arith, room e)) in
-    let six : length (a .rows) ≡ 6 = search needs in
     let is = rw block at (w .end-writeset .ensures .0) in
     rw (d .pass-writeset .ensures .0) (
       same-gives workReply (work-writeset (before s m) (r .refusal .result) (said r m) (e .if2 .left) at placed (o .if3 .left) ∙ stepped (lent r) m) (a .block .now)
-          (writeset-committed m (a .turn) (a .counts) (a .rows) (a .queue .now) (a .items .now) (a .values .now) (a .stamps .now) (a .places .now) six at placed (room e)
+          (writeset-committed m (a .group) (a .turn) (a .counts) (a .rows) (a .queue .now) (a .items .now) (a .values .now) (a .stamps .now) (a .places .now) (six s) at placed (room e)
           (w .end-writeset .result) is
-          (w .end-writeset .last .1 .1 .1 .0) (w .end-writeset .last .1 .1 .1 .1 .1 .0) (w .end-writeset .last .1 .1 .1 .1 .1 .1 .0)
+          (w .end-writeset .last .1 .1 .1 .1 .0) (w .end-writeset .last .1 .1 .1 .1 .1 .1 .0) (w .end-writeset .last .1 .1 .1 .1 .1 .1 .1 .0)
           (rw block at (w .end-writeset .ensures .1)) (rw block at (w .end-writeset .ensures .2)) (rw block at (w .end-writeset .ensures .3))
-          (d .pass-writeset .last .1 .0) (d .pass-writeset .ensures .1) (a .block .now) _ (d .pass-writeset .ensures .2)),
+          (d .pass-writeset .last .1 .1 .0) (d .pass-writeset .ensures .1) (a .block .now) _ (d .pass-writeset .ensures .2)),
       marks-writeset (before s m) (r .refusal .result) (said r m) (e .if2 .left) at placed (a .block .now) (lent r .if1 .left) (o .if3 .left) (w .end-writeset .result) is,
     )
 

@@ -23,7 +23,7 @@ use Rattle.call_write.proofs.write.Tie as tie
 abbrev before : tie.Start → Memory → Memory
 before s m =
     let a = s .args in
-    writeParts m (a .turn) (a .counts) (set (a .rows) (a .at) (a .t)) (a .items .now) (a .writes .now) (a .stamps .now) (a .classes .now) (a .places .now)
+    writeParts m (a .group) (a .turn) (a .counts) (set (a .rows) (a .at) (a .t)) (a .items .now) (a .writes .now) (a .stamps .now) (a .classes .now) (a .places .now)
 
 -- the record is in its row, where there is such a row
 in-row : (s : tie.Start) → let a = s .args in a .at < 6 → a .t ≡ rowAt (set (a .rows) (a .at) (a .t)) (a .at)
@@ -76,7 +76,7 @@ returns-2 c =
           let p = before (start e) m in
           let q = passed e m (w .before .if1 .left) in
           rw (c .changed2 .ensures)
-          (gives number (sym (write-waits p (a .at) (a .item) (a .value) (q .0) (q .1) (q .2) (q .3) (sym (w .must-wait .ensures p refl refl refl refl) ∙ c .before .if2 .taken)))),
+          (gives number (sym (write-waits p (a .at) (a .item) (a .value) (q .0) (q .1) (q .2) (q .3) (sym (w .must-wait .ensures p refl refl refl refl refl) ∙ c .before .if2 .taken)))),
       λ past. rw (c .changed2 .ensures) refl,
     )
 
@@ -91,7 +91,7 @@ write-at-requires c κs =
     let e = w .before .before in
     let a = start e .args in
     let q = e .early-refusal .ensures .1 (w .before .if1 .left) in
-    let f = fits-long (length (a .items .now)) (length (a .writes .now)) (length (a .stamps .now)) (length (a .classes .now)) (length (a .places .now)) (512 * a .counts .replicas) (sym (e .before .lengths-fit .ensures) ∙ q .0) in
+    let f = fits-long (length (a .items .now)) (length (a .writes .now)) (length (a .stamps .now)) (length (a .classes .now)) (length (a .places .now)) (512 * a .group .replicas) (sym (e .before .lengths-fit .ensures) ∙ q .0) in
     (f .0, f .1, f .2, q .1, q .2)
 
 same-length : tie.Need-same-length
@@ -111,7 +111,7 @@ returns-3 c =
       λ m.
           let p = before s m in
           let q = passed e m zero in
-          rw (write-active p (a .at) (a .item) (a .value) (q .0) (q .1) (q .2) (q .3) (sym (w .must-wait .ensures p refl refl refl refl) ∙ d .before .before .before .if2 .left))
+          rw (write-active p (a .at) (a .item) (a .value) (q .0) (q .1) (q .2) (q .3) (sym (w .must-wait .ensures p refl refl refl refl refl) ∙ d .before .before .before .if2 .left))
           (rw (toZ-ofZ (s .fits .value), set-set (a .rows) (a .at) (a .t) (d .write-at .result .row)) at (d .write-at .ensures p (set (a .rows) (a .at) (a .t)) (in-row s (q .1)) (ap isHeld (holder-but (a .items .now) (a .at) (a .item) 0 (a .rows) (a .at) (a .t) (omega arith))))),
       λ past. absurd (omega (arith, e .early-refusal .ensures .1 zero)),
     )

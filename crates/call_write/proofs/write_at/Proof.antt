@@ -6,7 +6,7 @@ use Rattle.call_write.specs.Parts.{inserted}
 use lib.ListN.{set}
 use Rattle.call_reply.specs.Replies.{number}
 use Rattle.call_reply.proofs.ReplyLaws.{gives}
-use Rattle.call_client.proofs.RowLaws.{same-row}
+use Rattle.memory.proofs.RowLaws.{same-row}
 use Rattle.call_write.proofs.WriteLaws.{write-mine, write-held, write-stale, write-full, write-new}
 use borrow.Author.Needs.{needs}
 use Rattle.call_write.proofs.write_at.Statement.{statement}

@@ -232,8 +232,8 @@ module _ {M : Type 1} (𝓤 : URA M) (H : Heap 𝓤) (A : Atoms 𝓤) (W : Given
         (λ ν δ i j. (and-then ! (load ! (from ! (stop !)) (look ! 14 refl)) (and-then ! (load ! (from ! (stop !)) (look ! 46 refl)) (no-more !)))) (λ w₁ e₁. land ! (from ! (stop !)) (init ! 18 refl (unit-typed w₁ e₁)) $
         assigns ! (addr ! (from ! (hop ! (look ! 52 refl) (stop !)))) (from ! (stop !)) (init ! 12 refl (tt, tt)) $
         move ! (4 ∷ 5 ∷ []) $
-        calls-lending ! fm (ref-lent N.R b₁ o₁ κ₁ q₁ γ₁ c W (withReadOnly c (r .counts .«read_only»))) (StoreOne 𝓤 H A mem run N.counts N.read-only) known-read-only (to-store-one 𝓤 H A W mem run N.counts N.read-only b₁ o₁ c (r .counts .«read_only») (LL.owed Q.the-type Q′.the-laws (r .counts) _ (fields .1 .0) .1 .1 .1 .1 .1 .1 .0 .1)) (asks-store-one 𝓤 H A W mem run N.counts N.read-only b₁ o₁ c (r .counts .«read_only») (LL.owed Q.the-type Q′.the-laws (r .counts) _ (fields .1 .0) .1 .1 .1 .1 .1 .1 .0 .1)) (λ u. u ≡ vunit) (gives-store-one 𝓤 H A W mem run N.counts N.read-only b₁ o₁ c (r .counts .«read_only») (LL.owed Q.the-type Q′.the-laws (r .counts) _ (fields .1 .0) .1 .1 .1 .1 .1 .1 .0 .1))
-        (λ ν δ i j. (and-then ! (load ! (from ! (stop !)) (look ! 12 refl)) (and-then ! (load ! (from ! (fld ! refl (fld ! refl (stop !)))) (look-in ! 40 (sub ! 6 refl (sub ! 1 refl (whole !))))) (no-more !)))) (λ w₂ e₂. land ! (from ! (stop !)) (store ! 18 refl (unit-typed w₂ e₂)) $
+        calls-lending ! fm (ref-lent N.R b₁ o₁ κ₁ q₁ γ₁ c W (withReadOnly c (r .counts .«read_only»))) (StoreOne 𝓤 H A mem run N.counts N.read-only) known-read-only (to-store-one 𝓤 H A W mem run N.counts N.read-only b₁ o₁ c (r .counts .«read_only») (LL.owed Q.the-type Q′.the-laws (r .counts) _ (fields .1 .0) .1 .1 .1 .1 .0 .1)) (asks-store-one 𝓤 H A W mem run N.counts N.read-only b₁ o₁ c (r .counts .«read_only») (LL.owed Q.the-type Q′.the-laws (r .counts) _ (fields .1 .0) .1 .1 .1 .1 .0 .1)) (λ u. u ≡ vunit) (gives-store-one 𝓤 H A W mem run N.counts N.read-only b₁ o₁ c (r .counts .«read_only») (LL.owed Q.the-type Q′.the-laws (r .counts) _ (fields .1 .0) .1 .1 .1 .1 .0 .1))
+        (λ ν δ i j. (and-then ! (load ! (from ! (stop !)) (look ! 12 refl)) (and-then ! (load ! (from ! (fld ! refl (fld ! refl (stop !)))) (look-in ! 40 (sub ! 4 refl (sub ! 1 refl (whole !))))) (no-more !)))) (λ w₂ e₂. land ! (from ! (stop !)) (store ! 18 refl (unit-typed w₂ e₂)) $
         assigns ! (of-opd ! (load ! (from ! (stop !)) (look ! 38 refl))) (from ! (stop !)) (init ! 56 refl (LL.lawful Y.the-type Y′.the-laws 𝓤 H A W .typed (r .reply) _ is₆ .0)) $
         returns-within ! Post refl (look ! 56 refl) $
         frees-all ! (_ ∷ _ ∷ _ ∷ _ ∷ _ ∷ _ ∷ []) (room _ _ ∷ room _ _ ∷ room _ _ ∷ cell _ _ _ ∷ cell _ _ _ ∷ cell _ _ _ ∷ cell _ _ _ ∷ cell _ _ _ ∷ cell _ _ _ ∷ cell _ _ _ ∷ cell _ _ _ ∷ cell _ _ _ ∷ cell _ _ _ ∷ cell _ _ _ ∷ cell _ _ _ ∷ cell _ _ _ ∷ cell _ _ _ ∷ cell _ _ _ ∷ cell _ _ _ ∷ cell _ _ _ ∷ cell _ _ _ ∷ cell _ _ _ ∷ cell _ _ _ ∷ cell _ _ _ ∷ cell _ _ _ ∷ cell _ _ _ ∷ []) $ free0 ! $

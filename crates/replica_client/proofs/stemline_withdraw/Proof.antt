@@ -198,8 +198,8 @@ module _ {M : Type 1} (𝓤 : URA M) (H : Heap 𝓤) (A : Atoms 𝓤) (W : Given
         (λ ν δ i j. (and-then ! (load ! (from ! (stop !)) (look ! 8 refl)) (and-then ! (load ! (from ! (stop !)) (look ! 34 refl)) (no-more !)))) (λ w₁ e₁. land ! (from ! (stop !)) (init ! 12 refl (unit-typed w₁ e₁)) $
         assigns ! (addr ! (from ! (hop ! (look ! 38 refl) (stop !)))) (from ! (stop !)) (init ! 6 refl (tt, tt)) $
         move ! (4 ∷ 5 ∷ []) $
-        calls-lending ! fm (ref-lent N.R b₁ o₁ κ₁ q₁ γ₁ c W (withWithdrawn c (r .counts .withdrawn))) (StoreOne 𝓤 H A mem run N.counts N.withdrawn) known-withdrawn (to-store-one 𝓤 H A W mem run N.counts N.withdrawn b₁ o₁ c (r .counts .withdrawn) (LL.owed Q.the-type Q′.the-laws (r .counts) _ (fields .1 .0) .1 .1 .1 .1 .1 .1 .1 .1 .0 .1)) (asks-store-one 𝓤 H A W mem run N.counts N.withdrawn b₁ o₁ c (r .counts .withdrawn) (LL.owed Q.the-type Q′.the-laws (r .counts) _ (fields .1 .0) .1 .1 .1 .1 .1 .1 .1 .1 .0 .1)) (λ u. u ≡ vunit) (gives-store-one 𝓤 H A W mem run N.counts N.withdrawn b₁ o₁ c (r .counts .withdrawn) (LL.owed Q.the-type Q′.the-laws (r .counts) _ (fields .1 .0) .1 .1 .1 .1 .1 .1 .1 .1 .0 .1))
-        (λ ν δ i j. (and-then ! (load ! (from ! (stop !)) (look ! 6 refl)) (and-then ! (load ! (from ! (fld ! refl (fld ! refl (stop !)))) (look-in ! 28 (sub ! 8 refl (sub ! 1 refl (whole !))))) (no-more !)))) (λ w₂ e₂. land ! (from ! (stop !)) (store ! 12 refl (unit-typed w₂ e₂)) $
+        calls-lending ! fm (ref-lent N.R b₁ o₁ κ₁ q₁ γ₁ c W (withWithdrawn c (r .counts .withdrawn))) (StoreOne 𝓤 H A mem run N.counts N.withdrawn) known-withdrawn (to-store-one 𝓤 H A W mem run N.counts N.withdrawn b₁ o₁ c (r .counts .withdrawn) (LL.owed Q.the-type Q′.the-laws (r .counts) _ (fields .1 .0) .1 .1 .1 .1 .1 .1 .0 .1)) (asks-store-one 𝓤 H A W mem run N.counts N.withdrawn b₁ o₁ c (r .counts .withdrawn) (LL.owed Q.the-type Q′.the-laws (r .counts) _ (fields .1 .0) .1 .1 .1 .1 .1 .1 .0 .1)) (λ u. u ≡ vunit) (gives-store-one 𝓤 H A W mem run N.counts N.withdrawn b₁ o₁ c (r .counts .withdrawn) (LL.owed Q.the-type Q′.the-laws (r .counts) _ (fields .1 .0) .1 .1 .1 .1 .1 .1 .0 .1))
+        (λ ν δ i j. (and-then ! (load ! (from ! (stop !)) (look ! 6 refl)) (and-then ! (load ! (from ! (fld ! refl (fld ! refl (stop !)))) (look-in ! 28 (sub ! 6 refl (sub ! 1 refl (whole !))))) (no-more !)))) (λ w₂ e₂. land ! (from ! (stop !)) (store ! 12 refl (unit-typed w₂ e₂)) $
         assigns ! (of-opd ! (lit ! tt)) (from ! (stop !)) (init ! 42 refl (tt, record { fits = omega arith })) $
         returns ! (look ! 42 refl) $
         frees-all ! (_ ∷ _ ∷ _ ∷ _ ∷ _ ∷ _ ∷ []) (cell _ _ _ ∷ cell _ _ _ ∷ cell _ _ _ ∷ cell _ _ _ ∷ cell _ _ _ ∷ cell _ _ _ ∷ cell _ _ _ ∷ cell _ _ _ ∷ cell _ _ _ ∷ cell _ _ _ ∷ cell _ _ _ ∷ cell _ _ _ ∷ cell _ _ _ ∷ cell _ _ _ ∷ cell _ _ _ ∷ cell _ _ _ ∷ cell _ _ _ ∷ cell _ _ _ ∷ cell _ _ _ ∷ []) $ free0 ! $

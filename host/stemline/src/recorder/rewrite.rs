@@ -49,7 +49,7 @@ impl<C: Write, A: Write> Recorder<C, A> {
         let read = blocks.iter().enumerate();
         let read = read.map(|(at, bytes)| Block::read(bytes).map_err(|_| none(at)));
         let blocks: Vec<Block> = read.collect::<Result<_, _>>()?;
-        let own = self.replica.memory().counts.own;
+        let own = self.replica.memory().group.own;
         let sent = blocks.iter().filter(|block| block.sender() == own);
         let tickets: BTreeSet<u32> = sent.flat_map(Block::records).map(|r| r.ticket).collect();
         let highest = tickets.last().map_or(0, |&ticket| ticket as usize);

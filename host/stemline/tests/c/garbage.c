@@ -32,7 +32,7 @@ static void fill(void *at, size_t length) {
     }
 }
 
-/* Any bytes; then, most often, rows, turn and counts among which a call finds something to do. */
+/* Any bytes; then, most often, rows, group, turn and counts among which a call finds something to do. */
 static void alter(stemline_replica *r) {
     fill(r, sizeof *r);
     for (int at = 0; at < STEMLINE_TABLE; at++) {
@@ -42,8 +42,8 @@ static void alter(stemline_replica *r) {
     r->turn.slot = any() % 2 ? 0 : number();
     r->turn.sent = (uint8_t)(any() % 2 * any());
     r->turn.applying = (uint8_t)(any() % 2 * any());
-    r->counts.replicas = (uint8_t)(any() % 2 ? 2 : number());
-    r->counts.own = (uint8_t)(any() % 4 ? any() % 4 : STEMLINE_NO_NUMBER);
+    r->group.replicas = (uint8_t)(any() % 2 ? 2 : number());
+    r->group.own = (uint8_t)(any() % 4 ? any() % 4 : STEMLINE_NO_NUMBER);
     r->counts.tickets = number();
 }
 
@@ -71,8 +71,8 @@ static uint8_t make_station(stemline_replica *r) {
     memcpy(&station, r, sizeof station);
     hold(stemline_replica_make(&replica, n, any() % n, start) == 0, "make: refused");
     hold(stemline_replica_make_station(&station, n, start) == 0, "make_station: refused");
-    hold(station.counts.own == STEMLINE_NO_NUMBER, "make_station: a number");
-    replica.counts.own = STEMLINE_NO_NUMBER;
+    hold(station.group.own == STEMLINE_NO_NUMBER, "make_station: a number");
+    replica.group.own = STEMLINE_NO_NUMBER;
     hold(same(&replica, &station), "make_station: not what a make leaves");
     return stemline_replica_make_station(r, number(), start);
 }
@@ -119,7 +119,7 @@ static uint8_t deliver(stemline_replica *r) {
     size_t length = STEMLINE_BLOCK - (any() % 8 == 0) + (any() % 8 == 0);
     hold_take(r, bytes, length);
     uint8_t said = stemline_replica_deliver(r, bytes, length);
-    hold(said == 1 || (r->counts.replicas <= 6 && length == STEMLINE_BLOCK), "deliver: not 1");
+    hold(said == 1 || (r->group.replicas <= 6 && length == STEMLINE_BLOCK), "deliver: not 1");
     return said;
 }
 
@@ -127,7 +127,7 @@ static uint8_t work(stemline_replica *r) {
     uint8_t block[STEMLINE_BLOCK];
     fill(block, sizeof block);
     uint8_t said = hold_work(stemline_replica_work, r, block).number;
-    hold(said == 1 || r->counts.replicas <= 6, "work: not 1");
+    hold(said == 1 || r->group.replicas <= 6, "work: not 1");
     return said;
 }
 
@@ -178,7 +178,7 @@ int main(void) {
             memcpy(&before, &r, sizeof r);
             uint8_t said = play(&r, name);
             given[name][said]++;
-            bool station = before.counts.own == STEMLINE_NO_NUMBER;
+            bool station = before.group.own == STEMLINE_NO_NUMBER;
             hold((said == STEMLINE_STATION_ONLY_READS) == (station && (name == WRITE || name == SEND)), "not 25");
             hold(said != STEMLINE_NOT_SENT || !station, "19 at a station");
             hold(said == 0 || said == STEMLINE_STALE || same(&r, &before), names[name]);

@@ -22,6 +22,7 @@ typedef struct parts {
     stemline_txn table[STEMLINE_TABLE + 1];
     stemline_counts counts;
     stemline_turn turn;
+    stemline_group group;
     /* of any length, and read only: it stays where it is */
     const uint8_t *journal;
     size_t journal_length;
@@ -45,7 +46,7 @@ static struct {
 
 static uint8_t call_make(void) {
     return stemline_make(
-        p.table, length[TABLE], &p.turn, &p.counts, p.n, p.own, p.start, length[START],
+        p.table, length[TABLE], &p.group, &p.turn, &p.counts, p.n, p.own, p.start, length[START],
         p.queue, length[QUEUE], p.items, length[ITEMS], p.writes, length[WRITES],
         p.snapshots, length[SNAPSHOTS], p.values, length[VALUES], p.stamps, length[STAMPS],
         p.classes, length[CLASSES], p.places, length[PLACES], p.outbox, length[OUTBOX]);
@@ -53,7 +54,7 @@ static uint8_t call_make(void) {
 
 static uint8_t call_make_station(void) {
     return stemline_make_station(
-        p.table, length[TABLE], &p.turn, &p.counts, p.n, p.start, length[START],
+        p.table, length[TABLE], &p.group, &p.turn, &p.counts, p.n, p.start, length[START],
         p.queue, length[QUEUE], p.items, length[ITEMS], p.writes, length[WRITES],
         p.snapshots, length[SNAPSHOTS], p.values, length[VALUES], p.stamps, length[STAMPS],
         p.classes, length[CLASSES], p.places, length[PLACES], p.outbox, length[OUTBOX]);
@@ -61,7 +62,7 @@ static uint8_t call_make_station(void) {
 
 static uint8_t call_restart(void) {
     said.restart = stemline_restart(
-        p.table, length[TABLE], &p.turn, &p.counts, p.n, p.own, p.start, length[START],
+        p.table, length[TABLE], &p.group, &p.turn, &p.counts, p.n, p.own, p.start, length[START],
         p.queue, length[QUEUE], p.items, length[ITEMS], p.writes, length[WRITES],
         p.snapshots, length[SNAPSHOTS], p.values, length[VALUES], p.stamps, length[STAMPS],
         p.classes, length[CLASSES], p.places, length[PLACES], p.outbox, length[OUTBOX], p.journal, p.journal_length,
@@ -84,7 +85,7 @@ static uint8_t call_read(void) {
 
 static uint8_t call_write(void) {
     return stemline_write(
-        p.table, length[TABLE], &p.turn, &p.counts, p.ticket, p.items, length[ITEMS],
+        p.table, length[TABLE], &p.group, &p.turn, &p.counts, p.ticket, p.items, length[ITEMS],
         p.writes, length[WRITES], p.stamps, length[STAMPS], p.classes, length[CLASSES],
         p.places, length[PLACES], p.item, p.value);
 }
@@ -105,18 +106,18 @@ static uint8_t call_report(void) {
 
 static uint8_t call_send(void) {
     return stemline_send(
-        p.table, length[TABLE], &p.turn, &p.counts, p.queue, length[QUEUE], p.items, length[ITEMS],
+        p.table, length[TABLE], &p.group, &p.turn, p.queue, length[QUEUE], p.items, length[ITEMS],
         p.writes, length[WRITES], p.outbox, length[OUTBOX], p.block, length[BLOCK]);
 }
 
 static uint8_t call_deliver(void) {
     return stemline_deliver(
-        &p.turn, &p.counts, p.places, length[PLACES], p.outbox, length[OUTBOX], p.bytes, length[BYTES]);
+        &p.group, &p.turn, p.places, length[PLACES], p.outbox, length[OUTBOX], p.bytes, length[BYTES]);
 }
 
 static uint8_t call_work(void) {
     said.work = stemline_work(
-        p.table, length[TABLE], &p.turn, &p.counts, p.queue, length[QUEUE], p.items, length[ITEMS],
+        p.table, length[TABLE], &p.group, &p.turn, &p.counts, p.queue, length[QUEUE], p.items, length[ITEMS],
         p.values, length[VALUES], p.stamps, length[STAMPS], p.places, length[PLACES],
         p.block, length[BLOCK]);
     return said.work.number;
@@ -131,7 +132,7 @@ static uint8_t call_load(void) {
 static int same_parts(const parts *a, const parts *b) {
     return SAME(outbox) && SAME(bytes) && SAME(block) && SAME(places) && SAME(items) && SAME(stamps)
         && SAME(queue) && SAME(values) && SAME(start) && SAME(snapshots) && SAME(writes) && SAME(table)
-        && SAME(classes) && SAME(given) && same_counts(&a->counts, &b->counts) && SAME(turn.slot) && SAME(turn.sent)
+        && SAME(classes) && SAME(given) && SAME(group) && same_counts(&a->counts, &b->counts) && SAME(turn.slot) && SAME(turn.sent)
         && SAME(turn.applying);
 }
 
@@ -160,6 +161,7 @@ static void lend(const stemline_replica *r, uint32_t n) {
     COPY(&p, r, table), COPY(&p, r, queue), COPY(&p, r, items), COPY(&p, r, writes);
     COPY(&p, r, snapshots), COPY(&p, r, values), COPY(&p, r, stamps), COPY(&p, r, places);
     COPY(&p, r, outbox), COPY(&p, r, classes);
+    p.group = r->group;
     p.turn = r->turn;
     p.counts = r->counts;
 }
@@ -168,6 +170,7 @@ static void give_back(stemline_replica *r) {
     COPY(r, &p, table), COPY(r, &p, queue), COPY(r, &p, items), COPY(r, &p, writes);
     COPY(r, &p, snapshots), COPY(r, &p, values), COPY(r, &p, stamps), COPY(r, &p, places);
     COPY(r, &p, outbox), COPY(r, &p, classes);
+    r->group = p.group;
     r->turn = p.turn;
     r->counts = p.counts;
 }
@@ -175,7 +178,7 @@ static void give_back(stemline_replica *r) {
 /* The call with each of the arrays that it is lent at a wrong length, then the call itself. */
 static uint8_t called(const char *name, uint8_t (*call)(void), const enum part *lent, size_t count) {
     static parts before;
-    bool only_reads = p.counts.own == STEMLINE_NO_NUMBER && (call == call_write || call == call_send);
+    bool only_reads = p.group.own == STEMLINE_NO_NUMBER && (call == call_write || call == call_send);
     uint8_t wrong = only_reads ? STEMLINE_STATION_ONLY_READS : STEMLINE_WRONG_LENGTH;
     memcpy(&before, &p, sizeof p);
     for (size_t i = 0; i < 2 * count; i++) {
@@ -234,14 +237,14 @@ static stemline_restart_reply lent_restart(
 }
 
 static stemline_begin_reply lent_begin(stemline_replica *r) {
-    lend(r, r->counts.replicas);
+    lend(r, r->group.replicas);
     CALLED(begin, TABLE, VALUES, SNAPSHOTS);
     give_back(r);
     return said.begin;
 }
 
 static stemline_read_reply lent_read(const stemline_replica *r, uint32_t ticket, uint32_t item) {
-    lend(r, r->counts.replicas);
+    lend(r, r->group.replicas);
     p.ticket = ticket;
     p.item = item;
     CALLED(read, TABLE, ITEMS, WRITES, SNAPSHOTS);
@@ -249,7 +252,7 @@ static stemline_read_reply lent_read(const stemline_replica *r, uint32_t ticket,
 }
 
 static uint8_t lent_write(stemline_replica *r, uint32_t ticket, uint32_t item, int32_t value) {
-    lend(r, r->counts.replicas);
+    lend(r, r->group.replicas);
     p.ticket = ticket;
     p.item = item;
     p.value = value;
@@ -259,7 +262,7 @@ static uint8_t lent_write(stemline_replica *r, uint32_t ticket, uint32_t item, i
 }
 
 static stemline_ask_reply lent_ask(stemline_replica *r, uint32_t ticket) {
-    lend(r, r->counts.replicas);
+    lend(r, r->group.replicas);
     p.ticket = ticket;
     CALLED(ask, TABLE, QUEUE);
     give_back(r);
@@ -267,7 +270,7 @@ static stemline_ask_reply lent_ask(stemline_replica *r, uint32_t ticket) {
 }
 
 static uint8_t lent_withdraw(stemline_replica *r, uint32_t ticket) {
-    lend(r, r->counts.replicas);
+    lend(r, r->group.replicas);
     p.ticket = ticket;
     uint8_t number = CALLED(withdraw, TABLE);
     give_back(r);
@@ -275,13 +278,13 @@ static uint8_t lent_withdraw(stemline_replica *r, uint32_t ticket) {
 }
 
 static stemline_report_reply lent_report(const stemline_replica *r) {
-    lend(r, r->counts.replicas);
+    lend(r, r->group.replicas);
     CALLED(report, TABLE);
     return said.report;
 }
 
 static uint8_t lent_send(stemline_replica *r, uint8_t *block) {
-    lend(r, r->counts.replicas);
+    lend(r, r->group.replicas);
     uint8_t number = CALLED(send, TABLE, QUEUE, ITEMS, WRITES, OUTBOX, BLOCK);
     give_back(r);
     memcpy(block, p.block, STEMLINE_BLOCK);
@@ -289,7 +292,7 @@ static uint8_t lent_send(stemline_replica *r, uint8_t *block) {
 }
 
 static uint8_t lent_deliver(stemline_replica *r, const uint8_t *bytes, size_t count) {
-    lend(r, r->counts.replicas);
+    lend(r, r->group.replicas);
     memcpy(p.bytes, bytes, count);
     length[BYTES] = count;
     /* bytes of another length are wrong by themselves, and might be right by one more or less */
@@ -300,7 +303,7 @@ static uint8_t lent_deliver(stemline_replica *r, const uint8_t *bytes, size_t co
 }
 
 static stemline_work_reply lent_work(stemline_replica *r, uint8_t *block) {
-    lend(r, r->counts.replicas);
+    lend(r, r->group.replicas);
     memcpy(p.block, block, STEMLINE_BLOCK);
     CALLED(work, TABLE, QUEUE, ITEMS, VALUES, STAMPS, PLACES, BLOCK);
     give_back(r);
@@ -309,7 +312,7 @@ static stemline_work_reply lent_work(stemline_replica *r, uint8_t *block) {
 }
 
 static uint8_t lent_load(stemline_replica *r, const uint8_t *classes, size_t count) {
-    lend(r, r->counts.replicas);
+    lend(r, r->group.replicas);
     memcpy(p.given, classes, count);
     length[GIVEN] = count;
     /* as the bytes of a deliver */

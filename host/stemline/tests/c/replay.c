@@ -95,7 +95,7 @@ static uint8_t make_station(stemline_replica *r, journal *j, char letter, const 
 /* restart: from the journal, with the same numbers or others, or from the line's bytes */
 static uint8_t restart(stemline_replica *r, journal *j, char letter, const char *rest) {
     static uint8_t bytes[2100];
-    uint32_t n = r->counts.replicas, own = r->counts.own, cut = 0;
+    uint32_t n = r->group.replicas, own = r->group.own, cut = 0;
     int32_t value = 0, start[STEMLINE_ITEMS];
     uint8_t block[STEMLINE_BLOCK];
     size_t length;
@@ -195,7 +195,7 @@ static uint8_t work(stemline_replica *r, journal *j) {
     memset(block, 0xa5, sizeof block);
     stemline_work_reply w = hold_work(stemline_replica_work, r, block);
     /* a station has no journal */
-    if (w.append && r->counts.own != STEMLINE_NO_NUMBER) {
+    if (w.append && r->group.own != STEMLINE_NO_NUMBER) {
         append(j, block);
     }
     printf("%d", w.number);

@@ -11,12 +11,12 @@
 #define SAME(part) (memcmp(&a->part, &b->part, sizeof a->part) == 0)
 
 static inline int same_counts(const stemline_counts *a, const stemline_counts *b) {
-    return SAME(replicas) && SAME(own) && SAME(commits) && SAME(done) && SAME(tickets)
+    return SAME(commits) && SAME(done) && SAME(tickets)
         && SAME(committed) && SAME(read_only) && SAME(aborted) && SAME(withdrawn);
 }
 
 static inline int same(const stemline_replica *a, const stemline_replica *b) {
-    return SAME(table) && SAME(turn.slot) && SAME(turn.sent) && SAME(turn.applying)
+    return SAME(table) && SAME(group) && SAME(turn.slot) && SAME(turn.sent) && SAME(turn.applying)
         && same_counts(&a->counts, &b->counts) && SAME(queue) && SAME(items) && SAME(writes)
         && SAME(snapshots) && SAME(values) && SAME(stamps) && SAME(classes) && SAME(places)
         && SAME(outbox);
@@ -68,7 +68,7 @@ typedef stemline_work_reply work_call(stemline_replica *r, uint8_t block[STEMLIN
 static inline stemline_work_reply hold_work(
     work_call *call, stemline_replica *r, uint8_t block[STEMLINE_BLOCK]) {
     static uint8_t before[STEMLINE_BLOCK], left[STEMLINE_BLOCK];
-    size_t n = r->counts.replicas;
+    size_t n = r->group.replicas;
     memcpy(before, block, sizeof before);
     if (n >= 1 && n <= STEMLINE_REPLICAS) {
         memcpy(left, r->places + STEMLINE_PLACES(r->turn.slot % n), sizeof left);

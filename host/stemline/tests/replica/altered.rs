@@ -104,7 +104,7 @@ fn reached(random: &mut Random, seed: u64) -> Lent {
 
 /// Alters one part.
 fn alter(random: &mut Random, memory: &mut Lent) {
-    let replicas = memory.counts.replicas;
+    let replicas = memory.group.replicas;
     let counts = &mut memory.counts;
     match random.below(19) {
         0 => memory.table[random.below(6)] = row(random),
@@ -118,7 +118,7 @@ fn alter(random: &mut Random, memory: &mut Lent) {
         8 => fill_numbers(random, &mut memory.queue),
         9 => fill_numbers(random, &mut memory.stamps),
         10 => counts.done = byte(random),
-        11 => counts.own = byte(random),
+        11 => memory.group.own = byte(random),
         12 => {
             counts.commits = number(random);
             counts.tickets = number(random);
@@ -129,8 +129,8 @@ fn alter(random: &mut Random, memory: &mut Lent) {
         }
         13 => {
             // Most often with places of the right length, so that the calls get past 1.
-            counts.replicas = byte(random);
-            let length = BLOCK * usize::from(counts.replicas);
+            memory.group.replicas = byte(random);
+            let length = BLOCK * usize::from(memory.group.replicas);
             if random.below(8) > 0 {
                 memory.places.resize(length, random.byte());
             }
@@ -143,7 +143,7 @@ fn alter(random: &mut Random, memory: &mut Lent) {
         }
         15 => memory.outbox = place(random, replicas).to_vec(),
         16 => memory.classes.fill_with(|| byte(random)),
-        17 => counts.own = NO_NUMBER,
+        17 => memory.group.own = NO_NUMBER,
         _ => memory.classes[random.below(ITEMS)] = byte(random),
     }
 }
@@ -160,7 +160,7 @@ fn give(random: &mut Random, memory: &mut Lent) {
     memory.bytes = match random.below(4) {
         0 => memory.outbox.clone(),
         1 => samples::block_of(2, any % 1_000, &[]).to_vec(),
-        _ => place(random, memory.counts.replicas).to_vec(),
+        _ => place(random, memory.group.replicas).to_vec(),
     };
     memory.given = samples::classes(random);
     memory.journal = match random.below(3) {
@@ -217,7 +217,7 @@ fn every_call_returns() {
                 assert!(answer.0 == 9 || memory == before, "{place}: {answer:?}");
             }
             // Whatever else it holds, a memory without a number is a station's, and no other is.
-            let is_station = before.counts.own == NO_NUMBER;
+            let is_station = before.group.own == NO_NUMBER;
             let only_reads = is_station && ["write", "send"].contains(&name);
             assert_eq!(answer.0 == 25, only_reads, "{place}: {answer:?}");
             assert!(answer.0 != 19 || !is_station, "{place}: 19");
@@ -243,7 +243,7 @@ fn every_call_returns() {
 
 /// A work that says so leaves the block of the turn in the lent one; any other leaves that as it was.
 fn same_append(before: &Lent, after: &Lent, answer: &str) {
-    let place = match before.counts.replicas {
+    let place = match before.group.replicas {
         0 => 0,
         n => before.turn.slot as usize % usize::from(n),
     };
@@ -276,7 +276,7 @@ fn same_take(memory: &Lent) {
     assert_eq!(taking.take(&memory.bytes), due);
     assert!(taking == calling, "take: another memory");
     let station = Station::from_memory(memory.memory());
-    assert_eq!(station.is_some(), memory.counts.own == NO_NUMBER);
+    assert_eq!(station.is_some(), memory.group.own == NO_NUMBER);
     if let Some(mut station) = station {
         let taken = station.take(&memory.bytes);
         let steps = taken.map(|taken| stations::said(&taken.steps));
@@ -321,7 +321,7 @@ fn single_alterations() {
     // With an N of 0 and no place every place is empty; of 200, every block is another group's.
     let places = |replicas: u8, places: usize| {
         altered(|memory| {
-            memory.counts.replicas = replicas;
+            memory.group.replicas = replicas;
             memory.places = vec![0; BLOCK * places].into_boxed_slice();
         })
     };
@@ -331,7 +331,7 @@ fn single_alterations() {
     assert_eq!(places(0, 0).work(), Err(Refusal::NothingWaits));
     // At slot 255 of no replicas the turn is that of own number 255, and is no station's.
     let mut station = altered(|memory| {
-        (memory.counts.own, memory.counts.replicas) = (NO_NUMBER, 0);
+        (memory.group.own, memory.group.replicas) = (NO_NUMBER, 0);
         memory.turn.slot = u32::from(NO_NUMBER);
     });
     assert_eq!(station.send(), Err(Refusal::StationOnlyReads));

@@ -363,7 +363,7 @@ fn no_turn_at_a_station() {
                 for (uint8_t n = 0; n <= 6; n++) {
                     stemline_replica_make_station(&r, 2, start);
                     r.turn.slot = slot;
-                    r.counts.replicas = n;
+                    r.group.replicas = n;
                     hold(!stemline_replica_is_turn(&r), "is_turn at a station");
                     hold(stemline_replica_send(&r, block) == STEMLINE_STATION_ONLY_READS, "send: not 25");
                 }

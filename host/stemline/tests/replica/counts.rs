@@ -1,13 +1,13 @@
-//! The counts and the marks of the turn with any bytes in them. Every call returns, and a refused one
+//! The group, the counts and the marks of the turn with any bytes in them. Every call returns, and a refused one
 //! changes nothing; what a call does not look at makes no difference, and a mark makes but one.
 
 use model::block::{BLOCK, MAX_TICKET};
-use stemline::ffi::Counts;
 
 use crate::lengths::{states, CALLS, FILLING};
 use crate::lent::{refused, Lent};
 
-/// The counts by name, with the calls that look at each. An accepted make or restart sets them all.
+/// The group's numbers and the counts by name, with the calls that look at each. An accepted make or restart
+/// sets them all.
 const COUNTS: [(&str, &str); 9] = [
     ("replicas", "write send deliver work"),
     ("own", "write send deliver work"),
@@ -20,11 +20,12 @@ const COUNTS: [(&str, &str); 9] = [
     ("withdrawn", "withdraw report"),
 ];
 
-/// Sets one byte of a count, from the least on; gives whether it has so many.
-fn set(counts: &mut Counts, name: &str, at: usize, byte: u8) -> bool {
+/// Sets one byte of such a number, from the least on; gives whether it has so many.
+fn set(memory: &mut Lent, name: &str, at: usize, byte: u8) -> bool {
+    let (group, counts) = (&mut memory.group, &mut memory.counts);
     let small = match name {
-        "replicas" => Some(&mut counts.replicas),
-        "own" => Some(&mut counts.own),
+        "replicas" => Some(&mut group.replicas),
+        "own" => Some(&mut group.own),
         "done" => Some(&mut counts.done),
         _ => None,
     };
@@ -58,9 +59,9 @@ fn call(name: &str, memory: &mut Lent) -> (u8, String) {
     answer
 }
 
-/// Each byte of each count at each of its numbers.
+/// Each byte of the group's numbers and of each count at each of its numbers.
 #[test]
-fn every_byte_of_the_counts() {
+fn every_byte_of_group_and_counts() {
     for (name, _) in CALLS {
         for (state, _) in states(name) {
             let mut plain = state.clone();
@@ -69,14 +70,14 @@ fn every_byte_of_the_counts() {
                 let looks = lookers.split(' ').any(|looker| looker == name);
                 for (at, byte) in (0..4).flat_map(|at| (0..=255).map(move |byte| (at, byte))) {
                     let mut memory = state.clone();
-                    if !set(&mut memory.counts, count, at, byte) {
+                    if !set(&mut memory, count, at, byte) {
                         continue;
                     }
                     let answer = call(name, &mut memory);
                     if !looks {
                         let mut due_memory = plain.clone();
                         if !FILLING.contains(&name) || due.0 != 0 {
-                            set(&mut due_memory.counts, count, at, byte);
+                            set(&mut due_memory, count, at, byte);
                         }
                         assert_eq!(answer, due, "{name}: {count}, byte {at}: {byte}");
                         assert!(memory == due_memory, "{name}: {count}, byte {at}: {byte}");
@@ -96,7 +97,7 @@ fn every_number_of_replicas() {
             for replicas in 0..=255 {
                 for own in [0, 1, 254, 255] {
                     let mut memory = state.clone();
-                    (memory.counts.replicas, memory.counts.own) = (replicas, own);
+                    (memory.group.replicas, memory.group.own) = (replicas, own);
                     memory.places.resize(BLOCK * usize::from(replicas), 2);
                     let answer = call(name, &mut memory);
                     numbers[usize::from(answer.0)] += 1;

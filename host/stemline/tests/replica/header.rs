@@ -5,7 +5,7 @@ use std::collections::BTreeMap;
 use std::mem::offset_of;
 
 use stemline::ffi::{
-    AskReply, BeginReply, BlockReply, Counts, Entry, Header, ReadReply, RecordHead, Report,
+    AskReply, BeginReply, BlockReply, Counts, Entry, Group, Header, ReadReply, RecordHead, Report,
     ReportReply, RestartReply, Turn, Txn, WorkReply,
 };
 use stemline::{Refusal, Replica, ITEMS, REPLICAS};
@@ -58,8 +58,9 @@ fn structs_have_one_layout() {
     let (mut due, mut lines) = (String::new(), String::new());
     layout!(due, lines, "stemline_txn", Txn, ticket stage snapshot writes);
     layout!(due, lines, "stemline_turn", Turn, slot sent applying);
+    layout!(due, lines, "stemline_group", Group, replicas own);
     layout!(due, lines, "stemline_counts", Counts,
-        replicas own commits done tickets committed read_only aborted withdrawn);
+        commits done tickets committed read_only aborted withdrawn);
     layout!(due, lines, "stemline_report_values", Report,
         turn commits tickets open_count committed read_only aborted withdrawn);
     layout!(due, lines, "stemline_begin_reply", BeginReply, number ticket);

@@ -224,7 +224,7 @@ fn check(name: &str, lent: &str, good: &Lent, number: u8, wrong: &[(&str, usize)
         let any = FILLING.contains(&name) && part == "places" && good.n == 7;
         lent.split(' ').any(|of_call| of_call == part) && !any
     };
-    let only_reads = good.counts.own == NO_NUMBER && ["write", "send"].contains(&name);
+    let only_reads = good.group.own == NO_NUMBER && ["write", "send"].contains(&name);
     if wrong.iter().any(|&(part, _)| seen(part)) {
         let due = if only_reads { 25 } else { 1 };
         assert_eq!(answer, refused(name, due), "{name}, {wrong:?}");

@@ -1,12 +1,13 @@
 //! The library's calls over parts of any length and content, which a replica of the crate does not have.
 
 use model::drive::start_values;
-use stemline::ffi::{self, Counts, Turn, Txn};
+use stemline::ffi::{self, Counts, Group, Turn, Txn};
 use stemline::{Memory, BLOCK, ITEMS};
 
 /// All that the calls are lent, and what else they are given.
 #[derive(Clone, Debug, PartialEq)]
 pub struct Lent {
+    pub group: Group,
     pub turn: Turn,
     pub counts: Counts,
     pub table: Vec<Txn>,
@@ -39,6 +40,7 @@ pub struct Lent {
 impl Lent {
     pub fn of(memory: &Memory) -> Lent {
         Lent {
+            group: memory.group,
             turn: memory.turn,
             counts: memory.counts,
             table: memory.table.to_vec(),
@@ -68,6 +70,7 @@ impl Lent {
     pub fn memory(&self) -> Memory {
         let wrong = "a part of another length";
         Memory {
+            group: self.group,
             turn: self.turn,
             counts: self.counts,
             table: self.table[..].try_into().expect(wrong),
@@ -95,6 +98,7 @@ impl Lent {
         let number = match name {
             "make" => ffi::make(
                 &mut l.table,
+                &mut l.group,
                 &mut l.turn,
                 &mut l.counts,
                 l.n,
@@ -112,6 +116,7 @@ impl Lent {
             ),
             "make_station" => ffi::make_station(
                 &mut l.table,
+                &mut l.group,
                 &mut l.turn,
                 &mut l.counts,
                 l.n,
@@ -129,6 +134,7 @@ impl Lent {
             "restart" => {
                 return said!(ffi::restart(
                     &mut l.table,
+                    &mut l.group,
                     &mut l.turn,
                     &mut l.counts,
                     l.n,
@@ -167,6 +173,7 @@ impl Lent {
             }
             "write" => ffi::write(
                 &mut l.table,
+                &l.group,
                 &l.turn,
                 &mut l.counts,
                 l.ticket,
@@ -190,18 +197,19 @@ impl Lent {
             "report" => return said!(ffi::report(&l.table, &l.turn, &l.counts)),
             "send" => ffi::send(
                 &mut l.table,
+                &l.group,
                 &mut l.turn,
-                &l.counts,
                 &mut l.queue,
                 &l.items,
                 &l.writes,
                 &mut l.outbox,
                 &mut l.block,
             ),
-            "deliver" => ffi::deliver(&l.turn, &l.counts, &mut l.places, &l.outbox, &l.bytes),
+            "deliver" => ffi::deliver(&l.group, &l.turn, &mut l.places, &l.outbox, &l.bytes),
             "work" => {
                 return said!(ffi::work(
                     &mut l.table,
+                    &l.group,
                     &mut l.turn,
                     &mut l.counts,
                     &mut l.queue,

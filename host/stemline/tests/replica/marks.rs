@@ -51,7 +51,7 @@ impl Subject for Marked {
                 sent: 0,
                 applying: 0,
             },
-            Ok(Answer::Work(work)) if work.sender != memory.counts.own => Turn {
+            Ok(Answer::Work(work)) if work.sender != memory.group.own => Turn {
                 applying: 1,
                 ..before
             },

@@ -79,7 +79,7 @@ fn ends_nobody(both: &mut Both) -> second::Work {
     let after = both.library.memory();
     assert_eq!(
         (work.sender, &work.aborted[..]),
-        (before.counts.own, &[][..])
+        (before.group.own, &[][..])
     );
     assert_eq!(after.table, before.table);
     assert_eq!(after.queue, before.queue);

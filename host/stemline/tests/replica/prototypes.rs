@@ -51,6 +51,7 @@ fn in_c(name: &str) -> String {
         "u32" => "uint32_t",
         "i32" => "int32_t",
         "Txn" => "stemline_txn",
+        "Group" => "stemline_group",
         "Turn" => "stemline_turn",
         "Counts" => "stemline_counts",
         "RestartReply" => "stemline_restart_reply",

@@ -81,7 +81,7 @@ fn made_like_a_replica() {
                 .memory()
                 .clone();
             assert_eq!(Station::from_memory(memory.clone()), None);
-            memory.counts.own = NO_NUMBER;
+            memory.group.own = NO_NUMBER;
             assert_eq!(Station::from_memory(memory).as_ref(), Some(&station));
         }
     }
@@ -144,7 +144,7 @@ fn offer(station: &mut Station, blocks: Vec<[u8; BLOCK]>) -> Vec<[u8; BLOCK]> {
     let far = |block: &[u8; BLOCK]| {
         let slot = block::header(block).slot;
         let turn = station.report().turn;
-        let n = u32::from(station.memory().counts.replicas);
+        let n = u32::from(station.memory().group.replicas);
         let taken = station.take(block).map(|_| ());
         assert_eq!(taken == Err(Refusal::FarSlot), slot >= turn + n);
         let past = taken == Err(Refusal::PastSlot) && slot < turn;

@@ -10,6 +10,9 @@ returns : tie.Need-returns
 unfolding ownerOf
 returns c = (refl, rw (c .if1 .taken) (sym (mod-zero _)))
 
+cast-t4 : tie.Need-cast-t4
+cast-t4 c = search needs
+
 rem-t5 : tie.Need-rem-t5
 rem-t5 c = search needs
 
@@ -18,4 +21,4 @@ unfolding ownerOf
 returns-2 c = (refl, refl)
 
 pub owner-spec : {M : Type 1} → statement M
-owner-spec = tie.close (tie.spec returns rem-t5 returns-2)
+owner-spec = tie.close (tie.spec returns cast-t4 rem-t5 returns-2)

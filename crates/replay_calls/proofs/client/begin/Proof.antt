@@ -1,13 +1,16 @@
 -- `client::begin` meets its contract.
-use mathlib.Core.Path.{ap}
+use mathlib.Core.Path.{_≡_, sym, ap}
 use borrow.Author.Needs.{needs}
 use lib.Dec.{eqb}
-use lib.ListN.{drop}
+use lib.ListN.{length, drop}
 use Rattle.replay_calls.specs.Effects.{memoryOf}
 use Rattle.replay_calls.specs.declared.Replica.{Replica}
 use Rattle.replay_calls.proofs.EffectLaws.{plays-numbers, begin-effect, one-few}
 use Rattle.replay_calls.proofs.client.begin.Statement.{statement}
 use Rattle.replay_calls.proofs.client.begin.Tie as tie
+
+values-long : (c : tie.Start) → length (c .args .replica .values) ≡ 128
+values-long c = search needs
 
 free-row-requires : tie.Need-free-row-requires
 free-row-requires c κs = search needs
@@ -16,7 +19,7 @@ row-at-requires : tie.Need-row-at-requires
 row-at-requires c κs = search needs
 
 slice-aggregate-begin : tie.Need-slice-aggregate-begin
-slice-aggregate-begin c = search needs
+slice-aggregate-begin c = sym (values-long (c .before .before .before .before .before .before .before))
 
 slice-aggregate-begin-2 : tie.Need-slice-aggregate-begin-2
 slice-aggregate-begin-2 c = search needs

@@ -1,7 +1,8 @@
 -- `client::read` meets its contract.
-use mathlib.Core.Path.{refl}
+use mathlib.Core.Path.{_≡_, refl, sym}
 use native.Mathlib.Omega.{arith}
 use borrow.Author.Needs.{needs}
+use lib.ListN.{length}
 use mir.Facts.{toZ-ofZ}
 use mir.Syntax.{w32}
 use mir.Val.{SFits}
@@ -9,6 +10,9 @@ use Rattle.replay_calls.specs.Effects.{memoryOf}
 use Rattle.replay_calls.proofs.EffectLaws.{plays-values, read-effect}
 use Rattle.replay_calls.proofs.client.read.Statement.{statement}
 use Rattle.replay_calls.proofs.client.read.Tie as tie
+
+snapshots-long : (c : tie.Start) → length (c .args .replica .snapshots) ≡ 768
+snapshots-long c = search needs
 
 row-of-requires : tie.Need-row-of-requires
 row-of-requires c κs = search needs
@@ -23,7 +27,7 @@ slice-aggregate-read-2 : tie.Need-slice-aggregate-read-2
 slice-aggregate-read-2 c = search needs
 
 slice-aggregate-read-3 : tie.Need-slice-aggregate-read-3
-slice-aggregate-read-3 c = search needs
+slice-aggregate-read-3 c = sym (snapshots-long (c .before .before .before .before .before .before .before .before .before))
 
 read-requires : tie.Need-read-requires
 read-requires c κs = search needs

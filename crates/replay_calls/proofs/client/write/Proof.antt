@@ -5,7 +5,7 @@ use borrow.Author.Needs.{needs}
 use lib.ListN.{length, drop}
 use lib.Seq.{length-take-le}
 use mir.Facts.{toZ-ofZ}
-use Rattle.call_client.proofs.RowLaws.{same-row}
+use Rattle.memory.proofs.RowLaws.{same-row}
 use Rattle.replay_calls.specs.Effects.{memoryOf}
 use Rattle.replay_calls.specs.declared.Replica.{Replica}
 use Rattle.replay_calls.proofs.EffectLaws.{plays-bare, bare-effect, bare-write}
@@ -40,24 +40,24 @@ row-at-requires : tie.Need-row-at-requires
 row-at-requires c κs = search needs
 
 slice-aggregate-write : tie.Need-slice-aggregate-write
-slice-aggregate-write c = sym (items-long (c .before .before .before .before .before .before .before .before .before .before .before .before .before))
+slice-aggregate-write c = sym (items-long (c .before .before .before .before .before .before .before .before .before .before .before .before .before .before))
 
 slice-aggregate-write-2 : tie.Need-slice-aggregate-write-2
-slice-aggregate-write-2 c = sym (writes-long (c .before .before .before .before .before .before .before .before .before .before .before .before .before .before))
+slice-aggregate-write-2 c = sym (writes-long (c .before .before .before .before .before .before .before .before .before .before .before .before .before .before .before))
 
 slice-aggregate-write-3 : tie.Need-slice-aggregate-write-3
-slice-aggregate-write-3 c = sym (stamps-long (c .before .before .before .before .before .before .before .before .before .before .before .before .before .before .before))
+slice-aggregate-write-3 c = sym (stamps-long (c .before .before .before .before .before .before .before .before .before .before .before .before .before .before .before .before))
 
 slice-aggregate-write-4 : tie.Need-slice-aggregate-write-4
-slice-aggregate-write-4 c = sym (classes-long (c .before .before .before .before .before .before .before .before .before .before .before .before .before .before .before .before))
+slice-aggregate-write-4 c = sym (classes-long (c .before .before .before .before .before .before .before .before .before .before .before .before .before .before .before .before .before))
 
 array-share-prefix-places : tie.Need-array-share-prefix-places
-array-share-prefix-places c = omega (arith, c .before .before .before .before .before .before .places-size .ensures .1, places-long (c .before .before .before .before .before .before .before .before .before .before .before .before .before .before .before .before))
+array-share-prefix-places c = omega (arith, c .before .before .before .before .before .before .places-size .ensures .1, places-long (c .before .before .before .before .before .before .before .before .before .before .before .before .before .before .before .before .before))
 
 slice-aggregate-write-5 : tie.Need-slice-aggregate-write-5
 slice-aggregate-write-5 c =
     let z = c .before .before .before .before .before .before .before in
-    sym (length-take-le (z .places-size .result) (c .before .before .before .before .before .before .before .before .before .before .before .before .before .before .before .before .before .args .replica .places) (omega (arith, z .places-size .ensures .1, places-long (c .before .before .before .before .before .before .before .before .before .before .before .before .before .before .before .before .before))))
+    sym (length-take-le (z .places-size .result) (c .before .before .before .before .before .before .before .before .before .before .before .before .before .before .before .before .before .before .args .replica .places) (omega (arith, z .places-size .ensures .1, places-long (c .before .before .before .before .before .before .before .before .before .before .before .before .before .before .before .before .before .before))))
 
 write-requires : tie.Need-write-requires
 write-requires c κs = search needs
@@ -74,7 +74,7 @@ returns c =
     let h = w .before .before .before .before .before .before in
     let r = h .before in
     let z = r .before in
-    let s = z .before .before .before .before .before .before .before .before .before .before in
+    let s = z .before .before .before .before .before .before .before .before .before .before .before in
     let a = s .args in
     let size = z .places-size .result in
     let g = rw (toZ-ofZ (s .fits .value), same-row (a .replica .rows) (r .row-of .result) (h .row-at .result) (h .row-at .ensures)) at (w .write .ensures .0 (memoryOf size (a .replica))) in

@@ -11,7 +11,7 @@ free-requires : tie.Need-free-requires
 free-requires c κs = search needs
 
 returns-2 : tie.Need-returns-2
-returns-2 c = rw (c .free .ensures, c .before .before .before .if1 .left)
+returns-2 c = rw (c .free .ensures, c .before .before .before .before .if1 .left)
 
 pub if-made-spec : {M : Type 1} → statement M
 if-made-spec = tie.close (tie.spec returns free-requires returns-2)

@@ -108,7 +108,7 @@ returns c =
     let size = z .places-size .result in
     let left = m .restart .last .1 .1 .1 .1 .1 .1 .1 .1 .1 .1 .0 in
     let l : length left ≡ size = m .restart .kept .1 .1 .1 .1 .1 .1 .1 .1 .1 .1 .0 ∙ length-take-le size (s .places) (omega (arith, z .places-size .ensures .1, places-long (z .before .before .before .before))) in
-    let g = rw (start-is (z .before)) at (m .restart .ensures (s .turn) (s .counts) (s .rows)) in
+    let g = rw (start-is (z .before)) at (m .restart .ensures .0 (s .group) (s .turn) (s .counts) (s .rows)) in
     rw (← z .places-size .ensures .0)
     (plays-numbers
     (rw (c .before .changing .ensures) at (c .with-number .ensures))

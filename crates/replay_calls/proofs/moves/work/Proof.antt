@@ -42,16 +42,16 @@ slice-aggregate-work-2 : tie.Need-slice-aggregate-work-2
 slice-aggregate-work-2 c = search needs
 
 slice-aggregate-work-3 : tie.Need-slice-aggregate-work-3
-slice-aggregate-work-3 c = sym (values-long (c .before .before .before .before .before .before .before .before .before .before .before .before .before .before))
+slice-aggregate-work-3 c = sym (values-long (c .before .before .before .before .before .before .before .before .before .before .before .before .before .before .before))
 
 slice-aggregate-work-4 : tie.Need-slice-aggregate-work-4
-slice-aggregate-work-4 c = sym (stamps-long (c .before .before .before .before .before .before .before .before .before .before .before .before .before .before .before))
+slice-aggregate-work-4 c = sym (stamps-long (c .before .before .before .before .before .before .before .before .before .before .before .before .before .before .before .before))
 
 array-borrow-prefix-places : tie.Need-array-borrow-prefix-places
-array-borrow-prefix-places c = omega (arith, c .before .before .before .before .places-size .ensures .1, places-long (c .before .before .before .before .before .before .before .before .before .before .before .before .before .before .before))
+array-borrow-prefix-places c = omega (arith, c .before .before .before .before .places-size .ensures .1, places-long (c .before .before .before .before .before .before .before .before .before .before .before .before .before .before .before .before))
 
 slice-aggregate-work-5 : tie.Need-slice-aggregate-work-5
-slice-aggregate-work-5 c = sym (length-take-le (c .before .before .before .before .before .places-size .result) (c .before .before .before .before .before .before .before .before .before .before .before .before .before .before .before .before .args .replica .places) (omega (arith, c .before .before .before .before .before .places-size .ensures .1, places-long (c .before .before .before .before .before .before .before .before .before .before .before .before .before .before .before .before))))
+slice-aggregate-work-5 c = sym (length-take-le (c .before .before .before .before .before .places-size .result) (c .before .before .before .before .before .before .before .before .before .before .before .before .before .before .before .before .before .args .replica .places) (omega (arith, c .before .before .before .before .before .places-size .ensures .1, places-long (c .before .before .before .before .before .before .before .before .before .before .before .before .before .before .before .before .before))))
 
 work-requires : tie.Need-work-requires
 work-requires c κs = search needs
@@ -69,11 +69,11 @@ returns : tie.Need-returns
 returns c =
     let w = c .before .before .before .before .before .before .before .before .before .before .before .before in
     let z = w .before .before .before .before .before .before .before in
-    let s = z .before .before .before .before .before .before .before .before .before .before .before .args .replica in
-    let lent = z .before .before .before .before .before .before .before .before .before .before .before .args .block .now in
+    let s = z .before .before .before .before .before .before .before .before .before .before .before .before .args .replica in
+    let lent = z .before .before .before .before .before .before .before .before .before .before .before .before .args .block .now in
     let size = z .places-size .result in
-    let left = w .work .last .1 .1 .1 .1 .1 .1 .1 .0 in
-    let l : length left ≡ size = w .work .kept .1 .1 .1 .1 .1 .1 .1 .0 ∙ length-take-le size (s .places) (omega (arith, z .places-size .ensures .1, places-long (z .before .before .before .before .before .before .before .before .before .before .before))) in
+    let left = w .work .last .1 .1 .1 .1 .1 .1 .1 .1 .0 in
+    let l : length left ≡ size = w .work .kept .1 .1 .1 .1 .1 .1 .1 .1 .0 ∙ length-take-le size (s .places) (omega (arith, z .places-size .ensures .1, places-long (z .before .before .before .before .before .before .before .before .before .before .before .before))) in
     let g = w .work .ensures (memoryOf size s) .0 in
     let few : w .work .result .reply .count ≤ 6 = work-few (withBlock lent workStep (memoryOf size s)) (g .0) (aborted-long w) in
     let short : c .step-of .result .count ≤ 10 = omega (arith, c .step-of .ensures .1, few) in

@@ -17,7 +17,7 @@ bare-requires c κs = search needs
 returns : tie.Need-returns
 returns c =
     let a = c .before .before .before .before .args in
-    let size = placesSize (a .replica .counts .replicas) in
+    let size = placesSize (a .replica .group .replicas) in
     λ lent.
     station-refuses size (a .replica) lent (writeStep (memoryOf size (a .replica)) (a .ticket) (a .item) (a .value)) (sym (c .before .before .is-station .ensures) ∙ c .before .if1 .taken) (c .bare .ensures)
 
@@ -28,7 +28,7 @@ returns-2 : tie.Need-returns-2
 returns-2 c =
     let s = c .before .before .before .before in
     let a = s .args in
-    let size = placesSize (a .replica .counts .replicas) in
+    let size = placesSize (a .replica .group .replicas) in
     let h = rw (toZ-ofZ (s .fits .value)) at (c .write .ensures) in
     λ lent.
     replica-does size (a .replica) lent (writeStep (memoryOf size (a .replica)) (a .ticket) (a .item) (a .value)) (sym (c .before .before .is-station .ensures) ∙ c .before .if1 .left) (h lent)

@@ -2,10 +2,10 @@
 use mathlib.Core.Path.{_≡_, sym}
 use native.Mathlib.Omega.{arith}
 use lib.ListN.{length, List·getD-eq-default}
 use Rattle.memory.specs.Rows.{closed}
 use borrow.Author.Needs.{needs}
-use Rattle.call_client.proofs.rows.row_at.Statement.{statement}
-use Rattle.call_client.proofs.rows.row_at.Tie as tie
+use Rattle.memory.proofs.rows.row_at.Statement.{statement}
+use Rattle.memory.proofs.rows.row_at.Tie as tie
 
 array-copy-out-result : tie.Need-array-copy-out-result
 array-copy-out-result c = search needs

@@ -3,7 +3,7 @@ ghost use mathlib.Core.Path.{_≡_};
 ghost use Prim.Native.Nat.{min};
 ghost use lib.ListN.{length, getD};
 ghost use lib.Seq.{paste};
-use memory::rows::lesser;
+use super::rows::lesser;
 
 // A byte, 0 past the end.
 pub fn byte_at(bytes: &[u8], at: usize) -> u8

@@ -1,13 +1,13 @@
--- `blocks::copy_bytes` meets its contract. The loop's invariant: the first k bytes are pasted. Assumes nothing.
+-- `bytes::copy_bytes` meets its contract. The loop's invariant: the first k bytes are pasted. Assumes nothing.
 use Prim.Native.Nat.{_-_, _≤_}
 use mathlib.Core.Path.{_≡_, refl, _∙_}
 use native.Mathlib.Omega.{arith}
 use borrow.Author.Needs.{needs}
 use lib.ListN.{length, length-set}
 use lib.Seq.{paste}
 use Rattle.memory.proofs.RowLaws.{paste-turn}
-use Rattle.call_reply.proofs.blocks.copy_bytes.Statement.{statement}
-use Rattle.call_reply.proofs.blocks.copy_bytes.Tie as tie
+use Rattle.memory.proofs.bytes.copy_bytes.Statement.{statement}
+use Rattle.memory.proofs.bytes.copy_bytes.Tie as tie
 
 abbrev Inv-loop : tie.InvT-loop
 Inv-loop bytes to₀ n k₀ to k = (k ≤ n) × (length to ≡ length to₀) × (to ≡ paste to₀ 0 bytes k)
