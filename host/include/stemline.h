@@ -29,28 +29,10 @@
  *   replica's journal, as far as it is durable, has them in order.
  *
  * A replica that is to outlast a cut of the power has a journal: a file of blocks,
- * one behind the other, which the host keeps. stemline_journal.h does all of the
- * following, with a head that says whose file it is. A file that is new is durable
- * once its folder is (fsync).
- *
- * - Send: append the block, make the file durable (fsync), then hand the block out.
- * - Work and take: append the blocks that they give for it, in order, before the
- *   block of the next send. They are durable early enough with that one.
- * - After a cut: read the file whole and call stemline_replica_restart; cut the
- *   file to the blocks committed and make it durable; then hand the block that was
- *   given back out once more. What waited at the replica is gone: every other one
- *   hands it its last block once more.
- * - With c blocks committed, a cut leaves at most (own + n - c % n) % n + 1 blocks
- *   behind them, those up to the next own slot. A file with more is damaged or of a
- *   group of another n: do not cut it. Nothing else tells another's journal.
- * - A journal from before the check of 32-bit sums is of no use: its first block
- *   fails the check, so that a restart finds it empty. All replicas of a group
- *   change together, each with an empty journal.
- * - Where the disk fails, hand nothing out and call nothing more. After a failed
- *   fsync a block may be readable, count as written, and not be on the disk: first
- *   cut the file to its length at the last good fsync, then restart. A restart does
- *   not know that length: before its fsync write the last n blocks once more, in
- *   place.
+ * one behind the other, which the host keeps. stemline_journal.h does that. Who keeps
+ * one by other means hands no block of a send out before it is appended and durable
+ * (fsync), and appends what works and takes give, in order, before the next of these;
+ * host/README.md ("The journal") has all steps, also for a disk that fails.
  *
  * A call answers 0 where it is accepted, else the number of the first condition
  * that holds, in the order that its comment names; stemline_words says what a

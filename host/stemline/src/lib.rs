@@ -37,9 +37,8 @@
 //! A replica that is to outlive its machine's power keeps a journal: [`Durable`] does so, in a file. Who
 //! keeps one by other means appends the block of each [`Replica::send`] and makes it durable before he
 //! hands it out, and appends what [`Work::append`] gives, in order, before the next of these.
-//! [`Replica::restart`] makes a replica from a journal. What waited at it before is gone: every other
-//! replica hands it its last block once more. The header for C says what else such a host does, where the
-//! disk fails and where a journal is damaged.
+//! [`Replica::restart`] makes a replica from a journal. `host/README.md` ("The journal") has all steps,
+//! also for a disk that fails and a journal that is damaged.
 //!
 //! To look at what is sent and kept: [`Block`] is a block with its slot, sender and records, [`Blocks`] those
 //! of a journal. Blocks and [`Report`]s print as one line.
