@@ -14,6 +14,7 @@ use Rattle.engine.specs.Client.{reportOf}
 use Rattle.engine.specs.Moves.{passNext, commitWriteset}
 use Rattle.engine.specs.Step.{Call, step}
 use Rattle.engine.specs.Step.Call.{read, write, work}
+use Rattle.engine.specs.History.AnyCall.{call}
 use Rattle.engine.proofs.Steps.{work-by}
 use Rattle.engine.proofs.ShapeTurn.{working}
 use Rattle.protocol.specs.Lists.{Mem}
@@ -25,11 +26,11 @@ use Rattle.protocol.specs.Machine.{MachineSystem, MachineAgreement, CommandPrem
 use Rattle.protocol.proofs.Refinement.{machine-agreement}
 use Rattle.protocol.proofs.ListLaws.{mem-map}
 use Rattle.protocol.proofs.SequenceLaws.{sequence-mono, mem-at}
-use Rattle.agreement.specs.Group.{messageIn, call, heard, Group, CallAt, fresh, run, Comes, Calls}
+use Rattle.agreement.specs.Group.{messageIn, heard, Group, CallAt, fresh, run, Comes, Calls}
 use Rattle.agreement.specs.Statement.{InSequence, Agrees, FirstCommitter, groupAfter, Agreement}
 use Rattle.agreement.proofs.View.{setup, Sound, Owed}
-use Rattle.agreement.proofs.Replicas.{places-apart}
-use Rattle.agreement.proofs.Runs.{machine, machineOf, commands, journalsRun, runs, fresh-kept, kept-run, Said, said}
+use Rattle.agreement.proofs.Replicas.{places-apart, made-sound}
+use Rattle.agreement.proofs.Runs.{machine, machineOf, commands, journalsRun, runs, sound-run, Said, said}
 
 -- ---- places counted from 1, and what was put down
 
@@ -95,13 +96,13 @@ module _ (n : ℕ) (start : List ℤ) (least : 2 ≤ n) (most : n ≤ 6) (long :
     (cs : List CallAt) (f : Calls n cs)
     (p : CommandPremise (setup n start) (machine n start least most long owes) (machineOf n start least most long owes (λ k. journal [] 0) (fresh n start)) (commands n start least most long owes cs f)) where
   abbrev g : Group
-  g = run n start (fresh n start) cs
+  g = run (fresh n start) cs
 
   abbrev noJournals : ℕ → Journal ℤ
   noJournals = λ k. journal [] 0
 
   abbrev F : List (Placed ℤ)
-  F = sequence (run n start (fresh n start) cs .handouts)
+  F = sequence (run (fresh n start) cs .handouts)
 
   whole : MachineAgreement (setup n start) (machine n start least most long owes) (commands n start least most long owes cs f)
   whole = machine-agreement (setup n start) (places-apart n start) (machine n start least most long owes) (commands n start least most long owes cs f)
@@ -117,22 +118,21 @@ module _ (n : ℕ) (start : List ℤ) (least : 2 ≤ n) (most : n ≤ 6) (long :
       (runs n start least most long owes cs f noJournals (fresh n start)) (whole .calls)
 
   -- what is claimed of the call c that has `before` in front of it
-  at-call : (before : List CallAt) (c : CallAt) → Comes cs before c → Said n start least most long owes F (run n start (fresh n start) before) c
+  at-call : (before : List CallAt) (c : CallAt) → Comes cs before c → Said n start least most long owes F (run (fresh n start) before) c
   at-call before c e = said n start least most long owes F cs f noJournals (fresh n start) claims before c e
 
   -- the memory that a call of the list acts on is sound
-  sound-at : (before : List CallAt) (c : CallAt) → Comes cs before c → Sound n (run n start (fresh n start) before .memories (c .at))
+  sound-at : (before : List CallAt) (c : CallAt) → Comes cs before c → Sound n (run (fresh n start) before .memories (c .at))
   sound-at before c e =
-      kept-run n start least most long owes before (λ d q. f d (subst (Mem d) (sym (e .1)) (Memᴰ·append-left (c ∷ e .0) q))) noJournals (fresh n start)
-      (fresh-kept n start least most long owes) .sound (c .at) .sound
+      sound-run n before (λ d q. f d (subst (Mem d) (sym (e .1)) (Memᴰ·append-left (c ∷ e .0) q))) (fresh n start) (λ k. made-sound n start least most long owes k .sound) (c .at)
 
   module _ (before : List CallAt) (k : ℕ) (s : Step) (e : Comes cs before (record { at = k; does = call work })) (a : step (groupAfter n start cs before .memories k) work .answer ≡ worked s) where
     abbrev seen : Observed ℤ
-    seen = run n start (fresh n start) before .observed k
+    seen = run (fresh n start) before .observed k
 
-    committing : (s .ticket ≡ 0 → ⊥) → Committed F (run n start (fresh n start) before .handouts) seen k (s .sender) (s .ticket) (s .aborted)
+    committing : (s .ticket ≡ 0 → ⊥) → Committed F (run (fresh n start) before .handouts) seen k (s .sender) (s .ticket) (s .aborted)
     unfolding heard
-    committing z = at-call before (record { at = k; does = call work }) e (s .sender) (s .ticket) (s .aborted) (ap (heard n (call work)) a ∙ rw (ne-eqb (s .ticket) 0 z))
+    committing z = at-call before (record { at = k; does = call work }) e (s .sender) (s .ticket) (s .aborted) (ap (heard (call work)) a ∙ rw (ne-eqb (s .ticket) 0 z))
 
     -- a work that names a ticket as aborted commits a writeset
     naming : (t : ℕ) → Mem t (s .aborted) → s .ticket ≡ 0 → ⊥
@@ -140,16 +140,16 @@ module _ (n : ℕ) (start : List ℤ) (least : 2 ≤ n) (most : n ≤ 6) (long :
 
   reading : (before : List CallAt) (k t i : ℕ) (v : ℤ) → Comes cs before (record { at = k; does = call (read t i) })
       → step (groupAfter n start cs before .memories k) (read t i) .answer ≡ got v
-      → let note = run n start (fresh n start) before .observed k .noted t in v ≡ lookup i (getD (applyAll start (take (note .start) F)) i (pos 0)) (note .writes)
+      → let note = run (fresh n start) before .observed k .noted t in v ≡ lookup i (getD (applyAll start (take (note .start) F)) i (pos 0)) (note .writes)
   unfolding heard
-  reading before k t i v e a = at-call before (record { at = k; does = call (read t i) }) e v (ap (heard n (call (read t i))) a)
+  reading before k t i v e a = at-call before (record { at = k; does = call (read t i) }) e v (ap (heard (call (read t i))) a)
 
   writing : (before : List CallAt) (k t i : ℕ) (v : ℤ) → Comes cs before (record { at = k; does = call (write t i v) })
-      → step (groupAfter n start cs before .memories k) (write t i v) .answer ≡ refused 9 → NotHandedOut (run n start (fresh n start) before .handouts) k t
+      → step (groupAfter n start cs before .memories k) (write t i v) .answer ≡ refused 9 → NotHandedOut (run (fresh n start) before .handouts) k t
   unfolding heard
-  writing before k t i v e a = at-call before (record { at = k; does = call (write t i v) }) e (ap (heard n (call (write t i v))) a)
+  writing before k t i v e a = at-call before (record { at = k; does = call (write t i v) }) e (ap (heard (call (write t i v))) a)
 
-  agrees : (k : ℕ) → Agrees start F (g .handouts) (g .observed k) (g .memories k .store .values) (reportOf (g .memories k))
+  agrees : (k : ℕ) → Agrees start F (g .handouts) (g .observed k) (g .memories k .store) (reportOf (g .memories k))
   unfolding reportOf
   agrees k = let a = group .agree k in record {
     commits = a .commits;
@@ -159,6 +159,11 @@ module _ (n : ℕ) (start : List ℤ) (least : 2 ≤ n) (most : n ≤ 6) (long :
         let u = sequence-mono (g .handouts) (suc i) (g .memories k .turn .slot) (let q = group .rising i h in omega arith) in
         let v = a .passed in omega arith;
     values = a .values;
+    stamps = λ i. record {
+      within = a .stamps .within i;
+      written = λ h. a .stamps .written i (getD (g .memories k .store .stamps) i 0 - 1) (omega arith);
+      last = λ q h l w. let z = a .stamps .last (q - 1) (omega arith) i w in omega arith;
+    };
   }
 
   pub agreement-from : Agreement n start cs
@@ -170,11 +175,11 @@ module _ (n : ℕ) (start : List ℤ) (least : 2 ≤ n) (most : n ≤ 6) (long :
     stations = λ k h. agrees k;
     reads = reading;
     first = λ q h u. first-committer F q h (group .first (q - 1) (omega arith));
-    works = λ before k s e a z. rw (next-place (length (run n start (fresh n start) before .observed k .commits))) (committing before k s e a z .named);
+    works = λ before k s e a z. rw (next-place (length (run (fresh n start) before .observed k .commits))) (committing before k s e a z .named);
     aborts = λ before k s e a t q.
         let z = naming before k s e a t q in
         let b = committing before k s e a z .aborts t q in
-        (z, rw (next-place (length (run n start (fresh n start) before .observed k .commits))) (b .item, b .written, b .committed));
-    spared = λ before k s e a t q. put-down (run n start (fresh n start) before .handouts) k t (committing before k s e a (naming before k s e a t q) .aborts t q .free);
-    never-stale = λ before k t i v e a. put-down (run n start (fresh n start) before .handouts) k t (writing before k t i v e a);
+        (z, rw (next-place (length (run (fresh n start) before .observed k .commits))) (b .item, b .written, b .committed));
+    spared = λ before k s e a t q. put-down (run (fresh n start) before .handouts) k t (committing before k s e a (naming before k s e a t q) .aborts t q .free);
+    never-stale = λ before k t i v e a. put-down (run (fresh n start) before .handouts) k t (writing before k t i v e a);
   }

@@ -9,11 +9,12 @@ use Rattle.engine.specs.Calls.{Outcome, outcome}
 use Rattle.engine.specs.Calls.Answer.{refused}
 use Rattle.engine.specs.Moves.{waiting}
 use Rattle.engine.specs.Step.{Call}
+use Rattle.engine.specs.History.AnyCall.{call}
 use Rattle.protocol.specs.Replica.{transactions, Event}
 use Rattle.protocol.specs.Client.{without, ClientOutcome, answered, fromClient}
 use Rattle.protocol.specs.System.{step}
 use Rattle.protocol.specs.Machine.{Alike}
-use Rattle.agreement.specs.Group.{call, heard}
+use Rattle.agreement.specs.Group.{heard}
 use Rattle.agreement.proofs.View.{setup, openTxns, view, meant, Owed, refuses, follows, alike-same}
 use Rattle.agreement.proofs.RowChange.{SameMembers}
 
@@ -49,5 +50,5 @@ module _ (n : ℕ) (start : List ℤ) (m : Memory) (c : Call) where
   }
 
   pub client-owes : (d : ClientOutcome ℤ) (o : Outcome) (k : Counts) (x : Transactions) → step (setup n start) (view m) (meant c) ≡ fromClient (view m) d
-      → heard n (call c) (o .answer) ≡ d .event → o .memory ≡ withTxns m k x → ClientAlike d k x → Owed n start m c o
+      → heard (call c) (o .answer) ≡ d .event → o .memory ≡ withTxns m k x → ClientAlike d k x → Owed n start m c o
   client-owes d o k x e h q a = follows (rw e h) (rw (e, q) (client-alike d k x a))

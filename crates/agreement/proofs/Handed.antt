@@ -23,22 +23,21 @@ use Rattle.engine.proofs.Tests.{cond-by}
 use Rattle.engine.proofs.Steps.{send-by, deliver-by, restart-by}
 use Rattle.engine.proofs.Passed.{deliver-passed}
 use Rattle.engine.proofs.RestartLaws.{AllGood, good-taken, reads-good}
-use Rattle.protocol.specs.Journal.{journal}
 use Rattle.agreement.specs.Group.{CallAt, fresh, run, Calls}
 use Rattle.agreement.specs.Handed.{ReadsBack}
 use Rattle.agreement.specs.SixRows.{SixRows}
 use Rattle.agreement.proofs.View.{Sound}
 use Rattle.agreement.proofs.Sendable.{sendable}
-use Rattle.agreement.proofs.Runs.{kept-run, fresh-kept}
+use Rattle.agreement.proofs.Replicas.{made-sound}
+use Rattle.agreement.proofs.Runs.{sound-run}
 use Rattle.agreement.proofs.Theorem.{owes}
 
 -- the memory of each replica and station after any list of calls
-sound-run : (n : ℕ) (start : List ℤ) → 2 ≤ n → n ≤ 6 → length start ≡ 128 → (cs : List CallAt) → Calls n cs → (k : ℕ) → Sound n (run n start (fresh n start) cs .memories k)
-sound-run n start least most long cs f k =
-    kept-run n start least most long (owes n start) cs f (λ j. journal [] 0) (fresh n start) (fresh-kept n start least most long (owes n start)) .sound k .sound
+sound-after : (n : ℕ) (start : List ℤ) → 2 ≤ n → n ≤ 6 → length start ≡ 128 → (cs : List CallAt) → Calls n cs → (k : ℕ) → Sound n (run (fresh n start) cs .memories k)
+sound-after n start least most long cs f = sound-run n cs f (fresh n start) (λ k. made-sound n start least most long (owes n start) k .sound)
 
 pub six-rows : SixRows
-six-rows = record { tables = λ n start least most long cs f k. sound-run n start least most long cs f k .shape .lengths .table }
+six-rows = record { tables = λ n start least most long cs f k. sound-after n start least most long cs f k .shape .lengths .table }
 
 -- ---- send
 
@@ -80,7 +79,7 @@ restart-given m n own values journal lent count block =
 
 pub reads-back : ReadsBack
 reads-back = record {
-  sends = λ n start least most long cs f k h. sent-back n _ (sound-run n start least most long cs f k);
+  sends = λ n start least most long cs f k h. sent-back n _ (sound-after n start least most long cs f k);
   restarts = restart-given;
   keeps = kept-only;
 }

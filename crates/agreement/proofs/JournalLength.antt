@@ -1,6 +1,6 @@
 -- How many blocks a replica's journal has, with no premise: every call keeps it. Assumes nothing.
 use Prim.Native.Nat.{ℕ, suc, _*_, _/_, _≤_, _<_}
-use mathlib.Core.Path.{_≡_, refl, sym, ap, _∙_, subst}
+use mathlib.Core.Path.{_≡_, refl, sym, ap, _∙_}
 use mathlib.Core.Bool.{Bool, true, false, cond}
 use mathlib.Core.List.{List, List·Memᴰ·head, List·Memᴰ·tail, [], _∷_, _++_, append-nil}
 use native.Mathlib.Omega.{arith}
@@ -23,6 +23,8 @@ use Rattle.engine.specs.Moves.{messageFor, sentAlready, sendRefusal, sendNow, d
 use Rattle.engine.specs.Step.{Call, step}
 use Rattle.engine.specs.Step.Call.{begin, read, write, ask, withdraw, report, send, deliver, work, load}
 use Rattle.engine.specs.Restart.{blocksIn, restartedMemory, restartStep}
+use Rattle.engine.specs.History.{AnyCall, anyStep}
+use Rattle.engine.specs.History.AnyCall.{call, restart}
 use Rattle.engine.proofs.Tests.{same-by}
 use Rattle.engine.proofs.Steps.{begin-by, read-by, write-by, ask-by, withdraw-by, send-by, deliver-by, work-by, load-by, restart-by}
 use Rattle.engine.proofs.Shaping.{bumps}
@@ -30,14 +32,14 @@ use Rattle.engine.proofs.ShapeTurn.{Working, working}
 use Rattle.engine.proofs.SentWork.{sender-owns, is-outbox}
 use Rattle.engine.proofs.RestartLaws.{reads-good, reads-first}
 use Rattle.protocol.specs.Blocks.{join}
-use Rattle.agreement.specs.Group.{GroupCall, call, restart, performed, argumentsOf, journalAfter, Group, CallAt, madeMember, fresh, next, run, Calls}
+use Rattle.agreement.specs.Group.{argumentsOf, journalAfter, Group, CallAt, fresh, next, run, Calls}
 use Rattle.agreement.specs.Journals.{blocksAt, JournalLength}
 use Rattle.agreement.proofs.View.{Sound}
 use Rattle.agreement.proofs.Sendable.{sendable, send-passed}
 use Rattle.agreement.proofs.JournalView.{join-first}
-use Rattle.agreement.proofs.Replicas.{SoundAt, stays, made-sound}
+use Rattle.agreement.proofs.Soundness.{sound-made}
+use Rattle.agreement.proofs.RestartStep.{sound-any}
 use Rattle.agreement.proofs.Premises.{length-join}
-use Rattle.agreement.proofs.Theorem.{owes}
 
 -- ---- a work: the sent mark is on where the block at the turn is the replica's own
 
@@ -97,62 +99,50 @@ module _ (n : ℕ) (m : Memory) (s : Sound n m) (l : List ℕ) (H : length l ≡
   call-filled (load l) = load-by (Filled (load l)) m l (λ e. H) (λ e. H)
 
 -- a restart's journal is the blocks read, and its turn their number
-restart-filled : (n k : ℕ) (start : List ℤ) (m : Memory) (l j x : List ℕ) → length l ≡ 512 * blocksAt (m .turn)
-    → let o = restartStep m n k start j x in length (journalAfter l (restart j x) (o .answer)) ≡ 512 * blocksAt (o .memory .turn)
+restart-filled : (m : Memory) (n own : ℕ) (values : List ℤ) (l j x : List ℕ) → length l ≡ 512 * blocksAt (m .turn)
+    → let o = restartStep m n own values j x in length (journalAfter l (restart n own values j x) (o .answer)) ≡ 512 * blocksAt (o .memory .turn)
 unfolding restartedMemory
-restart-filled n k start m l j x H =
-    restart-by (λ (o : Outcome). length (journalAfter l (restart j x) (o .answer)) ≡ 512 * blocksAt (o .memory .turn)) m n k start j x
+restart-filled m n own values l j x H =
+    restart-by (λ (o : Outcome). length (journalAfter l (restart n own values j x) (o .answer)) ≡ 512 * blocksAt (o .memory .turn)) m n own values j x
     (λ e.
     let a = ap length (sym (join-first (length (blocksIn n j)) j)) in
     let b = ap (λ (bs : List (List ℕ)). length (join bs)) (reads-first n 0 (length j / 512) j) in
     let c = length-join n (blocksIn n j) (reads-good n 0 (length j / 512) j) in
-    a ∙ b ∙ c ∙ (let z : 512 * length (blocksIn n j) ≡ 512 * blocksAt (restartedMemory n k start (blocksIn n j) .turn) = omega arith in z))
+    a ∙ b ∙ c ∙ (let z : 512 * length (blocksIn n j) ≡ 512 * blocksAt (restartedMemory n own values (blocksIn n j) .turn) = omega arith in z))
     (λ e. H)
 
 -- ---- a run
 
-module _ (n : ℕ) (start : List ℤ) (least : 2 ≤ n) (most : n ≤ 6) (long : length start ≡ 128) where
-  -- replica k and its journal
-  pub record FilledAt (k : ℕ) (m : Memory) (l : List ℕ) : Type 0 where
-    pub sound : SoundAt n start least most long (owes n start) k m
+module _ (n : ℕ) where
+  -- a replica of a group of n, and its journal
+  pub record FilledAt (m : Memory) (l : List ℕ) : Type 0 where
+    pub sound : Sound n m
     pub filled : length l ≡ 512 * blocksAt (m .turn)
 
-  filled-next : (k : ℕ) (m : Memory) (l : List ℕ) → FilledAt k m l → (c : GroupCall) → signed32 (argumentsOf c .value) ≡ true
-      → FilledAt k (performed n start k m c .memory) (journalAfter l c (performed n start k m c .answer))
-  filled-next k m l F (call c) v = record {
-    sound = stays n start least most long (owes n start) k m (call c) v (F .sound);
-    filled = call-filled n m (F .sound .sound) l (F .filled) c;
-  }
-  filled-next k m l F (restart j x) v = record {
-    sound = stays n start least most long (owes n start) k m (restart j x) v (F .sound);
-    filled = restart-filled n k start m l j x (F .filled);
+  filled-next : (m : Memory) (l : List ℕ) → FilledAt m l → (c : AnyCall) → signed32 (argumentsOf c .value) ≡ true → FilledAt (anyStep m c .memory) (journalAfter l c (anyStep m c .answer))
+  filled-next m l F (call c) v = record { sound = sound-any n m (F .sound) (call c) v; filled = call-filled n m (F .sound) l (F .filled) c }
+  filled-next m l F (restart size own values j x) v = record {
+    sound = sound-any n m (F .sound) (restart size own values j x) v;
+    filled = restart-filled m size own values l j x (F .filled);
   }
 
   abbrev AllFilled : Group → Type 0
-  AllFilled g = (k : ℕ) → k < n → FilledAt k (g .memories k) (g .disks k .journal)
+  AllFilled g = (k : ℕ) → k < n → FilledAt (g .memories k) (g .disks k .journal)
 
-  group-next : (g : Group) (c : CallAt) → AllFilled g → signed32 (argumentsOf (c .does) .value) ≡ true → AllFilled (next n start g c)
+  group-next : (g : Group) (c : CallAt) → AllFilled g → signed32 (argumentsOf (c .does) .value) ≡ true → AllFilled (next g c)
   group-next g c F v k below = same-by k (c .at)
-      (λ e. rw (e, eq-eqb (c .at) (c .at) refl) (filled-next (c .at) (g .memories (c .at)) (g .disks (c .at) .journal) (F (c .at) (rw e at below)) (c .does) v))
+      (λ e. rw (e, eq-eqb (c .at) (c .at) refl) (filled-next (g .memories (c .at)) (g .disks (c .at) .journal) (F (c .at) (rw e at below)) (c .does) v))
       (λ d. rw (ne-eqb k (c .at) d) (F k below))
 
-  filled-run : (cs : List CallAt) → Calls n cs → (g : Group) → AllFilled g → AllFilled (run n start g cs)
+  filled-run : (cs : List CallAt) → Calls n cs → (g : Group) → AllFilled g → AllFilled (run g cs)
   unfolding run
   filled-run [] f g F = F
-  filled-run (c ∷ cs) f g F = filled-run cs (λ d q. f d (List·Memᴰ·tail q)) (next n start g c) (group-next g c F (f c (List·Memᴰ·head refl) .1))
-
-  fresh-filled : AllFilled (fresh n start)
-  fresh-filled k h = rw (lt-ltb k n h) (record {
-    sound = subst (SoundAt n start least most long (owes n start) k) is (made-sound n start least most long (owes n start) k);
-    filled = unfold madeMemory in refl;
-  })
-    where
-      is : madeMember n start k ≡ madeMemory n k start
-      is = rw (lt-ltb k n h) refl
+  filled-run (c ∷ cs) f g F = filled-run cs (λ d q. f d (List·Memᴰ·tail q)) (next g c) (group-next g c F (f c (List·Memᴰ·head refl) .1))
 
   -- each replica after a list of calls
-  pub filled-after : (cs : List CallAt) → Calls n cs → let g = run n start (fresh n start) cs in (k : ℕ) → k < n → FilledAt k (g .memories k) (g .disks k .journal)
-  filled-after cs f = filled-run cs f (fresh n start) fresh-filled
+  pub filled-after : (start : List ℤ) → 2 ≤ n → n ≤ 6 → length start ≡ 128 → (cs : List CallAt) → Calls n cs
+      → let g = run (fresh n start) cs in (k : ℕ) → k < n → FilledAt (g .memories k) (g .disks k .journal)
+  filled-after start least most long cs f = filled-run cs f (fresh n start) (λ k h. rw (lt-ltb k n h) (record { sound = sound-made n k start least most h long; filled = unfold madeMemory in refl }))
 
 pub journal-length : JournalLength
 journal-length n start least most long cs f k h = filled-after n start least most long cs f k h .filled

@@ -27,6 +27,7 @@ use Rattle.engine.specs.Moves.{messageFor, sendRefusal, sendNow, deliverNow, bl
 use Rattle.engine.specs.Step.{Call, step}
 use Rattle.engine.specs.Step.Call.{begin, read, write, ask, withdraw, report, send, deliver, work, load}
 use Rattle.engine.specs.Restart.{isGood, blocksIn, firstBlocks, restartStep}
+use Rattle.engine.specs.History.AnyCall.{call, restart}
 use Rattle.engine.proofs.Tests.{cond-by}
 use Rattle.engine.proofs.Steps.{begin-by, read-by, write-by, ask-by, withdraw-by, send-by, deliver-by, work-by, load-by, restart-by}
 use Rattle.engine.proofs.Shaping.{bumps}
@@ -39,7 +40,7 @@ use Rattle.protocol.specs.Journal.{Journal, journal, append, Cut, appended}
 use Rattle.protocol.specs.Blocks.{join, readBlocks}
 use Rattle.protocol.proofs.BlockLaws.{cut-of-bytes}
 use Rattle.protocol.proofs.SequenceLaws.{map-append}
-use Rattle.agreement.specs.Group.{messageIn, call, restart, heard, disk, journalAfter, Lent}
+use Rattle.agreement.specs.Group.{messageIn, heard, disk, journalAfter, Lent}
 use Rattle.agreement.proofs.View.{setup, placeAt, view, Sound}
 use Rattle.agreement.proofs.PlaceView.{place-taken}
 use Rattle.agreement.proofs.Sendable.{sendable}
@@ -122,7 +123,7 @@ left-block n b g false false slot turn e = rw (eq-eqb turn slot e) (no-block n)
 
 module _ (n : ℕ) (start : List ℤ) (m : Memory) (s : Sound n m) where
   abbrev Appends : Call → Outcome → Type 0
-  Appends c o = AppendedBlocks n (appendedIn (o .answer)) (appended (setup n start) (view m) (o .memory .turn .slot) (heard n (call c) (o .answer)))
+  Appends c o = AppendedBlocks n (appendedIn (o .answer)) (appended (setup n start) (view m) (o .memory .turn .slot) (heard (call c) (o .answer)))
 
   abbrev b : List ℕ
   b = blockAtTurn m
@@ -194,13 +195,13 @@ module _ (n : ℕ) (l : List ℕ) (J : Journal ℤ) (H : OnDisk n l (J .kept)) w
   stays : (more : Option (Message ℤ)) → AppendedBlocks n [] more → OnDisk n l (append (J .kept) more)
   stays more A = subst (λ (x : List ℕ). OnDisk n x (append (J .kept) more)) (append-nil l) (grows [] more A)
 
-  worked-journal : (more : Option (Message ℤ)) (c : Call) (w : Step) → model.journalAfter J more (heard n (call c) (worked w)) ≡ journal (append (J .kept) more) (J .safe)
+  worked-journal : (more : Option (Message ℤ)) (c : Call) (w : Step) → model.journalAfter J more (heard (call c) (worked w)) ≡ journal (append (J .kept) more) (J .safe)
   unfolding heard model.journalAfter
   worked-journal more c w = cond-by (λ (e : Event ℤ). model.journalAfter J more e ≡ journal (append (J .kept) more) (J .safe)) (eqb (w .ticket) 0) (λ q. refl) (λ q. refl)
 
   -- by what is answered; `more` is what the model appends
   disk-by : (c : Call) (a : Answer) (more : Option (Message ℤ)) → AppendedBlocks n (appendedIn a) more → NoRestart a
-      → OnDisk n (journalAfter l (call c) a) (model.journalAfter J more (heard n (call c) a) .kept) × OnDisk n (journalAfter l (call c) a) (append (J .kept) more)
+      → OnDisk n (journalAfter l (call c) a) (model.journalAfter J more (heard (call c) a) .kept) × OnDisk n (journalAfter l (call c) a) (append (J .kept) more)
   unfolding heard model.journalAfter
   disk-by c (refused k) more A q = (stays more A, stays more A)
   disk-by c made more A q = (stays more A, stays more A)
@@ -219,27 +220,28 @@ module _ (n : ℕ) (l : List ℕ) (J : Journal ℤ) (H : OnDisk n l (J .kept)) w
 
   -- what the model appends in a call
   abbrev moreIn : List ℤ → Memory → Call → Option (Message ℤ)
-  moreIn start m c = appended (setup n start) (view m) (step m c .memory .turn .slot) (heard n (call c) (step m c .answer))
+  moreIn start m c = appended (setup n start) (view m) (step m c .memory .turn .slot) (heard (call c) (step m c .answer))
 
   pub disk-call : (start : List ℤ) (m : Memory) → Sound n m → (c : Call)
-      → OnDisk n (journalAfter l (call c) (step m c .answer)) (model.journalAfter J (moreIn start m c) (heard n (call c) (step m c .answer)) .kept)
+      → OnDisk n (journalAfter l (call c) (step m c .answer)) (model.journalAfter J (moreIn start m c) (heard (call c) (step m c .answer)) .kept)
   disk-call start m s c = disk-by c (step m c .answer) (moreIn start m c) (appends n start m s c) (no-restart m c) .0
 
-  pub disk-restart : (start : List ℤ) (m : Memory) (k : ℕ) (bytes b : List ℕ)
-      → let o = restartStep m n k start bytes b in OnDisk n (journalAfter l (restart bytes b) (o .answer))
-      (model.journalAfter J (appended (setup n start) (view m) (o .memory .turn .slot) (heard n (restart bytes b) (o .answer))) (heard n (restart bytes b) (o .answer)) .kept)
+  -- an accepted one with the group's N
+  pub disk-restart : (start : List ℤ) (m : Memory) (size own : ℕ) (values : List ℤ) (bytes b : List ℕ)
+      → let o = restartStep m size own values bytes b in let c = restart size own values bytes b in ((x : ℕ) (y : List ℕ) → o .answer ≡ restarted x y → size ≡ n)
+      → OnDisk n (journalAfter l c (o .answer)) (model.journalAfter J (appended (setup n start) (view m) (o .memory .turn .slot) (heard c (o .answer))) (heard c (o .answer)) .kept)
   unfolding heard model.journalAfter appended
-  disk-restart start m k bytes b =
-      let first = reads-first n 0 (length bytes / 512) bytes in
-      restart-by (λ (o : Outcome). OnDisk n (journalAfter l (restart bytes b) (o .answer))
-      (model.journalAfter J (appended (setup n start) (view m) (o .memory .turn .slot) (heard n (restart bytes b) (o .answer))) (heard n (restart bytes b) (o .answer)) .kept)) m n k start bytes b
-      (λ e. record {
-        blocks = blocksIn n bytes;
-        joined = ap join (sym first) ∙ join-first (length (blocksIn n bytes)) bytes;
-        good = reads-good n 0 (length bytes / 512) bytes;
+  disk-restart start m size own values bytes b =
+      let first = reads-first size 0 (length bytes / 512) bytes in
+      restart-by (λ (o : Outcome). ((x : ℕ) (y : List ℕ) → o .answer ≡ restarted x y → size ≡ n) → OnDisk n (journalAfter l (restart size own values bytes b) (o .answer))
+      (model.journalAfter J (appended (setup n start) (view m) (o .memory .turn .slot) (heard (restart size own values bytes b) (o .answer))) (heard (restart size own values bytes b) (o .answer)) .kept)) m size own values bytes b
+      (λ e f. record {
+        blocks = blocksIn size bytes;
+        joined = ap join (sym first) ∙ join-first (length (blocksIn size bytes)) bytes;
+        good = subst (λ (i : ℕ). AllGood i (blocksIn size bytes)) (f _ _ refl) (reads-good size 0 (length bytes / 512) bytes);
         says = refl;
       })
-      (λ e. H)
+      (λ e f. H)
 
   -- ---- what a cut leaves
 

@@ -71,9 +71,9 @@ in-order n start D k turn count l J H L Q w = record {
 
 pub journals : JournalTheorem
 journals n start least most long cs f p k h =
-    in-order n start (run n start (fresh n start) cs .handouts) k (run n start (fresh n start) cs .memories k .turn .slot) (blocksAt (run n start (fresh n start) cs .memories k .turn))
-    (run n start (fresh n start) cs .disks k .journal) (journalsAfter n start least most long cs k)
-    (kept-run n start least most long (owes n start) cs f (λ j. journal [] 0) (fresh n start) (fresh-kept n start least most long (owes n start)) .disks k h)
+    in-order n start (run (fresh n start) cs .handouts) k (run (fresh n start) cs .memories k .turn .slot) (blocksAt (run (fresh n start) cs .memories k .turn))
+    (run (fresh n start) cs .disks k .journal) (journalsAfter n start least most long cs k)
+    (kept-run n start least most long (owes n start) cs f (λ j. journal [] 0) (fresh n start) p (fresh-kept n start least most long (owes n start)) .disks k h)
     (I .inv .whole .inOrder) (I .inv .journals k) (journal-length n start least most long cs f k h)
   where
     I : InvAfter n start least most long cs

@@ -1,23 +1,26 @@
 -- What a call owes at a member of the group: at a replica what it owes there, and at a station the model's step at a member that owns no slot. Assumes nothing.
 use Prim.Native.Nat.{ℕ, _%_, _≤_, _<_}
-use mathlib.Core.Path.{_≡_, refl, sym, ap, _∙_}
+use mathlib.Core.Path.{_≡_, refl, sym, ap, _∙_, subst}
 use mathlib.Core.Bool.{true}
 use mathlib.Core.Option.{some}
 use mathlib.Core.List.{List}
 use native.Mathlib.Nat.{mod-lt}
 use native.Mathlib.Omega.{arith}
 use lib.IntN.{ℤ}
+use lib.ListN.{length, replicate}
 use borrow.Author.Tests.{eq-eqb}
 use Rattle.block.specs.Message.{ownerOf}
 use Rattle.block.specs.Answers.{blockRefusal, headerOf}
 use Rattle.memory.specs.Memory.{Memory, noNumber, isStation}
 use Rattle.memory.specs.Turns.{blockIn, isEmpty}
 use Rattle.engine.specs.Calls.{Outcome, outcome}
-use Rattle.engine.specs.Calls.Answer.{refused}
+use Rattle.engine.specs.Calls.Answer.{refused, restarted}
 use Rattle.engine.specs.Moves.{deliverRefusal}
-use Rattle.engine.specs.Restart.{blocksIn, restartRefusal, restartStep}
+use Rattle.engine.specs.Restart.{blocksIn, lastOwn, restartedMemory, restartRefusal, restartStep}
 use Rattle.engine.specs.Step.{Call, step}
 use Rattle.engine.specs.Step.Call.{begin, read, write, ask, withdraw, report, send, deliver, work, load}
+use Rattle.engine.specs.History.{AnyCall}
+use Rattle.engine.specs.History.AnyCall.{call, restart}
 use Rattle.engine.proofs.Tests.{bool-by, not-first}
 use Rattle.engine.proofs.Steps.{deliver-by, restart-by}
 use Rattle.engine.proofs.Passed.{deliver-passed, restart-passed}
@@ -29,19 +32,28 @@ use Rattle.protocol.specs.Replica.{Event}
 use Rattle.protocol.specs.System as system
 use Rattle.protocol.specs.Machine.{Alike}
 use Rattle.protocol.proofs.Stations.{alike-numbered, Foreign, step-under}
-use Rattle.agreement.specs.Group.{messageIn, GroupCall, call, restart, heard}
+use Rattle.agreement.specs.Group.{messageIn, heard}
 use Rattle.agreement.proofs.View.{setup, placeAt, view, viewAt, Sound, meant, Owed, refuses, follows, alike-same}
 use Rattle.agreement.proofs.PlaceView.{place-empty, place-taken}
 use Rattle.agreement.proofs.BlockView.{sender-seen}
-use Rattle.agreement.proofs.RestartStep.{not-nine, meantBy, RestartOwed, turned-away, restores, restart-owes}
+use Rattle.agreement.proofs.RestartStep.{not-nine, meantBy, restart-event, restart-alike}
+
+-- a restart is lent N, the number and the starting values of member k
+abbrev pub AsMade : ℕ → List ℤ → ℕ → ℕ → ℕ → List ℤ → Type 0
+AsMade n start k size own values = (size ≡ n) × (own ≡ k) × (values ≡ start)
+
+-- a restart that is accepted is
+abbrev pub Ours : ℕ → List ℤ → ℕ → Memory → AnyCall → Type 0
+Ours n start k m (call c) = Unit
+Ours n start k m (restart size own values j b) = (count : ℕ) (given : List ℕ) → restartStep m size own values j b .answer ≡ restarted count given → AsMade n start k size own values
 
 -- what the outcome o of call c at member k owes: a refusal other than 9 that leaves the view alone, or the model's step
-pub data OwedAt (n : ℕ) (start : List ℤ) (k : ℕ) (m : Memory) (c : GroupCall) (o : Outcome) : Type 0 where
-  refuses-at : (i : ℕ) → (i ≡ 9 → ⊥) → heard n c (o .answer) ≡ Event.refused i → Alike (viewAt k m) (viewAt k (o .memory)) → OwedAt n start k m c o
-  follows-at : heard n c (o .answer) ≡ system.step (setup n start) (viewAt k m) (meantBy n c) .event → Alike (system.step (setup n start) (viewAt k m) (meantBy n c) .replica) (viewAt k (o .memory))
+pub data OwedAt (n : ℕ) (start : List ℤ) (k : ℕ) (m : Memory) (c : AnyCall) (o : Outcome) : Type 0 where
+  refuses-at : (i : ℕ) → (i ≡ 9 → ⊥) → heard c (o .answer) ≡ Event.refused i → Alike (viewAt k m) (viewAt k (o .memory)) → OwedAt n start k m c o
+  follows-at : heard c (o .answer) ≡ system.step (setup n start) (viewAt k m) (meantBy c) .event → Alike (system.step (setup n start) (viewAt k m) (meantBy c) .replica) (viewAt k (o .memory))
       → OwedAt n start k m c o
 
-turned-away-at : (n : ℕ) (start : List ℤ) (k : ℕ) (m : Memory) (c : GroupCall) (i : ℕ) → (i ≡ 9 → ⊥) → OwedAt n start k m c (outcome (refused i) m)
+turned-away-at : (n : ℕ) (start : List ℤ) (k : ℕ) (m : Memory) (c : AnyCall) (i : ℕ) → (i ≡ 9 → ⊥) → OwedAt n start k m c (outcome (refused i) m)
 unfolding heard
 turned-away-at n start k m c i h = refuses-at i h refl (alike-same (viewAt k m))
 
@@ -55,14 +67,18 @@ module _ (n : ℕ) (start : List ℤ) (k : ℕ) (m : Memory) (q : m .group .own 
   replica-owes c o f (refuses i h e L) = refuses-at i h e (rw (view-own k m q, view-own k (o .memory) f) L)
   replica-owes c o f (follows e L) = follows-at (rw (view-own k m q) e) (rw (view-own k m q, view-own k (o .memory) f) L)
 
-  restarted-owes : (j b : List ℕ) (o : Outcome) → o .memory .group .own ≡ k → RestartOwed n start m j b o → OwedAt n start k m (restart j b) o
-  restarted-owes j b o f (turned-away i h e L) = refuses-at i h e (rw (view-own k m q, view-own k (o .memory) f) L)
-  restarted-owes j b o f (restores e L) = follows-at (rw (view-own k m q) e) (rw (view-own k m q, view-own k (o .memory) f) L)
+  -- lent what the group was made with
+  restarted-owes : (j b : List ℕ) → OwedAt n start k m (restart n k start j b) (outcome (restarted (length (blocksIn n j)) (lastOwn k (replicate 512 0) (blocksIn n j))) (restartedMemory n k start (blocksIn n j)))
+  restarted-owes j b =
+      subst (λ (i : ℕ). OwedAt n start i m (restart n i start j b) (outcome (restarted (length (blocksIn n j)) (lastOwn i (replicate 512 0) (blocksIn n j))) (restartedMemory n i start (blocksIn n j)))) q
+      (follows-at (restart-event n start m j b) (rw (view-own (m .group .own) (restartedMemory n (m .group .own) start (blocksIn n j)) (restarted-own n (m .group .own) start (blocksIn n j))) (restart-alike n start m j b)))
 
-  pub replica-restarts : (j b : List ℕ) → OwedAt n start k m (restart j b) (restartStep m n k start j b)
-  replica-restarts j b =
-      restarted-owes j b (restartStep m n k start j b)
-      (restart-by (λ (o : Outcome). o .memory .group .own ≡ k) m n k start j b (λ e. restarted-own n k start (blocksIn n j)) (λ e. q)) (restart-owes n start m j b k q)
+  pub replica-restarts : (size own : ℕ) (values : List ℤ) (j b : List ℕ) → Ours n start k m (restart size own values j b)
+      → OwedAt n start k m (restart size own values j b) (restartStep m size own values j b)
+  replica-restarts size own values j b =
+      restart-by (λ (o : Outcome). ((x : ℕ) (y : List ℕ) → o .answer ≡ restarted x y → AsMade n start k size own values) → OwedAt n start k m (restart size own values j b) o) m size own values j b
+      (λ e f. let z = f _ _ refl in rw (z .0, z .1, z .2) (restarted-owes j b))
+      (λ e f. turned-away-at n start k m (restart size own values j b) (restartRefusal m size own values b) (not-nine m size own values b))
 
 -- ---- a station
 
@@ -116,10 +132,9 @@ module _ (n : ℕ) (start : List ℤ) (most : n ≤ 6) (k : ℕ) (m : Memory) (s
   station-owes (load l) O = under (load l) _ tt tt O
 
   -- a restart there is lent no number of the group's
-  pub station-not-restarted : (b : List ℕ) → restartRefusal m n k start b ≡ 0 → ⊥
-  station-not-restarted b e = let a = restart-passed m n k start b e .among in omega arith
-
-  pub station-restarts : (j b : List ℕ) → OwedAt n start k m (restart j b) (restartStep m n k start j b)
-  station-restarts j b =
-      restart-by (OwedAt n start k m (restart j b)) m n k start j b (λ e. absurd (station-not-restarted b e))
-      (λ e. turned-away-at n start k m (restart j b) (restartRefusal m n k start b) (not-nine m n k start b))
+  pub station-restarts : (size own : ℕ) (values : List ℤ) (j b : List ℕ) → Ours n start k m (restart size own values j b)
+      → OwedAt n start k m (restart size own values j b) (restartStep m size own values j b)
+  station-restarts size own values j b =
+      restart-by (λ (o : Outcome). ((x : ℕ) (y : List ℕ) → o .answer ≡ restarted x y → AsMade n start k size own values) → OwedAt n start k m (restart size own values j b) o) m size own values j b
+      (λ e f. let z = f _ _ refl in absurd (let w : ⊥ = omega (arith, restart-passed m size own values b e .among, z .0, z .1) in w))
+      (λ e f. turned-away-at n start k m (restart size own values j b) (restartRefusal m size own values b) (not-nine m size own values b))

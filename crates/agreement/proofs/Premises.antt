@@ -15,6 +15,7 @@ use Rattle.memory.specs.Memory.{Memory}
 use Rattle.engine.specs.Calls.{Answer}
 use Rattle.engine.specs.Calls.Answer.{refused, made, began, got, wrote, queued, readOnly, withdrew, reported, sent, kept, worked, loaded, restarted}
 use Rattle.engine.specs.Step.{Call, step}
+use Rattle.engine.specs.History.{AnyCall}
 use Rattle.engine.proofs.Tests.{cond-by}
 use Rattle.engine.proofs.RestartLaws.{AllGood, good-taken}
 use Rattle.protocol.specs.Lists.{opt}
@@ -25,11 +26,12 @@ use Rattle.protocol.specs.Blocks.{join}
 use Rattle.protocol.specs.Machine.{MachineSystem, CommandPremise, runCommands}
 use Rattle.protocol.proofs.ListLaws.{update-same}
 use Rattle.protocol.proofs.Refinement.{MachineInv, inv-commands}
-use Rattle.agreement.specs.Group.{messageIn, GroupCall, argumentsOf, heard, handedOutIn, Disk, diskAfter, Group, CallAt, did, next, run, Calls, PremiseFrom}
+use Rattle.agreement.specs.Group.{messageIn, argumentsOf, heard, handedOutIn, Disk, diskAfter, Group, CallAt, did, next, run, Calls, PremiseFrom}
 use Rattle.agreement.proofs.View.{setup, Sound, Owed}
 use Rattle.agreement.proofs.JournalView.{OnDisk}
+use Rattle.agreement.proofs.MemberStep.{Ours}
 use Rattle.agreement.proofs.Replicas.{places-apart}
-use Rattle.agreement.proofs.Runs.{machine, machineOf, command, commands, journalNext, journalsNext, one, Kept, disk-next, kept-next, handed-at, lent-at}
+use Rattle.agreement.proofs.Runs.{premise-rest, premise-first, lent-ours, machine, machineOf, command, commands, journalNext, journalsNext, one, Kept, disk-next, kept-next, handed-at, lent-at}
 
 -- ---- a disk's bytes
 
@@ -52,23 +54,23 @@ safe-bytes n l J H h =
     omega arith
 
 -- the floor after a call, with the bytes l, is as high as what is safe
-floor-by : (n : ℕ) (J : Journal ℤ) (floor : ℕ) (l : List ℕ) (more : Option (Message ℤ)) (c : GroupCall) (a : Answer) → 512 * J .safe ≤ floor → 512 * journalAfter J more (heard n c a) .safe ≤ length l
-    → 512 * journalAfter J more (heard n c a) .safe ≤ opt (handedOutIn a) floor (λ b. length l)
+floor-by : (J : Journal ℤ) (floor : ℕ) (l : List ℕ) (more : Option (Message ℤ)) (c : AnyCall) (a : Answer) → 512 * J .safe ≤ floor → 512 * journalAfter J more (heard c a) .safe ≤ length l
+    → 512 * journalAfter J more (heard c a) .safe ≤ opt (handedOutIn a) floor (λ b. length l)
 unfolding heard journalAfter
-floor-by n J floor l more c (refused k) h u = h
-floor-by n J floor l more c made h u = h
-floor-by n J floor l more c (began t) h u = h
-floor-by n J floor l more c (got v) h u = h
-floor-by n J floor l more c wrote h u = h
-floor-by n J floor l more c queued h u = h
-floor-by n J floor l more c readOnly h u = h
-floor-by n J floor l more c withdrew h u = h
-floor-by n J floor l more c (reported r) h u = h
-floor-by n J floor l more c (sent b) h u = u
-floor-by n J floor l more c loaded h u = h
-floor-by n J floor l more c kept h u = h
-floor-by n J floor l more c (worked s) h u = cond-by (λ (e : Event ℤ). 512 * journalAfter J more e .safe ≤ floor) (eqb (s .ticket) 0) (λ q. h) (λ q. h)
-floor-by n J floor l more c (restarted k b) h u = go (eqb (getD b 0 0) 0) u
+floor-by J floor l more c (refused k) h u = h
+floor-by J floor l more c made h u = h
+floor-by J floor l more c (began t) h u = h
+floor-by J floor l more c (got v) h u = h
+floor-by J floor l more c wrote h u = h
+floor-by J floor l more c queued h u = h
+floor-by J floor l more c readOnly h u = h
+floor-by J floor l more c withdrew h u = h
+floor-by J floor l more c (reported r) h u = h
+floor-by J floor l more c (sent b) h u = u
+floor-by J floor l more c loaded h u = h
+floor-by J floor l more c kept h u = h
+floor-by J floor l more c (worked s) h u = cond-by (λ (e : Event ℤ). 512 * journalAfter J more e .safe ≤ floor) (eqb (s .ticket) 0) (λ q. h) (λ q. h)
+floor-by J floor l more c (restarted k b) h u = go (eqb (getD b 0 0) 0) u
   where
     safeWith : Bool → ℕ
     safeWith z = opt (cond z none (some (messageIn b))) (J .safe) (λ (w : Message ℤ). max (J .safe) (suc (w .slot)))
@@ -87,12 +89,8 @@ module _ (n : ℕ) (start : List ℤ) (least : 2 ≤ n) (most : n ≤ 6) (long :
   abbrev Holds : (ℕ → Journal ℤ) → Group → Type 0
   Holds J g = Kept n start least most long owes J g
 
-  rest : (g : Group) (c : CallAt) (cs : List CallAt) → PremiseFrom n start g (c ∷ cs) → PremiseFrom n start (next n start g c) cs
-  unfolding run
-  rest g c cs A = record {
-    delivered = λ before k b h. A .delivered (c ∷ before) k b (h .0, ap (λ (l : List CallAt). c ∷ l) (h .1));
-    lent = λ before k j l x b h. A .lent (c ∷ before) k j l x b (h .0, ap (λ (y : List CallAt). c ∷ y) (h .1));
-  }
+  may : (g : Group) (c : CallAt) (cs : List CallAt) → PremiseFrom n start g (c ∷ cs) → Ours n start (c .at) (g .memories (c .at)) (c .does)
+  may g c cs A = lent-ours n start (c .at) (g .memories (c .at)) (g .disks (c .at)) (c .does) (premise-first n start g c cs A)
 
   -- the first call's premise, as the machine's
   first : (g : Group) (c : CallAt) (cs : List CallAt) → PremiseFrom n start g (c ∷ cs) → (J : ℕ → Journal ℤ) → Holds J g
@@ -101,37 +99,34 @@ module _ (n : ℕ) (start : List ℤ) (least : 2 ≤ n) (most : n ≤ 6) (long :
   unfolding run CommandPremise
   first g c cs A J K low h = (
     (
-      handed-at n start least most long owes (g .blocks) (c .at) (g .memories (c .at)) (c .does) (λ b e q. A .delivered [] (c .at) b (cs, ap is e) q),
-      lent-at n start least most long owes (J (c .at)) (g .disks (c .at)) (c .at) (K .disks (c .at)) (low (c .at)) (g .memories (c .at)) (K .sound (c .at)) (c .does) h
-          (λ j l x b e q. A .lent [] (c .at) j l x b (cs, ap is e) q),
+      handed-at n start least most long owes (g .blocks) (g .memories (c .at)) (c .does) (λ b e q. A .delivered [] (c .at) b (cs, ap (λ (d : AnyCall). record { at = c .at; does = d } ∷ cs) e) q),
+      lent-at n start least most long owes (J (c .at)) (g .disks (c .at)) (c .at) (K .disks (c .at)) (low (c .at)) (g .memories (c .at)) (K .sound (c .at)) (c .does) h (premise-first n start g c cs A),
+      may g c cs A,
     ),
     tt,
   )
-    where
-      is : GroupCall → List CallAt
-      is d = record { at = c .at; does = d } ∷ cs
 
   inv-next : (J : ℕ → Journal ℤ) (g : Group) (c : CallAt) (h : signed32 (argumentsOf (c .does) .value) ≡ true) → Inv J g
       → CommandPremise (setup n start) (machine n start least most long owes) (machineOf n start least most long owes J g) (command n start least most long owes c h ∷ [])
-      → Inv (journalsNext n start least most long owes J g c) (next n start g c)
+      → Inv (journalsNext n start least most long owes J g c) (next g c)
   unfolding runCommands
   inv-next J g c h I p =
       subst (MachineInv (setup n start) (machine n start least most long owes) (places-apart n start)) (one n start least most long owes J g c h)
       (inv-commands (setup n start) (machine n start least most long owes) (places-apart n start) (command n start least most long owes c h ∷ []) (machineOf n start least most long owes J g) I p)
 
-  floors-next : (J : ℕ → Journal ℤ) (g : Group) (c : CallAt) → Holds J g
-      → Inv (journalsNext n start least most long owes J g c) (next n start g c) → ((k : ℕ) → k < n → 512 * J k .safe ≤ g .disks k .floor)
-      → (k : ℕ) → k < n → 512 * journalsNext n start least most long owes J g c k .safe ≤ next n start g c .disks k .floor
-  floors-next J g c K I low k below = by (eqb k (c .at)) refl
+  floors-next : (J : ℕ → Journal ℤ) (g : Group) (c : CallAt) → Ours n start (c .at) (g .memories (c .at)) (c .does) → Holds J g
+      → Inv (journalsNext n start least most long owes J g c) (next g c) → ((k : ℕ) → k < n → 512 * J k .safe ≤ g .disks k .floor)
+      → (k : ℕ) → k < n → 512 * journalsNext n start least most long owes J g c k .safe ≤ next g c .disks k .floor
+  floors-next J g c u K I low k below = by (eqb k (c .at)) refl
     where
       d′ : Disk
-      d′ = diskAfter (g .disks (c .at)) (c .does) (did n start g c .answer)
+      d′ = diskAfter (g .disks (c .at)) (c .does) (did g c .answer)
 
       J′ : Journal ℤ
       J′ = journalNext n start least most long owes (J (c .at)) (c .at) (g .memories (c .at)) (c .does)
 
       H′ : c .at < n → OnDisk n (d′ .journal) (J′ .kept)
-      H′ h = disk-next n start least most long owes (g .disks (c .at) .journal) (J (c .at)) (K .disks (c .at) h) (c .at) (g .memories (c .at)) (K .sound (c .at)) h (c .does)
+      H′ h = disk-next n start least most long owes (g .disks (c .at) .journal) (J (c .at)) (K .disks (c .at) h) (c .at) (g .memories (c .at)) (K .sound (c .at)) h (c .does) u
 
       s : J′ .safe ≤ length (J′ .kept)
       s = subst (λ (j : Journal ℤ). j .safe ≤ length (j .kept)) (update-same J (c .at) J′) (I .inv .journals (c .at) .safe)
@@ -139,7 +134,7 @@ module _ (n : ℕ) (start : List ℤ) (least : 2 ≤ n) (most : n ≤ 6) (long :
       by : (b : Bool) → eqb k (c .at) ≡ b → 512 * cond b J′ (J k) .safe ≤ cond b d′ (g .disks k) .floor
       by true e =
           let h : c .at < n = rw (eqb-true k (c .at) e) at below in
-          floor-by n (J (c .at)) (g .disks (c .at) .floor) (d′ .journal) _ (c .does) (did n start g c .answer) (low (c .at) h) (safe-bytes n (d′ .journal) J′ (H′ h) s)
+          floor-by (J (c .at)) (g .disks (c .at) .floor) (d′ .journal) _ (c .does) (did g c .answer) (low (c .at) h) (safe-bytes n (d′ .journal) J′ (H′ h) s)
       by false e = low k below
 
   pub premise : (cs : List CallAt) (f : Calls n cs) (J : ℕ → Journal ℤ) (g : Group) → Holds J g → Inv J g → ((k : ℕ) → k < n → 512 * J k .safe ≤ g .disks k .floor) → PremiseFrom n start g cs
@@ -149,10 +144,11 @@ module _ (n : ℕ) (start : List ℤ) (least : 2 ≤ n) (most : n ≤ 6) (long :
   premise (c ∷ cs) f J g K I low A =
       let h = f c (List·Memᴰ·head refl) .1 in
       let p = first g c cs A J K low h in
-      let K′ = kept-next n start least most long owes J g K c h in
+      let u = may g c cs A in
+      let K′ = kept-next n start least most long owes J g K c h u in
       let I′ = inv-next J g c h I p in (
         p .0,
         subst (λ (s : MachineSystem (setup n start) (machine n start least most long owes)). CommandPremise (setup n start) (machine n start least most long owes) s (commands n start least most long owes cs (λ d q. f d (List·Memᴰ·tail q))))
             (sym (one n start least most long owes J g c h))
-            (premise cs (λ d q. f d (List·Memᴰ·tail q)) (journalsNext n start least most long owes J g c) (next n start g c) K′ I′ (floors-next J g c K I′ low) (rest g c cs A)),
+            (premise cs (λ d q. f d (List·Memᴰ·tail q)) (journalsNext n start least most long owes J g c) (next g c) K′ I′ (floors-next J g c u K I′ low) (premise-rest n start g c cs A)),
       )

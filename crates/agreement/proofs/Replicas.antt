@@ -12,10 +12,13 @@ use borrow.Author.Tests.{ltb-true, ltb-false}
 use Rattle.block.specs.Message.{signed32}
 use Rattle.memory.specs.Memory.{Memory, noNumber}
 use Rattle.engine.specs.Calls.{Outcome}
+use Rattle.engine.specs.Calls.Answer.{restarted}
 use Rattle.engine.specs.Make.{madeMemory}
 use Rattle.engine.specs.Moves.{waiting}
 use Rattle.engine.specs.Step.{Call, step}
-use Rattle.engine.specs.Restart.{blocksIn}
+use Rattle.engine.specs.Restart.{blocksIn, restartStep}
+use Rattle.engine.specs.History.{AnyCall, anyStep}
+use Rattle.engine.specs.History.AnyCall.{call, restart}
 use Rattle.engine.proofs.Tests.{cond-by, less-by}
 use Rattle.engine.proofs.Steps.{restart-by}
 use Rattle.engine.proofs.Passed.{restart-passed}
@@ -25,15 +28,15 @@ use Rattle.engine.proofs.Frames.{own-same}
 use Rattle.engine.proofs.Reports.{made-own, restarted-own}
 use Rattle.protocol.specs.System.{made, PlacesApart}
 use Rattle.protocol.specs.Machine.{Alike, Performed, Refines, Machine}
-use Rattle.agreement.specs.Group.{GroupCall, call, restart, performed, argumentsOf, heard, madeMember}
+use Rattle.agreement.specs.Group.{argumentsOf, heard, madeMember}
 use Rattle.agreement.proofs.View.{setup, rowsFrom, placeAt, viewAt, Sound, Owed}
 use Rattle.agreement.proofs.Soundness.{sound-each, sound-made, sound-station}
-use Rattle.agreement.proofs.RestartStep.{meantBy, sound-restarted}
-use Rattle.agreement.proofs.MemberStep.{OwedAt, refuses-at, follows-at, replica-owes, replica-restarts, station-owes, station-restarts}
+use Rattle.agreement.proofs.RestartStep.{meantBy, sound-any}
+use Rattle.agreement.proofs.MemberStep.{AsMade, Ours, OwedAt, refuses-at, follows-at, replica-owes, replica-restarts, station-owes, station-restarts}
 
 -- a call whose value, where it has one, is a signed 32-bit number
 pub record TypedCall : Type 0 where
-  pub call : GroupCall
+  pub call : AnyCall
   pub value : signed32 (argumentsOf call .value) ≡ true
 
 -- a replica or a station just made is the model's
@@ -59,10 +62,10 @@ places-apart n start t s l h e = less-by t s (λ u. absurd (let z = next-round n
 module _ (n : ℕ) (start : List ℤ) (least : 2 ≤ n) (most : n ≤ 6) (long : length start ≡ 128)
     (owes : (m : Memory) → Sound n m → (c : Call) → Owed n start m c (step m c)) where
   abbrev pub perform : ℕ → Memory → TypedCall → Performed ℤ Memory
-  perform k m a = record { memory = performed n start k m (a .call) .memory; event = heard n (a .call) (performed n start k m (a .call) .answer) }
+  perform k m a = record { memory = anyStep m (a .call) .memory; event = heard (a .call) (anyStep m (a .call) .answer) }
 
   abbrev pub meaning : TypedCall → Option (Rattle.protocol.specs.System.Call ℤ)
-  meaning a = some (meantBy n (a .call))
+  meaning a = some (meantBy (a .call))
 
   -- member k is a replica with that number, or a station, which has none
   pub data Standing (k : ℕ) (m : Memory) : Type 0 where
@@ -79,28 +82,31 @@ module _ (n : ℕ) (start : List ℤ) (least : 2 ≤ n) (most : n ≤ 6) (long :
   stands-on k m o e (as-replica h q) = as-replica h (e ∙ q)
   stands-on k m o e (as-station h q) = as-station h (e ∙ q)
 
-  owes-at : (k : ℕ) (m : Memory) → SoundAt k m → (c : GroupCall) → OwedAt n start k m c (performed n start k m c)
+  owes-at : (k : ℕ) (m : Memory) → SoundAt k m → (c : AnyCall) → Ours n start k m c → OwedAt n start k m c (anyStep m c)
   owes-at k m s c = go c (s .stands)
     where
-      go : (c : GroupCall) → Standing k m → OwedAt n start k m c (performed n start k m c)
-      go (call c) (as-replica h q) = replica-owes n start k m q c (step m c) (own-same m c ∙ q) (owes m (s .sound) c)
-      go (call c) (as-station h q) = station-owes n start most k m (s .sound) h q c (owes m (s .sound) c)
-      go (restart j b) (as-replica h q) = replica-restarts n start k m q j b
-      go (restart j b) (as-station h q) = station-restarts n start most k m (s .sound) h q j b
+      go : (c : AnyCall) → Standing k m → Ours n start k m c → OwedAt n start k m c (anyStep m c)
+      go (call c) (as-replica h q) f = replica-owes n start k m q c (step m c) (own-same m c ∙ q) (owes m (s .sound) c)
+      go (call c) (as-station h q) f = station-owes n start most k m (s .sound) h q c (owes m (s .sound) c)
+      go (restart size own values j b) (as-replica h q) f = replica-restarts n start k m q size own values j b f
+      go (restart size own values j b) (as-station h q) f = station-restarts n start most k m (s .sound) h q size own values j b f
 
-  pub refines : (k : ℕ) (m : Memory) (a : TypedCall) → SoundAt k m → Refines (setup n start) (perform k) meaning (viewAt k) m a
-  refines k m a s = go (owes-at k m s (a .call))
+  pub refines : (k : ℕ) (m : Memory) (a : TypedCall) → SoundAt k m → Ours n start k m (a .call) → Refines (setup n start) (perform k) meaning (viewAt k) m a
+  refines k m a s f = go (owes-at k m s (a .call) f)
     where
-      go : OwedAt n start k m (a .call) (performed n start k m (a .call)) → Refines (setup n start) (perform k) meaning (viewAt k) m a
+      go : OwedAt n start k m (a .call) (anyStep m (a .call)) → Refines (setup n start) (perform k) meaning (viewAt k) m a
       go (refuses-at i h e l) = Refines.refuses i h e l
-      go (follows-at e l) = Refines.follows (meantBy n (a .call)) refl e l
+      go (follows-at e l) = Refines.follows (meantBy (a .call)) refl e l
 
-  pub stays : (k : ℕ) (m : Memory) (c : GroupCall) → signed32 (argumentsOf c .value) ≡ true → SoundAt k m → SoundAt k (performed n start k m c .memory)
-  stays k m (call c) v s = record { sound = sound-each n m (s .sound) c v; stands = stands-on k m (step m c .memory) (own-same m c) (s .stands) }
-  stays k m (restart j b) v s =
-      restart-by (λ (o : Outcome). SoundAt k (o .memory)) m n k start j b
-      (λ e. let h = restart-passed m n k start b e .among in
-      record { sound = sound-restarted n k start least most h long j; stands = as-replica h (restarted-own n k start (blocksIn n j)) }) (λ e. s)
+  pub stays : (k : ℕ) (m : Memory) (c : AnyCall) → signed32 (argumentsOf c .value) ≡ true → SoundAt k m → Ours n start k m c → SoundAt k (anyStep m c .memory)
+  stays k m (call c) v s f = record { sound = sound-each n m (s .sound) c v; stands = stands-on k m (step m c .memory) (own-same m c) (s .stands) }
+  stays k m (restart size own values j b) v s f = record { sound = sound-any n m (s .sound) (restart size own values j b) v; stands = by f }
+    where
+      by : Ours n start k m (restart size own values j b) → Standing k (restartStep m size own values j b .memory)
+      by =
+          restart-by (λ (o : Outcome). ((x : ℕ) (y : List ℕ) → o .answer ≡ restarted x y → AsMade n start k size own values) → Standing k (o .memory)) m size own values j b
+          (λ e f. let z = f _ _ refl in as-replica (omega (arith, restart-passed m size own values b e .among, z .0, z .1)) (restarted-own size own values (blocksIn size j) ∙ z .1))
+          (λ e f. s .stands)
 
   made-stands : (k : ℕ) → Standing k (madeMember n start k)
   made-stands k = cond-by (Standing k) (ltb k n) (λ e. as-replica (ltb-true k n e) (made-own n k _)) (λ e. as-station (ltb-false k n e) (made-own n noNumber _))
@@ -123,9 +129,10 @@ module _ (n : ℕ) (start : List ℤ) (least : 2 ≤ n) (most : n ≤ 6) (long :
     Member = λ k. Unit;
     view = viewAt;
     Sound = SoundAt;
+    Allowed = λ k m a. Ours n start k m (a .call);
     make = madeMember n start;
     refines = refines;
-    stays = λ k m a s. stays k m (a .call) (a .value) s;
+    stays = λ k m a s f. stays k m (a .call) (a .value) s f;
     made-sound = λ k h. made-sound k;
     made-alike = made-like;
   }

@@ -1,33 +1,36 @@
 -- A restart does what the model's restart does, and what holds of a replica's memory holds after it. Assumes nothing.
 use Prim.Native.Nat.{ℕ, _*_, _/_, _≤_, _<_}
 use mathlib.Core.Path.{_≡_, refl, _∙_, subst}
-use mathlib.Core.Bool.{false}
+use mathlib.Core.Bool.{true}
 use mathlib.Core.Option.{Option, none, some}
 use mathlib.Core.List.{List, map}
 use native.Mathlib.Omega.{arith}
 use lib.IntN.{ℤ}
 use lib.ListN.{length, replicate, length-map, length-replicate}
+use Rattle.block.specs.Message.{signed32}
 use Rattle.memory.specs.Memory.{Memory}
 use Rattle.engine.specs.Calls.{Outcome}
-use Rattle.engine.specs.Calls.Answer.{refused, restarted}
+use Rattle.engine.specs.Calls.Answer.{restarted}
 use Rattle.engine.specs.Moves.{waiting}
-use Rattle.engine.specs.Restart.{isGood, blocksIn, startReplay, repeated, lastOwn, restartedMemory, restartRefusal, restartStep}
+use Rattle.engine.specs.Restart.{isGood, blocksIn, startReplay, repeated, lastOwn, restartedMemory, restartRefusal}
+use Rattle.engine.specs.History.{AnyCall, anyStep}
+use Rattle.engine.specs.History.AnyCall.{call, restart}
 use Rattle.engine.proofs.Tests.{not-first}
 use Rattle.engine.proofs.Steps.{restart-by}
+use Rattle.engine.proofs.Passed.{restart-passed, restart-places}
 use Rattle.engine.proofs.ShapeMade.{getD-zeros}
 use Rattle.engine.proofs.RestartLaws.{AllGood, reads-good, reads-few, count-few}
 use Rattle.engine.proofs.ShapeRestart.{shape-restarted}
 use Rattle.engine.proofs.Sent.{sent-shapes}
 use Rattle.protocol.specs.Lists.{opt}
 use Rattle.protocol.specs.Writesets.{Message}
-use Rattle.protocol.specs.Replica.{Event}
 use Rattle.protocol.specs.Journal.{inSlotOrder, lastOf, startStore, restored}
 use Rattle.protocol.specs.Blocks.{readBlocks}
 use Rattle.protocol.specs.System.{step}
 use Rattle.protocol.specs.Machine.{Alike}
-use Rattle.agreement.specs.Group.{messageIn, GroupCall, call, restart, givenIn, heard}
-use Rattle.agreement.proofs.View.{setup, rowsFrom, placeAt, view, Sound, meant, alike-same}
-use Rattle.agreement.proofs.Soundness.{fits-zeros}
+use Rattle.agreement.specs.Group.{messageIn, argumentsOf, givenIn, heard}
+use Rattle.agreement.proofs.View.{setup, rowsFrom, placeAt, view, Sound, meant}
+use Rattle.agreement.proofs.Soundness.{fits-zeros, sound-each}
 use Rattle.agreement.proofs.RestartView.{reads-in-order, highest-own, given-last, Same, blocks-same}
 
 -- the messages of the lent blocks, up to one that is torn, fails its check or form, or has another N
@@ -35,9 +38,9 @@ abbrev pub lentMessages : ℕ → List ℕ → List (Message ℤ)
 lentMessages n journal = map messageIn (readBlocks 512 (isGood n) (length journal / 512) journal)
 
 -- the model's call
-abbrev pub meantBy : ℕ → GroupCall → Rattle.protocol.specs.System.Call ℤ
-meantBy n (call c) = meant c
-meantBy n (restart journal block) = Rattle.protocol.specs.System.Call.restart (lentMessages n journal)
+abbrev pub meantBy : AnyCall → Rattle.protocol.specs.System.Call ℤ
+meantBy (call c) = meant c
+meantBy (restart n own values journal block) = Rattle.protocol.specs.System.Call.restart (lentMessages n journal)
 
 pub not-nine : (m : Memory) (n k : ℕ) (start : List ℤ) (block : List ℕ) → restartRefusal m n k start block ≡ 9 → ⊥
 unfolding restartRefusal
@@ -92,7 +95,8 @@ module _ (n : ℕ) (start : List ℤ) (m : Memory) (journal block : List ℕ) wh
   pub given-back : (k : ℕ) → givenIn (lastOwn k (replicate 512 0) (blocksIn n journal)) ≡ lastOf k (map messageIn (blocksIn n journal))
   given-back k = given-last n k (replicate 512 0) bs good ∙ rw zeros-none (given-none (lastOf k (map messageIn bs)))
 
-  pub restart-event : heard n (restart journal block) (restarted (length (blocksIn n journal)) (lastOwn (m .group .own) (replicate 512 0) (blocksIn n journal)))
+  -- lent the replica's own number
+  pub restart-event : heard (restart n (m .group .own) start journal block) (restarted (length (blocksIn n journal)) (lastOwn (m .group .own) (replicate 512 0) (blocksIn n journal)))
       ≡ step (setup n start) (view m) (Rattle.protocol.specs.System.Call.restart (lentMessages n journal)) .event
   unfolding heard step
   restart-event =
@@ -102,20 +106,6 @@ module _ (n : ℕ) (start : List ℤ) (m : Memory) (journal block : List ℕ) wh
       (view (restartedMemory n (m .group .own) start (blocksIn n journal)))
   unfolding step
   restart-alike = rw (← read-messages) (restored-alike n (m .group .own) start bs good few)
-
-  -- what the outcome o of a restart owes
-  pub data RestartOwed (o : Outcome) : Type 0 where
-    turned-away : (c : ℕ) → (c ≡ 9 → ⊥) → heard n (restart journal block) (o .answer) ≡ Event.refused c → Alike (view m) (view (o .memory)) → RestartOwed o
-    restores : heard n (restart journal block) (o .answer) ≡ step (setup n start) (view m) (Rattle.protocol.specs.System.Call.restart (lentMessages n journal)) .event
-        → Alike (step (setup n start) (view m) (Rattle.protocol.specs.System.Call.restart (lentMessages n journal)) .replica) (view (o .memory)) → RestartOwed o
-
-  -- lent the replica's own number
-  pub restart-owes : (k : ℕ) → m .group .own ≡ k → RestartOwed (restartStep m n k start journal block)
-  unfolding heard
-  restart-owes k e =
-      subst (λ (i : ℕ). RestartOwed (restartStep m n i start journal block)) e
-      (restart-by RestartOwed m n (m .group .own) start journal block (λ z. restores restart-event restart-alike)
-      (λ z. turned-away (restartRefusal m n (m .group .own) start block) (not-nine m n (m .group .own) start block) refl (alike-same (view m))))
 
 -- ---- what holds of the memory
 
@@ -128,3 +118,16 @@ sound-restarted n k start l h o v journal = record {
   size = refl;
   fits = fits-zeros 48;
 }
+
+-- a restart that is accepted has the N of the memory, whose places are as many
+pub same-size : (n : ℕ) (m : Memory) → Sound n m → (size own : ℕ) (values : List ℤ) (block : List ℕ) → restartRefusal m size own values block ≡ 0 → size ≡ n
+same-size n m s size own values block e = omega (arith, restart-places m size own values block e, s .shape .lengths .places, s .size)
+
+-- of any call, lent anything
+pub sound-any : (n : ℕ) (m : Memory) → Sound n m → (c : AnyCall) → signed32 (argumentsOf c .value) ≡ true → Sound n (anyStep m c .memory)
+sound-any n m s (call c) v = sound-each n m s c v
+sound-any n m s (restart size own values journal block) v =
+    restart-by (λ (o : Outcome). Sound n (o .memory)) m size own values journal block
+    (λ e. let p = restart-passed m size own values block e in
+    subst (λ (i : ℕ). Sound i (restartedMemory size own values (blocksIn size journal))) (same-size n m s size own values block e) (sound-restarted size own values (p .least) (p .most) (p .among) (p .long) journal))
+    (λ e. s)

@@ -19,6 +19,8 @@ use Rattle.engine.specs.Moves.{sendNow, deliverNow, blockAtTurn, passNext, comm
 use Rattle.engine.specs.Step.{Call, step}
 use Rattle.engine.specs.Step.Call.{begin, read, write, ask, withdraw, report, send, deliver, work, load}
 use Rattle.engine.specs.Restart.{restartStep}
+use Rattle.engine.specs.History.{AnyCall, anyStep}
+use Rattle.engine.specs.History.AnyCall.{call, restart}
 use Rattle.engine.proofs.Tests.{cond-by}
 use Rattle.engine.proofs.Passed.{restart-passed}
 use Rattle.engine.proofs.Steps.{begin-by, read-by, write-by, ask-by, withdraw-by, send-by, deliver-by, work-by, load-by, restart-by}
@@ -32,18 +34,18 @@ use Rattle.protocol.specs.Machine.{Machine, CommandClaim, MachineSystem, Comman
 use Rattle.protocol.proofs.ListLaws.{update-by, mem-map}
 use Rattle.protocol.proofs.SequenceLaws.{map-append}
 use Rattle.agreement.specs.Group as group
-use Rattle.agreement.specs.Group.{messageIn, GroupCall, call, restart, performed, argumentsOf, givenIn, heard, Disk, diskAfter, Group, CallAt, fresh, did, blocksAfter, next, run, Comes, Calls, Lent, PremiseFrom}
+use Rattle.agreement.specs.Group.{messageIn, argumentsOf, givenIn, heard, Disk, diskAfter, Group, CallAt, fresh, did, blocksAfter, next, run, Comes, Calls, Lent, PremiseFrom}
 use Rattle.agreement.proofs.View.{setup, viewAt, Sound, meant, Owed}
-use Rattle.agreement.proofs.RestartStep.{lentMessages, meantBy}
-use Rattle.agreement.proofs.MemberStep.{view-own}
+use Rattle.agreement.proofs.RestartStep.{lentMessages, meantBy, sound-any}
+use Rattle.agreement.proofs.MemberStep.{Ours, view-own}
 use Rattle.agreement.proofs.JournalView.{OnDisk, no-block, disk-call, disk-restart, lent-cut}
 use Rattle.agreement.proofs.Replicas.{Standing, as-replica, as-station, SoundAt, stays, made-sound, replicas}
 
 -- ---- the messages of the blocks handed out
 
-work-message : (n : ℕ) (B : List (Message ℤ)) (c : GroupCall) (s : Step) → messagesAfter B (heard n c (worked s)) ≡ B
+work-message : (B : List (Message ℤ)) (c : AnyCall) (s : Step) → messagesAfter B (heard c (worked s)) ≡ B
 unfolding heard messagesAfter
-work-message n B c s = cond-by (λ (e : Event ℤ). messagesAfter B e ≡ B) (eqb (s .ticket) 0) (λ q. refl) (λ q. refl)
+work-message B c s = cond-by (λ (e : Event ℤ). messagesAfter B e ≡ B) (eqb (s .ticket) 0) (λ q. refl) (λ q. refl)
 
 given-message : (B : List (List ℕ)) (b : List ℕ) → opt (givenIn b) (map messageIn B) (λ w. map messageIn B ++ (w ∷ [])) ≡ map messageIn (opt (cond (eqb (getD b 0 0) 0) none (some b)) B (λ c. B ++ (c ∷ [])))
 given-message B b = go (eqb (getD b 0 0) 0)
@@ -52,29 +54,29 @@ given-message B b = go (eqb (getD b 0 0) 0)
     go true = refl
     go false = sym (map-append messageIn B (b ∷ []))
 
-messages-after : (n : ℕ) (B : List (List ℕ)) (c : GroupCall) (a : Answer) → messagesAfter (map messageIn B) (heard n c a) ≡ map messageIn (blocksAfter B a)
+messages-after : (B : List (List ℕ)) (c : AnyCall) (a : Answer) → messagesAfter (map messageIn B) (heard c a) ≡ map messageIn (blocksAfter B a)
 unfolding heard messagesAfter
-messages-after n B c (refused k) = refl
-messages-after n B c made = refl
-messages-after n B c (began t) = refl
-messages-after n B c (got v) = refl
-messages-after n B c wrote = refl
-messages-after n B c queued = refl
-messages-after n B c readOnly = refl
-messages-after n B c withdrew = refl
-messages-after n B c (reported r) = refl
-messages-after n B c (sent b) = sym (map-append messageIn B (b ∷ []))
-messages-after n B c kept = refl
-messages-after n B c (worked s) = work-message n (map messageIn B) c s
-messages-after n B c loaded = refl
-messages-after n B c (restarted k b) = given-message B b
+messages-after B c (refused k) = refl
+messages-after B c made = refl
+messages-after B c (began t) = refl
+messages-after B c (got v) = refl
+messages-after B c wrote = refl
+messages-after B c queued = refl
+messages-after B c readOnly = refl
+messages-after B c withdrew = refl
+messages-after B c (reported r) = refl
+messages-after B c (sent b) = sym (map-append messageIn B (b ∷ []))
+messages-after B c kept = refl
+messages-after B c (worked s) = work-message (map messageIn B) c s
+messages-after B c loaded = refl
+messages-after B c (restarted k b) = given-message B b
 
 -- ---- the premise
 
 -- no answer but a deliver's is a block kept
-module _ (n : ℕ) (B : List (Message ℤ)) where
+module _ (B : List (Message ℤ)) where
   abbrev Handed : Call → Outcome → Type 0
-  Handed c o = HandedOut B (heard n (call c) (o .answer))
+  Handed c o = HandedOut B (heard (call c) (o .answer))
 
   work-handed : (t : ℕ) (x y : Event ℤ) → HandedOut B x → HandedOut B y → HandedOut B (cond (eqb t 0) x y)
   work-handed t x y f g = cond-by (HandedOut B) (eqb t 0) (λ q. f) (λ q. g)
@@ -93,17 +95,17 @@ module _ (n : ℕ) (B : List (Message ℤ)) where
   handed m work f = work-by (Handed work) m (λ e k. tt) (λ e k. work-handed (recordAt (blockAtTurn m) (m .counts .done) .ticket) _ _ tt tt) (λ e. tt)
   handed m (load l) f = load-by (Handed (load l)) m l (λ e. tt) (λ e. tt)
 
-  pub restart-handed : (k : ℕ) (start : List ℤ) (m : Memory) (j l : List ℕ) → HandedOut B (heard n (restart j l) (restartStep m n k start j l .answer))
+  pub restart-handed : (m : Memory) (size own : ℕ) (values : List ℤ) (j l : List ℕ) → HandedOut B (heard (restart size own values j l) (restartStep m size own values j l .answer))
   unfolding heard
-  restart-handed k start m j l = restart-by (λ (o : Outcome). HandedOut B (heard n (restart j l) (o .answer))) m n k start j l (λ e. tt) (λ e. tt)
+  restart-handed m size own values j l = restart-by (λ (o : Outcome). HandedOut B (heard (restart size own values j l) (o .answer))) m size own values j l (λ e. tt) (λ e. tt)
 
 -- ---- a run
 
 -- with one more call at its end
-pub run-on : (n : ℕ) (start : List ℤ) (before : List CallAt) (g : Group) (c : CallAt) → run n start g (before ++ (c ∷ [])) ≡ next n start (run n start g before) c
+pub run-on : (before : List CallAt) (g : Group) (c : CallAt) → run g (before ++ (c ∷ [])) ≡ next (run g before) c
 unfolding run
-run-on n start [] g c = refl
-run-on n start (b ∷ bs) g c = run-on n start bs (next n start g b) c
+run-on [] g c = refl
+run-on (b ∷ bs) g c = run-on bs (next g b) c
 
 -- a first part of a list
 module _ (n : ℕ) (start : List ℤ) (cs before rest : List CallAt) (q : cs ≡ before ++ rest) where
@@ -113,11 +115,44 @@ module _ (n : ℕ) (start : List ℤ) (cs before rest : List CallAt) (q : cs ≡
   pub premise-part : (g : Group) → PremiseFrom n start g cs → PremiseFrom n start g before
   premise-part g A = record {
     delivered = λ b k bytes h. A .delivered b k bytes (on b _ h);
-    lent = λ b k j l x y h. A .lent b k j l x y (on b _ h);
+    lent = λ b k size own values j l x y h. A .lent b k size own values j l x y (on b _ h);
   }
     where
       on : (b : List CallAt) (d : CallAt) → Comes before b d → Comes cs b d
       on b d h = (h .0 ++ rest, q ∙ ap (λ (l : List CallAt). l ++ rest) (h .1) ∙ append-assoc b (d ∷ h .0) rest)
+
+-- behind the first call
+pub premise-rest : (n : ℕ) (start : List ℤ) (g : Group) (c : CallAt) (cs : List CallAt) → PremiseFrom n start g (c ∷ cs) → PremiseFrom n start (next g c) cs
+unfolding run
+premise-rest n start g c cs A = record {
+  delivered = λ before k b h. A .delivered (c ∷ before) k b (h .0, ap (λ (l : List CallAt). c ∷ l) (h .1));
+  lent = λ before k size own values j l x b h. A .lent (c ∷ before) k size own values j l x b (h .0, ap (λ (y : List CallAt). c ∷ y) (h .1));
+}
+
+-- what the premise says of a restart
+abbrev pub LentOurs : ℕ → List ℤ → ℕ → Memory → Disk → AnyCall → Type 0
+LentOurs n start k m d c = (size own : ℕ) (values : List ℤ) (j l : List ℕ) (x : ℕ) (b : List ℕ) → c ≡ restart size own values j l → restartStep m size own values j l .answer ≡ restarted x b
+    → (size ≡ n) × (own ≡ k) × (values ≡ start) × Lent m d j
+
+-- and of the first call
+pub premise-first : (n : ℕ) (start : List ℤ) (g : Group) (c : CallAt) (cs : List CallAt) → PremiseFrom n start g (c ∷ cs) → LentOurs n start (c .at) (g .memories (c .at)) (g .disks (c .at)) (c .does)
+unfolding run
+premise-first n start g c cs A size own values j l x b e = A .lent [] (c .at) size own values j l x b (cs, ap (λ (d : AnyCall). record { at = c .at; does = d } ∷ cs) e)
+
+pub lent-ours : (n : ℕ) (start : List ℤ) (k : ℕ) (m : Memory) (d : Disk) (c : AnyCall) → LentOurs n start k m d c → Ours n start k m c
+lent-ours n start k m d (call c) f = tt
+lent-ours n start k m d (restart size own values j l) f = λ x b q. let L = f size own values j l x b refl q in (L .0, L .1, L .2)
+
+-- ---- the memories, with no premise
+
+pub sound-run : (n : ℕ) (cs : List CallAt) → Calls n cs → (g : Group) → ((k : ℕ) → Sound n (g .memories k)) → (k : ℕ) → Sound n (run g cs .memories k)
+unfolding run
+sound-run n [] f g S = S
+sound-run n (c ∷ cs) f g S =
+    sound-run n cs (λ d h. f d (List·Memᴰ·tail h)) (next g c)
+    (update-by (λ (k : ℕ). Sound n) (g .memories) (c .at) (did g c .memory) (sound-any n (g .memories (c .at)) (S (c .at)) (c .does) (f c (List·Memᴰ·head refl) .1)) (λ j d. S j))
+
+-- ---- the machine
 
 module _ (n : ℕ) (start : List ℤ) (least : 2 ≤ n) (most : n ≤ 6) (long : length start ≡ 128)
     (owes : (m : Memory) → Sound n m → (c : Call) → Owed n start m c (step m c)) where
@@ -138,28 +173,28 @@ module _ (n : ℕ) (start : List ℤ) (least : 2 ≤ n) (most : n ≤ 6) (long :
   commands (c ∷ cs) f = command c (f c (List·Memᴰ·head refl) .1) ∷ commands cs (λ d h. f d (List·Memᴰ·tail h))
 
   -- the model's journal after a call
-  abbrev pub journalNext : Journal ℤ → ℕ → Memory → GroupCall → Journal ℤ
-  journalNext J k m c = let o = performed n start k m c in journalAfter J (appended (setup n start) (viewAt k m) (o .memory .turn .slot) (heard n c (o .answer))) (heard n c (o .answer))
+  abbrev pub journalNext : Journal ℤ → ℕ → Memory → AnyCall → Journal ℤ
+  journalNext J k m c = let o = anyStep m c in journalAfter J (appended (setup n start) (viewAt k m) (o .memory .turn .slot) (heard c (o .answer))) (heard c (o .answer))
 
   abbrev pub journalsNext : (ℕ → Journal ℤ) → Group → CallAt → ℕ → Journal ℤ
   journalsNext J g c = update J (c .at) (journalNext (J (c .at)) (c .at) (g .memories (c .at)) (c .does))
 
   unfoldable pub journalsRun : (ℕ → Journal ℤ) → Group → List CallAt → ℕ → Journal ℤ
   journalsRun J g [] = J
-  journalsRun J g (c ∷ cs) = journalsRun (journalsNext J g c) (next n start g c) cs
+  journalsRun J g (c ∷ cs) = journalsRun (journalsNext J g c) (next g c) cs
 
   pub one : (J : ℕ → Journal ℤ) (g : Group) (c : CallAt) (h : signed32 (argumentsOf (c .does) .value) ≡ true)
-      → afterCommand (setup n start) machine (machineOf J g) (command c h) ≡ machineOf (journalsNext J g c) (next n start g c)
+      → afterCommand (setup n start) machine (machineOf J g) (command c h) ≡ machineOf (journalsNext J g c) (next g c)
   one J g c h =
-      ap (λ (l : List (Message ℤ)). record { memories = next n start g c .memories; journals = journalsNext J g c; observed = next n start g c .observed; handouts = next n start g c .handouts; messages = l })
-      (messages-after n (g .blocks) (c .does) (did n start g c .answer))
+      ap (λ (l : List (Message ℤ)). record { memories = next g c .memories; journals = journalsNext J g c; observed = next g c .observed; handouts = next g c .handouts; messages = l })
+      (messages-after (g .blocks) (c .does) (did g c .answer))
 
-  pub runs : (cs : List CallAt) (f : Calls n cs) (J : ℕ → Journal ℤ) (g : Group) → runCommands (setup n start) machine (machineOf J g) (commands cs f) ≡ machineOf (journalsRun J g cs) (run n start g cs)
+  pub runs : (cs : List CallAt) (f : Calls n cs) (J : ℕ → Journal ℤ) (g : Group) → runCommands (setup n start) machine (machineOf J g) (commands cs f) ≡ machineOf (journalsRun J g cs) (run g cs)
   unfolding runCommands commands run journalsRun
   runs [] f J g = refl
   runs (c ∷ cs) f J g =
       ap (λ (s : MachineSystem (setup n start) machine). runCommands (setup n start) machine s (commands cs (λ d h. f d (List·Memᴰ·tail h)))) (one J g c (f c (List·Memᴰ·head refl) .1))
-      ∙ runs cs (λ d h. f d (List·Memᴰ·tail h)) (journalsNext J g c) (next n start g c)
+      ∙ runs cs (λ d h. f d (List·Memᴰ·tail h)) (journalsNext J g c) (next g c)
 
   -- ---- the memories and the disks, before each call
 
@@ -179,36 +214,39 @@ module _ (n : ℕ) (start : List ℤ) (least : 2 ≤ n) (most : n ≤ 6) (long :
       go (as-replica h q) = q
       go (as-station h q) = absurd (let w : ⊥ = omega arith in w)
 
-  pub disk-next : (l : List ℕ) (J : Journal ℤ) → OnDisk n l (J .kept) → (k : ℕ) (m : Memory) → Good k m → k < n → (c : GroupCall)
-      → OnDisk n (group.journalAfter l c (performed n start k m c .answer)) (journalNext J k m c .kept)
-  disk-next l J H k m s h (call c) = rw (view-own k m (own-is k m s h)) (disk-call n l J H start m (s .sound) c)
-  disk-next l J H k m s h (restart j b) = rw (view-own k m (own-is k m s h)) (disk-restart n l J H start m k j b)
+  pub disk-next : (l : List ℕ) (J : Journal ℤ) → OnDisk n l (J .kept) → (k : ℕ) (m : Memory) → Good k m → k < n → (c : AnyCall) → Ours n start k m c
+      → OnDisk n (group.journalAfter l c (anyStep m c .answer)) (journalNext J k m c .kept)
+  disk-next l J H k m s h (call c) f = rw (view-own k m (own-is k m s h)) (disk-call n l J H start m (s .sound) c)
+  disk-next l J H k m s h (restart size own values j b) f = rw (view-own k m (own-is k m s h)) (disk-restart n l J H start m size own values j b (λ x y q. f x y q .0))
 
-  pub kept-next : (J : ℕ → Journal ℤ) (g : Group) → Kept J g → (c : CallAt) → signed32 (argumentsOf (c .does) .value) ≡ true → Kept (journalsNext J g c) (next n start g c)
-  kept-next J g K c v = record {
-    sound = update-by Good (g .memories) (c .at) (did n start g c .memory)
-        (stays n start least most long owes (c .at) (g .memories (c .at)) (c .does) v (K .sound (c .at))) (λ j d. K .sound j);
+  pub kept-next : (J : ℕ → Journal ℤ) (g : Group) → Kept J g → (c : CallAt) → signed32 (argumentsOf (c .does) .value) ≡ true → Ours n start (c .at) (g .memories (c .at)) (c .does)
+      → Kept (journalsNext J g c) (next g c)
+  kept-next J g K c v f = record {
+    sound = update-by Good (g .memories) (c .at) (did g c .memory)
+        (stays n start least most long owes (c .at) (g .memories (c .at)) (c .does) v (K .sound (c .at)) f) (λ j d. K .sound j);
     disks = λ k h. by k h (eqb k (c .at)) refl;
   }
     where
-      by : (k : ℕ) → k < n → (b : Bool) → eqb k (c .at) ≡ b → OnDisk n (cond b (diskAfter (g .disks (c .at)) (c .does) (did n start g c .answer)) (g .disks k) .journal)
+      by : (k : ℕ) → k < n → (b : Bool) → eqb k (c .at) ≡ b → OnDisk n (cond b (diskAfter (g .disks (c .at)) (c .does) (did g c .answer)) (g .disks k) .journal)
           (cond b (journalNext (J (c .at)) (c .at) (g .memories (c .at)) (c .does)) (J k) .kept)
       by k h true e =
           let i : c .at < n = rw (eqb-true k (c .at) e) at h in
-          disk-next (g .disks (c .at) .journal) (J (c .at)) (K .disks (c .at) i) (c .at) (g .memories (c .at)) (K .sound (c .at)) i (c .does)
+          disk-next (g .disks (c .at) .journal) (J (c .at)) (K .disks (c .at) i) (c .at) (g .memories (c .at)) (K .sound (c .at)) i (c .does) f
       by k h false e = K .disks k h
 
-  pub kept-run : (cs : List CallAt) → Calls n cs → (J : ℕ → Journal ℤ) (g : Group) → Kept J g → Kept (journalsRun J g cs) (run n start g cs)
+  pub kept-run : (cs : List CallAt) → Calls n cs → (J : ℕ → Journal ℤ) (g : Group) → PremiseFrom n start g cs → Kept J g → Kept (journalsRun J g cs) (run g cs)
   unfolding run journalsRun
-  kept-run [] f J g K = K
-  kept-run (c ∷ cs) f J g K = kept-run cs (λ d h. f d (List·Memᴰ·tail h)) (journalsNext J g c) (next n start g c) (kept-next J g K c (f c (List·Memᴰ·head refl) .1))
+  kept-run [] f J g A K = K
+  kept-run (c ∷ cs) f J g A K =
+      kept-run cs (λ d h. f d (List·Memᴰ·tail h)) (journalsNext J g c) (next g c) (premise-rest n start g c cs A)
+      (kept-next J g K c (f c (List·Memᴰ·head refl) .1) (lent-ours n start (c .at) (g .memories (c .at)) (g .disks (c .at)) (c .does) (premise-first n start g c cs A)))
 
   -- ---- the premise
 
-  pub handed-at : (B : List (List ℕ)) (k : ℕ) (m : Memory) (c : GroupCall) → ((b : List ℕ) → c ≡ call (deliver b) → step m (deliver b) .answer ≡ kept → Mem b B)
-      → HandedOut (map messageIn B) (heard n c (performed n start k m c .answer))
-  handed-at B k m (call c) f = handed n (map messageIn B) m c (λ b e q. mem-map messageIn B b (f b (ap call e) q))
-  handed-at B k m (restart j l) f = restart-handed n (map messageIn B) k start m j l
+  pub handed-at : (B : List (List ℕ)) (m : Memory) (c : AnyCall) → ((b : List ℕ) → c ≡ call (deliver b) → step m (deliver b) .answer ≡ kept → Mem b B)
+      → HandedOut (map messageIn B) (heard c (anyStep m c .answer))
+  handed-at B m (call c) f = handed (map messageIn B) m c (λ b e q. mem-map messageIn B b (f b (ap call e) q))
+  handed-at B m (restart size own values j l) f = restart-handed (map messageIn B) m size own values j l
 
   -- a call of document 01 is no restart
   not-meant : (c : Call) (l : List (Message ℤ)) → meant c ≡ Rattle.protocol.specs.System.Call.restart l → ⊥
@@ -223,54 +261,55 @@ module _ (n : ℕ) (start : List ℤ) (least : 2 ≤ n) (most : n ≤ 6) (long :
   not-meant work l e = let z : _≡_ {A = ℕ} 0 1 = cc in omega arith
   not-meant (load c) l e = let z : _≡_ {A = ℕ} 0 1 = cc in omega arith
 
-  -- an accepted restart is a replica's
-  among : (k : ℕ) (m : Memory) (j l : List ℕ) (x : ℕ) (b : List ℕ) → restartStep m n k start j l .answer ≡ restarted x b → k < n
-  among k m j l x b = restart-by (λ (o : Outcome). o .answer ≡ restarted x b → k < n) m n k start j l
-      (λ e q. restart-passed m n k start l e .among) (λ e q. absurd (let z : _≡_ {A = ℕ} 0 1 = cc in let w : ⊥ = omega arith in w))
+  -- the number of an accepted restart is below its N
+  among : (m : Memory) (size own : ℕ) (values : List ℤ) (j l : List ℕ) (x : ℕ) (b : List ℕ) → restartStep m size own values j l .answer ≡ restarted x b → own < size
+  among m size own values j l x b = restart-by (λ (o : Outcome). o .answer ≡ restarted x b → own < size) m size own values j l
+      (λ e q. restart-passed m size own values l e .among) (λ e q. absurd (let z : _≡_ {A = ℕ} 0 1 = cc in let w : ⊥ = omega arith in w))
 
   -- what is heard of a restart says that it was accepted
-  accepted : (k : ℕ) (m : Memory) (j l : List ℕ) (held : List (Message ℤ)) (given : Option (Message ℤ)) → heard n (restart j l) (restartStep m n k start j l .answer) ≡ Event.restarted held given
-      → (x : ℕ) × (b : List ℕ) × (restartStep m n k start j l .answer ≡ restarted x b)
+  accepted : (m : Memory) (size own : ℕ) (values : List ℤ) (j l : List ℕ) (held : List (Message ℤ)) (given : Option (Message ℤ))
+      → heard (restart size own values j l) (restartStep m size own values j l .answer) ≡ Event.restarted held given → (x : ℕ) × (b : List ℕ) × (restartStep m size own values j l .answer ≡ restarted x b)
   unfolding heard
-  accepted k m j l held given = restart-by (λ (o : Outcome). heard n (restart j l) (o .answer) ≡ Event.restarted held given → (x : ℕ) × (b : List ℕ) × (o .answer ≡ restarted x b)) m n k start j l
+  accepted m size own values j l held given =
+      restart-by (λ (o : Outcome). heard (restart size own values j l) (o .answer) ≡ Event.restarted held given → (x : ℕ) × (b : List ℕ) × (o .answer ≡ restarted x b)) m size own values j l
       (λ e h. (_, _, refl)) (λ e h. let z : _≡_ {A = ℕ} 0 1 = cc in absurd (let w : ⊥ = omega arith in w))
 
-  pub lent-at : (J : Journal ℤ) (d : Disk) (k : ℕ) → (k < n → OnDisk n (d .journal) (J .kept)) → (k < n → 512 * J .safe ≤ d .floor) → (m : Memory) → Good k m → (c : GroupCall) (v : signed32 (argumentsOf c .value) ≡ true)
-      → ((j l : List ℕ) (x : ℕ) (b : List ℕ) → c ≡ restart j l → restartStep m n k start j l .answer ≡ restarted x b → Lent m d j)
-      → CommandLent (setup n start) machine J k m (record { call = c; value = v })
+  pub lent-at : (J : Journal ℤ) (d : Disk) (k : ℕ) → (k < n → OnDisk n (d .journal) (J .kept)) → (k < n → 512 * J .safe ≤ d .floor) → (m : Memory) → Good k m → (c : AnyCall) (v : signed32 (argumentsOf c .value) ≡ true)
+      → LentOurs n start k m d c → CommandLent (setup n start) machine J k m (record { call = c; value = v })
   lent-at J d k H low m s (call c) v f lent held given q e = absurd (not-meant c lent (let i : meant c ≡ Rattle.protocol.specs.System.Call.restart lent = cc in i))
-  lent-at J d k H low m s (restart j l) v f lent held given q e =
-      let w = accepted k m j l held given e in
-      let L = f j l (w .0) (w .1) refl (w .2) in
-      let i : lentMessages n j ≡ lent = cc in
-      let h = among k m j l (w .0) (w .1) (w .2) in
-      (record { call = call (L .ended); value = L .value }, rw (view-own k m (own-is k m s h)) (subst (Cut J _) i (lent-cut n (d .journal) J (H h) start m (s .sound) (d .floor) (low h) j L)))
+  lent-at J d k H low m s (restart size own values j l) v f lent held given q e =
+      let w = accepted m size own values j l held given e in
+      let L = f size own values j l (w .0) (w .1) refl (w .2) in
+      let i : lentMessages size j ≡ lent = cc in
+      let h : k < n = omega (arith, among m size own values j l (w .0) (w .1) (w .2), L .0, L .1) in
+      let C = lent-cut n (d .journal) J (H h) start m (s .sound) (d .floor) (low h) j (L .3) in
+      (record { call = call (L .3 .ended); value = L .3 .value }, tt, rw (view-own k m (own-is k m s h)) (subst (Cut J _) (ap (λ (z : ℕ). lentMessages z j) (sym (L .0)) ∙ i) C))
 
   -- ---- what is claimed of a call
 
   -- with the group g before it
   abbrev pub Said : List (Placed ℤ) → Group → CallAt → Type 0
-  Said F g c = CommandClaim (setup n start) F (g .handouts) (g .observed (c .at)) (c .at) (some (meantBy n (c .does))) (heard n (c .does) (did n start g c .answer))
+  Said F g c = CommandClaim (setup n start) F (g .handouts) (g .observed (c .at)) (c .at) (some (meantBy (c .does))) (heard (c .does) (did g c .answer))
 
   unfoldable AllSaid : List (Placed ℤ) → Group → List CallAt → Type 0
   AllSaid F g [] = Unit
-  AllSaid F g (c ∷ cs) = Said F g c × AllSaid F (next n start g c) cs
+  AllSaid F g (c ∷ cs) = Said F g c × AllSaid F (next g c) cs
 
   all-said : (F : List (Placed ℤ)) (cs : List CallAt) (f : Calls n cs) (J : ℕ → Journal ℤ) (g : Group) → CommandClaims (setup n start) machine F (machineOf J g) (commands cs f) → AllSaid F g cs
   unfolding AllSaid CommandClaims commands
   all-said F [] f J g h = tt
   all-said F (c ∷ cs) f J g h = (
     h .0,
-    all-said F cs (λ d q. f d (List·Memᴰ·tail q)) (journalsNext J g c) (next n start g c)
+    all-said F cs (λ d q. f d (List·Memᴰ·tail q)) (journalsNext J g c) (next g c)
         (subst (λ (s : MachineSystem (setup n start) machine). CommandClaims (setup n start) machine F s (commands cs (λ d q. f d (List·Memᴰ·tail q))))
         (one J g c (f c (List·Memᴰ·head refl) .1)) (h .1)),
   )
 
-  said-of : (F : List (Placed ℤ)) (before : List CallAt) (c : CallAt) (after : List CallAt) (g : Group) → AllSaid F g (before ++ (c ∷ after)) → Said F (run n start g before) c
+  said-of : (F : List (Placed ℤ)) (before : List CallAt) (c : CallAt) (after : List CallAt) (g : Group) → AllSaid F g (before ++ (c ∷ after)) → Said F (run g before) c
   unfolding AllSaid run
   said-of F [] c after g h = h .0
-  said-of F (b ∷ before) c after g h = said-of F before c after (next n start g b) (h .1)
+  said-of F (b ∷ before) c after g h = said-of F before c after (next g b) (h .1)
 
   pub said : (F : List (Placed ℤ)) (cs : List CallAt) (f : Calls n cs) (J : ℕ → Journal ℤ) (g : Group) → CommandClaims (setup n start) machine F (machineOf J g) (commands cs f)
-      → (before : List CallAt) (c : CallAt) → Comes cs before c → Said F (run n start g before) c
+      → (before : List CallAt) (c : CallAt) → Comes cs before c → Said F (run g before) c
   said F cs f J g h before c e = said-of F before c (e .0) g (subst (λ (l : List CallAt). AllSaid F g l) (e .1) (all-said F cs f J g h))

@@ -19,6 +19,7 @@ use Rattle.engine.specs.Client.{rowNo, rowIn, beginAt, rewriteAt, insertWrite, 
 use Rattle.engine.specs.Moves.{sendRefusal, sendNow, deliverNow, passNext, isLast, commitWriteset}
 use Rattle.engine.specs.Step.{Call, step}
 use Rattle.engine.specs.Step.Call.{begin, read, write, ask, withdraw, report, send, deliver, work, load}
+use Rattle.engine.specs.History.AnyCall.{call}
 use Rattle.engine.proofs.Tests.{clash, same-by, less-by, passes}
 use Rattle.engine.proofs.PartLaws.{insert-before, insert-here, insert-moved, insert-after, below-part}
 use Rattle.engine.proofs.Passed.{write-passed}
@@ -26,7 +27,7 @@ use Rattle.engine.proofs.Steps.{begin-by, read-by, write-by, ask-by, withdraw-b
 use Rattle.engine.proofs.ShapeMade.{shape-station}
 use Rattle.engine.proofs.Shapes.{shapes}
 use Rattle.engine.proofs.Sent.{sent-shapes}
-use Rattle.agreement.specs.Group.{call, argumentsOf}
+use Rattle.agreement.specs.Group.{argumentsOf}
 use Rattle.agreement.proofs.View.{Sound}
 
 -- each number of the list is a signed 32-bit one

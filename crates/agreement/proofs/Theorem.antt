@@ -56,7 +56,7 @@ module _ (n : ℕ) (start : List ℤ) (least : 2 ≤ n) (most : n ≤ 6) (long :
   Inv = MachineInv (setup n start) (machine n start least most long (owes n start)) (places-apart n start)
 
   abbrev pub InvAfter : Type 0
-  InvAfter = Inv (machineOf n start least most long (owes n start) journalsAfter (run n start (fresh n start) cs))
+  InvAfter = Inv (machineOf n start least most long (owes n start) journalsAfter (run (fresh n start) cs))
 
   pub inv-after : Calls n cs → Premise n start cs → InvAfter
   inv-after f p =

@@ -15,6 +15,7 @@ use Rattle.engine.specs.Calls.Answer.{restarted}
 use Rattle.engine.specs.Client.{reportOf}
 use Rattle.engine.specs.Restart.{blocksIn, writesetsIn, isFrom, restartStep}
 use Rattle.engine.specs.Tickets.{ownTickets, CountsOf}
+use Rattle.engine.specs.History.AnyCall.{restart}
 use Rattle.engine.proofs.Steps.{restart-by}
 use Rattle.engine.proofs.RestartLaws.{AllGood, good-taken, reads-good}
 use Rattle.engine.proofs.Tickets.{tickets-once}
@@ -23,7 +24,7 @@ use Rattle.protocol.specs.Writesets.{Writeset}
 use Rattle.protocol.specs.Observer.{TxnId, Observed, Placed, txnIds, observedAfter, sequence, idOf}
 use Rattle.protocol.proofs.ListLaws.{update-same}
 use Rattle.protocol.proofs.SequenceLaws.{map-append}
-use Rattle.agreement.specs.Group.{writesetFrom, messageIn, restart, heard, Group, CallAt, fresh, next, run, Comes, Calls, Premise}
+use Rattle.agreement.specs.Group.{writesetFrom, messageIn, heard, Group, CallAt, fresh, next, run, Comes, Calls, Premise}
 use Rattle.agreement.specs.Tickets.{Tickets}
 use Rattle.agreement.proofs.BlockView.{sender-seen}
 use Rattle.agreement.proofs.RestartView.{writesets-read, writesets-seen}
@@ -105,40 +106,40 @@ module _ (n k : ℕ) where
 module _ (n : ℕ) (start : List ℤ) where
   -- what is observed of a restart's commits
   commits-seen : (g : Group) (k : ℕ) (journal block : List ℕ) (count : ℕ) (given : List ℕ) → restartStep (g .memories k) n k start journal block .answer ≡ restarted count given
-      → next n start g (record { at = k; does = restart journal block }) .observed k .commits ≡ txnIds (map messageIn (blocksIn n journal))
+      → next g (record { at = k; does = restart n k start journal block }) .observed k .commits ≡ txnIds (map messageIn (blocksIn n journal))
   unfolding heard observedAfter
   commits-seen g k journal block count given e =
-      ap (λ (p : Observed ℤ). p .commits) (update-same (g .observed) k _ ∙ ap (λ (a : Answer). observedAfter (g .observed k) (heard n (restart journal block) a)) e)
+      ap (λ (p : Observed ℤ). p .commits) (update-same (g .observed) k _ ∙ ap (λ (a : Answer). observedAfter (g .observed k) (heard (restart n k start journal block) a)) e)
 
 -- ---- the theorem
 
 once : (n : ℕ) (start : List ℤ) → 2 ≤ n → n ≤ 6 → length start ≡ 128 → (cs : List CallAt) → Calls n cs → Premise n start cs
-    → List·Nodup (map idOf (sequence (run n start (fresh n start) cs .handouts)))
+    → List·Nodup (map idOf (sequence (run (fresh n start) cs .handouts)))
 once n start least most long cs f p = inv-after n start least most long cs f p .inv .whole .once
 
 first-once : (c : ℕ) (F : List (Placed ℤ)) → List·Nodup (map idOf F) → List·Nodup (map idOf (take c F))
 first-once c F d = Nodup·of-append-left (map idOf (drop c F)) (subst List·Nodup (ap (map idOf) (sym (take-append-drop c F)) ∙ map-append idOf (take c F) (drop c F)) d)
 
 lent-once : (n : ℕ) (start : List ℤ) → 2 ≤ n → n ≤ 6 → length start ≡ 128 → (cs : List CallAt) → Calls n cs → Premise n start cs
-    → (before : List CallAt) (k : ℕ) (journal block : List ℕ) (count : ℕ) (given : List ℕ) → Comes cs before (record { at = k; does = restart journal block })
-    → restartStep (run n start (fresh n start) before .memories k) n k start journal block .answer ≡ restarted count given → List·Nodup (ownTickets k (blocksIn n journal))
+    → (before : List CallAt) (k : ℕ) (journal block : List ℕ) (count : ℕ) (given : List ℕ) → Comes cs before (record { at = k; does = restart n k start journal block })
+    → restartStep (run (fresh n start) before .memories k) n k start journal block .answer ≡ restarted count given → List·Nodup (ownTickets k (blocksIn n journal))
 lent-once n start least most long cs f p before k journal block count given q e =
     own-once n k (blocksIn n journal) (reads-good n 0 _ journal)
     (subst List·Nodup (sym (I .inv .each k .track .logged) ∙ seen) (first-once (G .memories k .counts .commits) (sequence (G .handouts)) (I .inv .whole .once)))
   where
     c : CallAt
-    c = record { at = k; does = restart journal block }
+    c = record { at = k; does = restart n k start journal block }
 
     G : Group
-    G = run n start (fresh n start) (before ++ (record { at = k; does = restart journal block } ∷ []))
+    G = run (fresh n start) (before ++ (record { at = k; does = restart n k start journal block } ∷ []))
 
     I : InvAfter n start least most long (before ++ (c ∷ []))
     I =
         let e : cs ≡ (before ++ (c ∷ [])) ++ q .0 = q .1 ∙ sym (append-assoc before (c ∷ []) (q .0)) in
         inv-after n start least most long (before ++ (c ∷ [])) (calls-part n start cs (before ++ (c ∷ [])) (q .0) e f) (premise-part n start cs (before ++ (c ∷ [])) (q .0) e (fresh n start) p)
 
-    seen : run n start (fresh n start) (before ++ (c ∷ [])) .observed k .commits ≡ txnIds (map messageIn (blocksIn n journal))
-    seen = ap (λ (g : Group). g .observed k .commits) (run-on n start before (fresh n start) c) ∙ commits-seen n start (run n start (fresh n start) before) k journal block count given e
+    seen : run (fresh n start) (before ++ (c ∷ [])) .observed k .commits ≡ txnIds (map messageIn (blocksIn n journal))
+    seen = ap (λ (g : Group). g .observed k .commits) (run-on before (fresh n start) c) ∙ commits-seen n start (run (fresh n start) before) k journal block count given e
 
 pub tickets : Tickets
 tickets = record {
@@ -146,7 +147,7 @@ tickets = record {
   restarts = λ n start least most long cs f p before k journal block count given q e.
       let d = lent-once n start least most long cs f p before k journal block count given q e in (
         d,
-        restart-by (λ (o : Outcome). o .answer ≡ restarted count given → CountsOf k (blocksIn n journal) (reportOf (o .memory))) (run n start (fresh n start) before .memories k) n k start journal block
+        restart-by (λ (o : Outcome). o .answer ≡ restarted count given → CountsOf k (blocksIn n journal) (reportOf (o .memory))) (run (fresh n start) before .memories k) n k start journal block
             (λ z r. tickets-once .counts n k start journal d)
             (λ z r. let w : _≡_ {A = ℕ} 0 1 = cc in absurd (let v : ⊥ = omega arith in v)) e,
       );

@@ -20,12 +20,13 @@ use Rattle.engine.specs.Shape.{Shape}
 use Rattle.engine.specs.Sent.{SentShape}
 use Rattle.engine.specs.Step.{Call}
 use Rattle.engine.specs.Step.Call.{begin, read, write, ask, withdraw, report, send, deliver, work, load}
+use Rattle.engine.specs.History.AnyCall.{call}
 use Rattle.protocol.specs.Writesets.{Write, Message}
 use Rattle.protocol.specs.Replica.{Setup, Transaction, transaction, Cursor, Store, transactions, Blocks, Replica, replica, refused}
 use Rattle.protocol.specs.System.{step}
 use Rattle.protocol.specs.Machine.{Alike}
 use Rattle.protocol.proofs.Stations.{numbered}
-use Rattle.agreement.specs.Group.{writeOf, messageIn, call, heard}
+use Rattle.agreement.specs.Group.{writeOf, messageIn, heard}
 
 -- `sameMessage` is not asked: where a deliver of the replica's own block is accepted, its bytes are those sent
 abbrev pub setup : ℕ → List ℤ → Setup ℤ
@@ -103,8 +104,8 @@ meant (load l) = Rattle.protocol.specs.System.Call.load
 
 -- what the outcome o of call c on memory m owes: a refusal other than 9 that leaves the view alone, or the model's step
 pub data Owed (n : ℕ) (start : List ℤ) (m : Memory) (c : Call) (o : Outcome) : Type 0 where
-  refuses : (k : ℕ) → (k ≡ 9 → ⊥) → heard n (call c) (o .answer) ≡ refused k → Alike (view m) (view (o .memory)) → Owed n start m c o
-  follows : heard n (call c) (o .answer) ≡ step (setup n start) (view m) (meant c) .event → Alike (step (setup n start) (view m) (meant c) .replica) (view (o .memory))
+  refuses : (k : ℕ) → (k ≡ 9 → ⊥) → heard (call c) (o .answer) ≡ refused k → Alike (view m) (view (o .memory)) → Owed n start m c o
+  follows : heard (call c) (o .answer) ≡ step (setup n start) (view m) (meant c) .event → Alike (step (setup n start) (view m) (meant c) .replica) (view (o .memory))
       → Owed n start m c o
 
 pub alike-same : (r : Replica ℤ) → Alike r r

@@ -23,6 +23,7 @@ use Rattle.engine.specs.Moves.{waiting, blockAtTurn, writesetAt, hitTickets, wo
 use Rattle.engine.specs.Step.Call.{work}
 use Rattle.engine.specs.Shape.{Shape}
 use Rattle.engine.specs.Sent.{SentShape}
+use Rattle.engine.specs.History.AnyCall.{call}
 use Rattle.engine.proofs.Tests.{same-by, not-first}
 use Rattle.engine.proofs.Steps.{work-by}
 use Rattle.engine.proofs.RowLaws.{row-found}
@@ -40,7 +41,7 @@ use Rattle.protocol.specs.Client.{findTxn, without}
 use Rattle.protocol.specs.Moves.{advance, cursorAfter, storeAfter, afterAborts, afterEnd, conflicts, abortedBy, isSent, clearTurn, blocksAfter, commitStep, workStep}
 use Rattle.protocol.specs.System.{step}
 use Rattle.protocol.specs.Machine.{Alike}
-use Rattle.agreement.specs.Group.{writeOf, writesetFrom, messageIn, call, heard}
+use Rattle.agreement.specs.Group.{writeOf, writesetFrom, messageIn, heard}
 use Rattle.agreement.proofs.View.{setup, placeAt, openTxns, cursorOf, storeOf, blocksOf, view, Sound, Owed, follows, txnOf}
 use Rattle.agreement.proofs.ClientStep.{refused-owes}
 use Rattle.agreement.proofs.RowView.{find-row}
@@ -75,7 +76,7 @@ module _ (S : Setup ℤ) (r : Replica ℤ) (a : Message ℤ) (found : r .blocks 
 
 -- ---- one fact each
 
-heard-committed : (n : ℕ) (s : Step) → (s .ticket ≡ 0 → ⊥) → heard n (call work) (worked s) ≡ Rattle.protocol.specs.Replica.Event.committed (s .sender) (s .ticket) (s .aborted)
+heard-committed : (n : ℕ) (s : Step) → (s .ticket ≡ 0 → ⊥) → heard (call work) (worked s) ≡ Rattle.protocol.specs.Replica.Event.committed (s .sender) (s .ticket) (s .aborted)
 unfolding heard
 heard-committed n s d = rw (ne-eqb (s .ticket) 0 d)
 
@@ -98,7 +99,7 @@ cursor-same t done total false false u e = let z : done + 1 ≡ suc done = omega
 
 -- what the model does at a call is what the outcome shows
 owed-by : (n : ℕ) (start : List ℤ) (m : Memory) (o : Outcome) (q : Rattle.protocol.specs.Replica.Outcome ℤ) → workStep (setup n start) (view m) ≡ q
-    → heard n (call work) (o .answer) ≡ q .event → Alike (q .replica) (view (o .memory)) → Owed n start m work o
+    → heard (call work) (o .answer) ≡ q .event → Alike (q .replica) (view (o .memory)) → Owed n start m work o
 unfolding step
 owed-by n start m o q e a b = follows (rw e a) (rw e b)
 

@@ -24,6 +24,7 @@ use Rattle.engine.specs.Moves.{waiting}
 use Rattle.engine.specs.Shape.{Shape}
 use Rattle.engine.specs.Step.{step}
 use Rattle.engine.specs.Step.Call.{write}
+use Rattle.engine.specs.History.AnyCall.{call}
 use Rattle.engine.proofs.Tests.{bool-by, less-by, passes}
 use Rattle.engine.proofs.HasLaws.{index-none}
 use Rattle.engine.proofs.PartLaws.{below}
@@ -34,7 +35,7 @@ use Rattle.protocol.specs.Writesets.{has, put}
 use Rattle.protocol.specs.Replica.{Setup, Transaction, Store, transactions, Event}
 use Rattle.protocol.specs.Client.{ClientOutcome, answered, findTxn, without, withWrite, writeFound, writeStep}
 use Rattle.protocol.proofs.ListLaws.{any-true, and-true}
-use Rattle.agreement.specs.Group.{call, heard}
+use Rattle.agreement.specs.Group.{heard}
 use Rattle.agreement.proofs.View.{setup, txnOf, openTxns, storeOf, view, Sound, Owed}
 use Rattle.agreement.proofs.ClientStep.{refused-owes, client-owes}
 use Rattle.agreement.proofs.RowView.{open-row, ticket-of, find-row}
@@ -110,7 +111,7 @@ reached m t i n far e =
 -- the aborted count is all that changes beside the transactions
 owes-by : (n : ℕ) (start : List ℤ) (m : Memory) (t i : ℕ) (v : ℤ) (a : Answer) (y : Transactions) (ended : ℕ) (l : List (Transaction ℤ)) (e : Event ℤ)
     → writeStep (setup n start) (storeOf m) (view m .transactions) t i v ≡ answered (transactions (m .counts .tickets) l (waiting (m .txns .queue))) e
-    → heard n (call (write t i v)) a ≡ e → y .queue ≡ m .txns .queue → SameMembers l (openTxns y)
+    → heard (call (write t i v)) a ≡ e → y .queue ≡ m .txns .queue → SameMembers l (openTxns y)
     → Owed n start m (write t i v) (outcome a (withTxns m (withAborted (m .counts) ended) y))
 unfolding Rattle.protocol.specs.System.step
 owes-by n start m t i v a y ended l e h s q g =

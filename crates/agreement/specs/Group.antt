@@ -19,23 +19,15 @@ use Rattle.engine.specs.Station.{stationMemory}
 use Rattle.engine.specs.Step.{Call, step}
 use Rattle.engine.specs.Step.Call.{begin, read, write, ask, withdraw, report, send, deliver, work, load}
 use Rattle.engine.specs.Restart.{blocksIn, restartStep}
+use Rattle.engine.specs.History.{AnyCall, anyStep}
+use Rattle.engine.specs.History.AnyCall.{call, restart}
 use Rattle.protocol.specs.Lists.{opt, update, Mem}
 use Rattle.protocol.specs.Writesets.{Write, newWrite, Writeset, Message}
 use Rattle.protocol.specs.Replica.{Event}
 use Rattle.protocol.specs.Replica.Event.{passed, committed, requested, handedOut, accepted}
 use Rattle.protocol.specs.Observer.{noting, Observed, observing, Handout, observedAfter, handoutsAfter}
 
--- ---- the calls
-
--- a call at a replica or a station, or a replica's restart, which is lent a journal and a block, and N, its own number and the starting values as at Make
-pub data GroupCall : Type 0 where
-  call : Call → GroupCall
-  restart : (journal block : List ℕ) → GroupCall
-
--- at member k, on the memory that the last call there left
-abbrev pub performed : ℕ → List ℤ → ℕ → Memory → GroupCall → Outcome
-performed n start k m (call c) = step m c
-performed n start k m (restart journal block) = restartStep m n k start journal block
+-- ---- what a call is lent
 
 -- bytes: those of a deliver
 pub record Arguments : Type 0 where
@@ -48,7 +40,7 @@ abbrev pub arguments : ℕ → ℕ → ℤ → List ℕ → Arguments
 arguments t i v b = record { ticket = t; item = i; value = v; bytes = b }
 
 -- 0 and no bytes where a call has none
-abbrev pub argumentsOf : GroupCall → Arguments
+abbrev pub argumentsOf : AnyCall → Arguments
 argumentsOf (call begin) = arguments 0 0 (pos 0) []
 argumentsOf (call (read t i)) = arguments t i (pos 0) []
 argumentsOf (call (write t i v)) = arguments t i v []
@@ -59,11 +51,16 @@ argumentsOf (call (send block)) = arguments 0 0 (pos 0) []
 argumentsOf (call (deliver bytes)) = arguments 0 0 (pos 0) bytes
 argumentsOf (call work) = arguments 0 0 (pos 0) []
 argumentsOf (call (load classes)) = arguments 0 0 (pos 0) []
-argumentsOf (restart journal block) = arguments 0 0 (pos 0) []
+argumentsOf (restart n own values journal block) = arguments 0 0 (pos 0) []
 
-abbrev pub journalIn : GroupCall → List ℕ
+-- a restart's journal, and its blocks before the one at which the restart stops
+abbrev pub journalIn : AnyCall → List ℕ
 journalIn (call c) = []
-journalIn (restart journal block) = journal
+journalIn (restart n own values journal block) = journal
+
+abbrev pub blocksRead : AnyCall → List (List ℕ)
+blocksRead (call c) = []
+blocksRead (restart n own values journal block) = blocksIn n journal
 
 -- ---- what the observer is fed of a call: arguments and answer alone
 
@@ -81,23 +78,22 @@ messageIn b = record { slot = messageOf b .slot; sender = messageOf b .sender; w
 abbrev pub givenIn : List ℕ → Option (Message ℤ)
 givenIn b = cond (eqb (getD b 0 0) 0) none (some (messageIn b))
 
--- n the group's size; a work that committed nothing names ticket 0; a restart's commits are of the lent journal's blocks before the one at which it stops, whatever count
--- it answers; no call answers `made`
-unfoldable pub heard : ℕ → GroupCall → Answer → Event ℤ
-heard n c (refused k) = Event.refused k
-heard n c made = Event.wasMade
-heard n c (began t) = Event.began t
-heard n c (got v) = Event.got (argumentsOf c .ticket) (argumentsOf c .item) v
-heard n c wrote = Event.wrote (argumentsOf c .ticket) (argumentsOf c .item) (argumentsOf c .value)
-heard n c queued = requested (argumentsOf c .ticket)
-heard n c readOnly = requested (argumentsOf c .ticket)
-heard n c withdrew = Event.withdrew (argumentsOf c .ticket)
-heard n c (reported r) = Event.reported (r .turn) (r .commits)
-heard n c (sent b) = handedOut (messageIn b)
-heard n c kept = accepted (messageIn (argumentsOf c .bytes))
-heard n c (worked s) = cond (eqb (s .ticket) 0) (passed (s .sender) (s .aborted)) (committed (s .sender) (s .ticket) (s .aborted))
-heard n c loaded = Event.loaded
-heard n c (restarted k b) = Event.restarted (map messageIn (blocksIn n (journalIn c))) (givenIn b)
+-- a work that committed nothing names ticket 0; a restart's commits are of the blocks read, whatever count it answers; no call answers `made`
+unfoldable pub heard : AnyCall → Answer → Event ℤ
+heard c (refused k) = Event.refused k
+heard c made = Event.wasMade
+heard c (began t) = Event.began t
+heard c (got v) = Event.got (argumentsOf c .ticket) (argumentsOf c .item) v
+heard c wrote = Event.wrote (argumentsOf c .ticket) (argumentsOf c .item) (argumentsOf c .value)
+heard c queued = requested (argumentsOf c .ticket)
+heard c readOnly = requested (argumentsOf c .ticket)
+heard c withdrew = Event.withdrew (argumentsOf c .ticket)
+heard c (reported r) = Event.reported (r .turn) (r .commits)
+heard c (sent b) = handedOut (messageIn b)
+heard c kept = accepted (messageIn (argumentsOf c .bytes))
+heard c (worked s) = cond (eqb (s .ticket) 0) (passed (s .sender) (s .aborted)) (committed (s .sender) (s .ticket) (s .aborted))
+heard c loaded = Event.loaded
+heard c (restarted k b) = Event.restarted (map messageIn (blocksRead c)) (givenIn b)
 
 -- the block that a call hands out: a send's; a restart's, unless it is zeros
 abbrev pub handedOutIn : Answer → Option (List ℕ)
@@ -127,7 +123,7 @@ abbrev pub disk : List ℕ → ℕ → Disk
 disk l n = record { journal = l; floor = n }
 
 -- a send appends its block, a work another's where the turn leaves its slot; a restart's journal goes on behind the last block committed
-abbrev pub journalAfter : List ℕ → GroupCall → Answer → List ℕ
+abbrev pub journalAfter : List ℕ → AnyCall → Answer → List ℕ
 journalAfter l c (refused n) = l
 journalAfter l c made = l
 journalAfter l c (began t) = l
@@ -143,7 +139,7 @@ journalAfter l c (worked s) = l ++ s .append
 journalAfter l c loaded = l
 journalAfter l c (restarted k b) = take (512 * k) (journalIn c)
 
-abbrev pub diskAfter : Disk → GroupCall → Answer → Disk
+abbrev pub diskAfter : Disk → AnyCall → Answer → Disk
 diskAfter d c a = let l = journalAfter (d .journal) c a in disk l (opt (handedOutIn a) (d .floor) (λ b. length l))
 
 -- ---- the group
@@ -158,7 +154,7 @@ pub record Group : Type 0 where
 
 pub record CallAt : Type 0 where
   pub at : ℕ
-  pub does : GroupCall
+  pub does : AnyCall
 
 abbrev pub blocksAfter : List (List ℕ) → Answer → List (List ℕ)
 blocksAfter B a = opt (handedOutIn a) B (λ b. B ++ (b ∷ []))
@@ -178,26 +174,26 @@ module _ (n : ℕ) (start : List ℤ) where
     blocks = [];
   }
 
-  -- a call acts on the memory that the last call at its member left
-  abbrev pub did : Group → CallAt → Outcome
-  did g c = performed n start (c .at) (g .memories (c .at)) (c .does)
+-- a call acts on the memory that the last call at its member left
+abbrev pub did : Group → CallAt → Outcome
+did g c = anyStep (g .memories (c .at)) (c .does)
 
-  -- the group after a call with this outcome
-  abbrev pub nextBy : Outcome → Group → CallAt → Group
-  nextBy o g c = record {
-    memories = update (g .memories) (c .at) (o .memory);
-    disks = update (g .disks) (c .at) (diskAfter (g .disks (c .at)) (c .does) (o .answer));
-    observed = update (g .observed) (c .at) (observedAfter (g .observed (c .at)) (heard n (c .does) (o .answer)));
-    handouts = handoutsAfter (g .handouts) (c .at) (g .observed (c .at)) (heard n (c .does) (o .answer));
-    blocks = blocksAfter (g .blocks) (o .answer);
-  }
+-- the group after a call with this outcome
+abbrev pub nextBy : Outcome → Group → CallAt → Group
+nextBy o g c = record {
+  memories = update (g .memories) (c .at) (o .memory);
+  disks = update (g .disks) (c .at) (diskAfter (g .disks (c .at)) (c .does) (o .answer));
+  observed = update (g .observed) (c .at) (observedAfter (g .observed (c .at)) (heard (c .does) (o .answer)));
+  handouts = handoutsAfter (g .handouts) (c .at) (g .observed (c .at)) (heard (c .does) (o .answer));
+  blocks = blocksAfter (g .blocks) (o .answer);
+}
 
-  abbrev pub next : Group → CallAt → Group
-  next g c = nextBy (did g c) g c
+abbrev pub next : Group → CallAt → Group
+next g c = nextBy (did g c) g c
 
-  unfoldable pub run : Group → List CallAt → Group
-  run g [] = g
-  run g (c ∷ cs) = run (next g c) cs
+unfoldable pub run : Group → List CallAt → Group
+run g [] = g
+run g (c ∷ cs) = run (next g c) cs
 
 -- ---- lists of calls
 
@@ -206,9 +202,9 @@ abbrev pub Comes : List CallAt → List CallAt → CallAt → Type 0
 Comes cs before c = (after : List CallAt) × (cs ≡ before ++ (c ∷ after))
 
 -- a restart is a replica's; any other call may be a station's
-abbrev pub MayBeAt : ℕ → ℕ → GroupCall → Type 0
+abbrev pub MayBeAt : ℕ → ℕ → AnyCall → Type 0
 MayBeAt n k (call c) = Unit
-MayBeAt n k (restart journal block) = k < n
+MayBeAt n k (restart size own values journal block) = k < n
 
 -- each call is at a replica of the group or at a station, and a value written is a signed 32-bit number, as the calls' types have it; all else is any
 abbrev pub Calls : ℕ → List CallAt → Type 0
@@ -222,15 +218,16 @@ pub record Lent (m : Memory) (d : Disk) (journal : List ℕ) : Type 0 where
   pub part : journal ≡ take count (journalAfter (d .journal) (call ended) (step m ended .answer))
   pub enough : d .floor ≤ length journal
 
--- of a list of calls from the group g
+-- of a list of calls from the group g, of n replicas with the starting values `start`
 pub record PremiseFrom (n : ℕ) (start : List ℤ) (g : Group) (cs : List CallAt) : Type 0 where
   -- bytes that a deliver accepts equal a block handed out earlier in the list
   pub delivered : (before : List CallAt) (k : ℕ) (bytes : List ℕ) → Comes cs before (record { at = k; does = call (deliver bytes) })
-      → step (run n start g before .memories k) (deliver bytes) .answer ≡ kept → Mem bytes (run n start g before .blocks)
-  -- a restart that is accepted was lent what a cut leaves
-  pub lent : (before : List CallAt) (k : ℕ) (journal block : List ℕ) (count : ℕ) (given : List ℕ) → Comes cs before (record { at = k; does = restart journal block })
-      → restartStep (run n start g before .memories k) n k start journal block .answer ≡ restarted count given
-      → Lent (run n start g before .memories k) (run n start g before .disks k) journal
+      → step (run g before .memories k) (deliver bytes) .answer ≡ kept → Mem bytes (run g before .blocks)
+  -- a restart that is accepted was lent N, its own number and the starting values, as at Make, and what a cut leaves
+  pub lent : (before : List CallAt) (k size own : ℕ) (values : List ℤ) (journal block : List ℕ) (count : ℕ) (given : List ℕ)
+      → Comes cs before (record { at = k; does = restart size own values journal block })
+      → restartStep (run g before .memories k) size own values journal block .answer ≡ restarted count given
+      → (size ≡ n) × (own ≡ k) × (values ≡ start) × Lent (run g before .memories k) (run g before .disks k) journal
 
 abbrev pub Premise : ℕ → List ℤ → List CallAt → Type 0
 Premise n start cs = PremiseFrom n start (fresh n start) cs

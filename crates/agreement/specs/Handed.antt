@@ -20,7 +20,7 @@ use Rattle.agreement.specs.Group.{CallAt, fresh, run, Calls}
 pub record ReadsBack : Type 0 where
   -- a send's block, after any list of calls and restarts
   pub sends : (n : ℕ) (start : List ℤ) → 2 ≤ n → n ≤ 6 → length start ≡ 128 → (cs : List CallAt) → Calls n cs → (k : ℕ) → k < n → (lent block : List ℕ)
-      → let m = run n start (fresh n start) cs .memories k in step m (send lent) .answer ≡ sent block → (blockRefusal block ≡ 0) × (messageOf block ≡ messageFor m)
+      → let m = run (fresh n start) cs .memories k in step m (send lent) .answer ≡ sent block → (blockRefusal block ≡ 0) × (messageOf block ≡ messageFor m)
   -- the block that a restart gives back, on any memory and from any journal
   pub restarts : (m : Memory) (n own : ℕ) (values : List ℤ) (journal lent : List ℕ) (count : ℕ) (block : List ℕ) → restartStep m n own values journal lent .answer ≡ restarted count block
       → (block ≡ replicate 512 0) ⊎ (blockRefusal block ≡ 0)

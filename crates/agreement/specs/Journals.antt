@@ -18,7 +18,7 @@ blocksAt t = t .slot + cond (isOn (t .sent)) 1 0
 -- with any bytes, any journals lent and no premise
 abbrev pub JournalLength : Type 0
 JournalLength = (n : ℕ) (start : List ℤ) → 2 ≤ n → n ≤ 6 → length start ≡ 128 → (cs : List CallAt) → Calls n cs → (k : ℕ) → k < n
-    → let g = run n start (fresh n start) cs in length (g .disks k .journal) ≡ 512 * blocksAt (g .memories k .turn)
+    → let g = run (fresh n start) cs in length (g .disks k .journal) ≡ 512 * blocksAt (g .memories k .turn)
 
 -- the journal is `count` blocks; D: what was put down, which rises by slot
 pub record InSlotOrder (n : ℕ) (D : List (Handout ℤ)) (count : ℕ) (journal : List ℕ) : Type 0 where
@@ -29,4 +29,4 @@ pub record InSlotOrder (n : ℕ) (D : List (Handout ℤ)) (count : ℕ) (journal
 
 abbrev pub JournalTheorem : Type 0
 JournalTheorem = (n : ℕ) (start : List ℤ) → 2 ≤ n → n ≤ 6 → length start ≡ 128 → (cs : List CallAt) → Calls n cs → Premise n start cs → (k : ℕ) → k < n
-    → let g = run n start (fresh n start) cs in InSlotOrder n (g .handouts) (blocksAt (g .memories k .turn)) (g .disks k .journal)
+    → let g = run (fresh n start) cs in InSlotOrder n (g .handouts) (blocksAt (g .memories k .turn)) (g .disks k .journal)

@@ -8,4 +8,4 @@ use Rattle.agreement.specs.Group.{CallAt, fresh, run, Calls}
 
 pub record SixRows : Type 0 where
   pub tables : (n : ℕ) (start : List ℤ) → 2 ≤ n → n ≤ 6 → length start ≡ 128 → (cs : List CallAt) → Calls n cs → (k : ℕ)
-      → length (run n start (fresh n start) cs .memories k .txns .table) ≡ 6
+      → length (run (fresh n start) cs .memories k .txns .table) ≡ 6

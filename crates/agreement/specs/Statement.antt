@@ -5,16 +5,18 @@ use mathlib.Core.Bool.{true}
 use mathlib.Core.List.{List, map}
 use lib.IntN.{ℤ, pos}
 use lib.ListN.{length, getD, take}
+use Rattle.memory.specs.Memory.{Store}
 use Rattle.engine.specs.declared.Report.{Report}
 use Rattle.engine.specs.Calls.{Answer, Step}
 use Rattle.engine.specs.Calls.Answer.{refused, got, worked}
 use Rattle.engine.specs.Client.{reportOf}
 use Rattle.engine.specs.Step.{Call, step}
 use Rattle.engine.specs.Step.Call.{read, write, work}
+use Rattle.engine.specs.History.AnyCall.{call}
 use Rattle.protocol.specs.Lists.{Mem}
 use Rattle.protocol.specs.Writesets.{Write, has, lookup, Disjoint}
 use Rattle.protocol.specs.Observer.{Observed, Placed, Handout, sequence, idOf, applyAll, handoutMessage, noPlaced, noHandout}
-use Rattle.agreement.specs.Group.{messageIn, Group, call, CallAt, fresh, run, Comes, Calls, Premise}
+use Rattle.agreement.specs.Group.{messageIn, Group, CallAt, fresh, run, Comes, Calls, Premise}
 
 -- the writeset at a place of the sequence, counted from 1
 abbrev pub placed : List (Placed ℤ) → ℕ → Placed ℤ
@@ -28,17 +30,24 @@ InSequence D k t = (e : Placed ℤ) × Mem e (sequence D) × (e .sender ≡ k) �
 abbrev pub Share : List (Write ℤ) → List (Write ℤ) → Type 0
 Share a b = (i : ℕ) × (has i a ≡ true) × (has i b ≡ true)
 
+-- the stamp of an item after the first c writesets: the place of the last of them that has the item, which is the commit count just after it, 0 where none has
+pub record IsStamp (F : List (Placed ℤ)) (c item stamp : ℕ) : Type 0 where
+  pub within : stamp ≤ c
+  pub written : 0 < stamp → has item (placed F stamp .writes) ≡ true
+  pub last : (q : ℕ) → stamp < q → q ≤ c → has item (placed F q .writes) ≡ true → ⊥
+
 module _ (start : List ℤ) (F : List (Placed ℤ)) (D : List (Handout ℤ)) where
-  -- of a replica or a station, what is kept of it and what it reports
-  pub record Agrees (p : Observed ℤ) (held : List ℤ) (r : Report) : Type 0 where
+  -- of a replica or a station, what is kept of it, what it holds and what it reports
+  pub record Agrees (p : Observed ℤ) (held : Store) (r : Report) : Type 0 where
     -- its commits are the first c of the sequence, by sender and ticket, c the commit count in its report
     pub commits : p .commits ≡ map idOf (take (r .commits) F)
     pub counted : length (p .commits) ≡ r .commits
     -- and hold every writeset put down under a slot below its turn, by sender and ticket and by place
     pub below : (h : Handout ℤ) → Mem h D → h .slot < r .turn → (e : Placed ℤ) → Mem e (h .writesets) → Mem (idOf e) (p .commits)
     pub reached : (i : ℕ) → i < length D → getD D i noHandout .slot < r .turn → length (sequence (take (suc i) D)) ≤ r .commits
-    -- its values are the starting ones with those put in, in order
-    pub values : held ≡ applyAll start (take (r .commits) F)
+    -- its values are the starting ones with those put in, in order, and its stamps tell the last of them
+    pub values : held .values ≡ applyAll start (take (r .commits) F)
+    pub stamps : (i : ℕ) → IsStamp F (r .commits) i (getD (held .stamps) i 0)
 
 -- the transaction at place p began before it, and no writeset between its start and its place shares an item with it
 pub record FirstCommitter (F : List (Placed ℤ)) (p : ℕ) : Type 0 where
@@ -48,7 +57,7 @@ pub record FirstCommitter (F : List (Placed ℤ)) (p : ℕ) : Type 0 where
 module _ (n : ℕ) (start : List ℤ) (cs : List CallAt) where
   -- the group after some of the calls, and after all
   abbrev pub groupAfter : List CallAt → Group
-  groupAfter before = run n start (fresh n start) before
+  groupAfter before = run (fresh n start) before
 
   abbrev pub handouts : List (Handout ℤ)
   handouts = groupAfter cs .handouts
@@ -68,10 +77,10 @@ module _ (n : ℕ) (start : List ℤ) (cs : List CallAt) where
     -- the records of each block handed out are the tickets and writes put down under its slot, in order; and nothing else was put down
     pub blocks : (b : List ℕ) → Mem b (groupAfter cs .blocks) → Mem (messageIn b) (map handoutMessage handouts)
     pub handed : (h : Handout ℤ) → Mem h handouts → Mem (handoutMessage h) (map messageIn (groupAfter cs .blocks))
-    -- each replica has committed a beginning of the sequence and holds its values
-    pub replicas : (k : ℕ) → k < n → Agrees start F handouts (groupAfter cs .observed k) (groupAfter cs .memories k .store .values) (reportOf (groupAfter cs .memories k))
+    -- each replica has committed a beginning of the sequence and holds its values and stamps
+    pub replicas : (k : ℕ) → k < n → Agrees start F handouts (groupAfter cs .observed k) (groupAfter cs .memories k .store) (reportOf (groupAfter cs .memories k))
     -- so has each station
-    pub stations : (k : ℕ) → n ≤ k → Agrees start F handouts (groupAfter cs .observed k) (groupAfter cs .memories k .store .values) (reportOf (groupAfter cs .memories k))
+    pub stations : (k : ℕ) → n ≤ k → Agrees start F handouts (groupAfter cs .observed k) (groupAfter cs .memories k .store) (reportOf (groupAfter cs .memories k))
     -- each accepted read, at a station too, gave the value then noted, else the item's value after the first *start* writesets of the sequence
     pub reads : (before : List CallAt) (k t i : ℕ) (v : ℤ) → Comes cs before (record { at = k; does = call (read t i) }) → answer before k (read t i) ≡ got v
         → let note = groupAfter before .observed k .noted t in v ≡ lookup i (getD (applyAll start (take (note .start) F)) i (pos 0)) (note .writes)

@@ -8,15 +8,16 @@ use Rattle.engine.specs.Calls.Answer.{restarted}
 use Rattle.engine.specs.Client.{reportOf}
 use Rattle.engine.specs.Restart.{blocksIn, restartStep}
 use Rattle.engine.specs.Tickets.{ownTickets, CountsOf}
+use Rattle.engine.specs.History.AnyCall.{restart}
 use Rattle.protocol.specs.Observer.{sequence, idOf}
-use Rattle.agreement.specs.Group.{restart, CallAt, fresh, run, Comes, Calls, Premise}
+use Rattle.agreement.specs.Group.{CallAt, fresh, run, Comes, Calls, Premise}
 
 pub record Tickets : Type 0 where
   -- no ticket of a replica is put down twice
   pub once : (n : ℕ) (start : List ℤ) → 2 ≤ n → n ≤ 6 → length start ≡ 128 → (cs : List CallAt) → Calls n cs → Premise n start cs
-      → List·Nodup (map idOf (sequence (run n start (fresh n start) cs .handouts)))
-  -- nor does one stand twice in the own blocks of the journal that an accepted restart is lent: `repeated` is 0, and Report's counts after it are those of the blocks
+      → List·Nodup (map idOf (sequence (run (fresh n start) cs .handouts)))
+  -- nor does one stand twice in the own blocks of the journal that an accepted restart is lent, all else as the premise has it: `repeated` is 0, and Report's counts after it are those of the blocks
   pub restarts : (n : ℕ) (start : List ℤ) → 2 ≤ n → n ≤ 6 → length start ≡ 128 → (cs : List CallAt) → Calls n cs → Premise n start cs
-      → (before : List CallAt) (k : ℕ) (journal block : List ℕ) (count : ℕ) (given : List ℕ) → Comes cs before (record { at = k; does = restart journal block })
-      → let o = restartStep (run n start (fresh n start) before .memories k) n k start journal block in o .answer ≡ restarted count given
+      → (before : List CallAt) (k : ℕ) (journal block : List ℕ) (count : ℕ) (given : List ℕ) → Comes cs before (record { at = k; does = restart n k start journal block })
+      → let o = restartStep (run (fresh n start) before .memories k) n k start journal block in o .answer ≡ restarted count given
       → List·Nodup (ownTickets k (blocksIn n journal)) × CountsOf k (blocksIn n journal) (reportOf (o .memory))

@@ -2,7 +2,7 @@
 use Prim.Native.Nat.{ℕ, _≤_, _<_}
 use mathlib.Core.Path.{_≡_, refl, sym, ap, _∙_}
 use mathlib.Core.Bool.{true}
-use mathlib.Core.List.{List, List·Memᴰ·head, List·Memᴰ·not-nil, List·Memᴰ·tail, [], _∷_, _++_}
+use mathlib.Core.List.{List, List·Memᴰ·head, List·Memᴰ·not-nil, List·Memᴰ·tail, [], _∷_, _++_, map}
 use lib.Dec.{eqb}
 use lib.IntN.{ℤ}
 use lib.ListN.{length}
@@ -17,17 +17,20 @@ use Rattle.engine.specs.Step.{Call, step, after}
 use Rattle.engine.specs.Step.Call.{begin, read, write, ask, withdraw, report, send, deliver, work, load}
 use Rattle.engine.specs.Restart.{restartStep}
 use Rattle.engine.specs.Station.{stationMemory, stationStep}
+use Rattle.engine.specs.History.{AnyCall, anyStep, afterAll}
+use Rattle.engine.specs.History.AnyCall.{call, restart}
 use Rattle.engine.proofs.Tests.{cond-by}
 use Rattle.engine.proofs.ShapeMade.{shape-station}
 use Rattle.engine.proofs.Shapes.{shapes}
+use Rattle.engine.proofs.Reached.{Reached, made-reached, any-reached}
 use Rattle.engine.proofs.Stations.{stations}
 use Rattle.call_reply.specs.Called.{called, withBlock}
 use Rattle.call_reply.proofs.CalledLaws.{called-six, block-512, block-other}
 use Rattle.protocol.proofs.ListLaws.{snoc-all}
-use Rattle.agreement.specs.Group.{GroupCall, call, restart, performed, Group, CallAt, nextBy, fresh, next, run, Calls}
+use Rattle.agreement.specs.Group.{Group, CallAt, nextBy, fresh, next, run, Calls}
 use Rattle.agreement.proofs.Runs.{run-on}
 use Rattle.agreement.proofs.Handed.{six-rows}
-use Rattle.agreement_host.specs.Hosted.{hostStep, hostAfter, hostPerformed, hostRun, Hosted}
+use Rattle.agreement_host.specs.Hosted.{hostStep, hostAny, hostAfter, hostRun, Hosted}
 
 -- at a station, whatever the table
 station-writes : (m : Memory) → isStation m ≡ true → (ticket item : ℕ) (value : ℤ) → hostStep m (write ticket item value) ≡ outcome (refused 25) m
@@ -50,32 +53,39 @@ host-six m six (deliver b) = refl
 host-six m six work = called-six workStep m six
 host-six m six (load l) = refl
 
-list-of : {over : ℕ} (cs : List Call) (m : Memory) → Shape over m → hostAfter m cs ≡ after m cs
+any-six : (m : Memory) → length (m .txns .table) ≡ 6 → (c : AnyCall) → hostAny m c ≡ anyStep m c
+any-six m six (call c) = host-six m six c
+any-six m six (restart n own values journal block) = called-six (λ x. restartStep x n own values journal block) m six
+
+list-of : (cs : List AnyCall) (m : Memory) → Reached m → hostAfter m cs ≡ afterAll m cs
+unfolding hostAfter afterAll
+list-of [] m R = refl
+list-of (c ∷ cs) m R =
+    ap (λ (o : Outcome). hostAfter (o .memory) cs) (any-six m (R .shape .lengths .table) c)
+    ∙ list-of cs (anyStep m c .memory) (any-reached m R c)
+
+station-list : {over : ℕ} (cs : List Call) (m : Memory) → Shape over m → hostAfter m (map call cs) ≡ after m cs
 unfolding hostAfter after
-list-of [] m s = refl
-list-of (c ∷ cs) m s =
-    ap (λ (o : Outcome). hostAfter (o .memory) cs) (host-six m (s .lengths .table) c)
-    ∙ list-of cs (step m c .memory) (shapes .each m s c)
+station-list [] m s = refl
+station-list (c ∷ cs) m s =
+    ap (λ (o : Outcome). hostAfter (o .memory) (map call cs)) (host-six m (s .lengths .table) c)
+    ∙ station-list cs (step m c .memory) (shapes .each m s c)
 
 module _ (n : ℕ) (start : List ℤ) (least : 2 ≤ n) (most : n ≤ 6) (long : length start ≡ 128) where
-  performs-six : (k : ℕ) (m : Memory) → length (m .txns .table) ≡ 6 → (c : GroupCall) → hostPerformed n start k m c ≡ performed n start k m c
-  performs-six k m six (call c) = host-six m six c
-  performs-six k m six (restart journal block) = called-six (λ x. restartStep x n k start journal block) m six
-
   -- behind a first part of the list
-  group-of : (cs before : List CallAt) → Calls n before → Calls n cs → hostRun n start (run n start (fresh n start) before) cs ≡ run n start (run n start (fresh n start) before) cs
+  group-of : (cs before : List CallAt) → Calls n before → Calls n cs → hostRun (run (fresh n start) before) cs ≡ run (run (fresh n start) before) cs
   unfolding hostRun run
   group-of [] before b f = refl
   group-of (c ∷ cs) before b f =
-      let g = run n start (fresh n start) before in
-      let on : run n start (fresh n start) (before ++ (c ∷ [])) ≡ next n start g c = run-on n start before (fresh n start) c in
+      let g = run (fresh n start) before in
+      let on : run (fresh n start) (before ++ (c ∷ [])) ≡ next g c = run-on before (fresh n start) c in
       let here = f c (List·Memᴰ·head refl) in
-      ap (λ (o : Outcome). hostRun n start (nextBy n start o g c) cs) (performs-six (c .at) (g .memories (c .at)) (six-rows .tables n start least most long before b (c .at)) (c .does))
-      ∙ ap (λ (x : Group). hostRun n start x cs) (sym on)
+      ap (λ (o : Outcome). hostRun (nextBy o g c) cs) (any-six (g .memories (c .at)) (six-rows .tables n start least most long before b (c .at)) (c .does))
+      ∙ ap (λ (x : Group). hostRun x cs) (sym on)
       ∙ group-of cs (before ++ (c ∷ [])) (snoc-all _ before c b here) (λ d q. f d (List·Memᴰ·tail q))
-      ∙ ap (λ (x : Group). run n start x cs) on
+      ∙ ap (λ (x : Group). run x cs) on
 
-  group : (cs : List CallAt) → Calls n cs → hostRun n start (fresh n start) cs ≡ run n start (fresh n start) cs
+  group : (cs : List CallAt) → Calls n cs → hostRun (fresh n start) cs ≡ run (fresh n start) cs
   unfolding run
   group cs f = group-of cs [] (λ c q. absurd (List·Memᴰ·not-nil q)) f
 
@@ -97,9 +107,9 @@ hosted = record {
   station-sends = station-sends;
   works = works;
   works-not = works-not;
-  steps = λ n own values least most mine long cs c. host-six _ (shapes .all n own values least most mine long cs .lengths .table) c;
-  lists = λ n own values least most mine long cs. list-of cs (madeMemory n own values) (shapes .made n own values least most mine long);
+  steps = λ n own values least most mine long cs c. any-six _ (shapes .all n own values least most mine long cs .lengths .table) c;
+  lists = λ n own values least most mine long cs. list-of cs (madeMemory n own values) (made-reached n own values least most mine long);
   station-steps = λ n values least most long cs c. host-six _ (stations .shape n values least most long cs .lengths .table) c;
-  station-lists = λ n values least most long cs. list-of cs (stationMemory n values) (shape-station n values least most long);
+  station-lists = λ n values least most long cs. station-list cs (stationMemory n values) (shape-station n values least most long);
   groups = group;
 }

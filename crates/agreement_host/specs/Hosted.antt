@@ -5,7 +5,7 @@
 use Prim.Native.Nat.{ℕ, _≤_, _<_}
 use mathlib.Core.Path.{_≡_}
 use mathlib.Core.Bool.{true}
-use mathlib.Core.List.{List, [], _∷_}
+use mathlib.Core.List.{List, [], _∷_, map}
 use lib.IntN.{ℤ}
 use lib.ListN.{length}
 use Rattle.memory.specs.Memory.{Memory, isStation}
@@ -19,8 +19,10 @@ use Rattle.engine.specs.Step.{Call, step, after}
 use Rattle.engine.specs.Step.Call.{begin, read, write, ask, withdraw, report, send, deliver, work, load}
 use Rattle.engine.specs.Restart.{restartStep}
 use Rattle.engine.specs.Station.{stationMemory, stationStep}
+use Rattle.engine.specs.History.{AnyCall, anyStep, afterAll}
+use Rattle.engine.specs.History.AnyCall.{call, restart}
 use Rattle.call_reply.specs.Called.{called, withBlock}
-use Rattle.agreement.specs.Group.{GroupCall, call, restart, Group, CallAt, nextBy, fresh, run, Calls}
+use Rattle.agreement.specs.Group.{Group, CallAt, nextBy, fresh, run, Calls}
 
 -- a host's call at one replica or station
 abbrev pub hostStep : Memory → Call → Outcome
@@ -35,23 +37,20 @@ hostStep m (deliver b) = deliverStep m b
 hostStep m work = called workStep m
 hostStep m (load l) = loadStep m l
 
+-- or a restart
+abbrev pub hostAny : Memory → AnyCall → Outcome
+hostAny m (call c) = hostStep m c
+hostAny m (restart n own values journal block) = called (λ x. restartStep x n own values journal block) m
+
 -- what a list of them leaves
-unfoldable pub hostAfter : Memory → List Call → Memory
+unfoldable pub hostAfter : Memory → List AnyCall → Memory
 hostAfter m [] = m
-hostAfter m (c ∷ cs) = hostAfter (hostStep m c .memory) cs
+hostAfter m (c ∷ cs) = hostAfter (hostAny m c .memory) cs
 
-module _ (n : ℕ) (start : List ℤ) where
-  abbrev pub hostPerformed : ℕ → Memory → GroupCall → Outcome
-  hostPerformed k m (call c) = hostStep m c
-  hostPerformed k m (restart journal block) = called (λ x. restartStep x n k start journal block) m
-
-  -- a host's call at a replica or a station of a group
-  abbrev pub hostDid : Group → CallAt → Outcome
-  hostDid g c = hostPerformed (c .at) (g .memories (c .at)) (c .does)
-
-  unfoldable pub hostRun : Group → List CallAt → Group
-  hostRun g [] = g
-  hostRun g (c ∷ cs) = hostRun (nextBy n start (hostDid g c) g c) cs
+-- of a group: a host's call acts on the memory that the last call at its member left
+unfoldable pub hostRun : Group → List CallAt → Group
+hostRun g [] = g
+hostRun g (c ∷ cs) = hostRun (nextBy (hostAny (g .memories (c .at)) (c .does)) g c) cs
 
 pub record Hosted : Type 0 where
   -- a make on a table of six rows, whatever else is lent
@@ -64,17 +63,17 @@ pub record Hosted : Type 0 where
   pub works : (m : Memory) (block : List ℕ) → length block ≡ 512 → called (withBlock block workStep) m ≡ called workStep m
   -- lent any other length it is refused by 1, whatever the table, and the memory is as before
   pub works-not : (m : Memory) (block : List ℕ) → (length block ≡ 512 → ⊥) → called (withBlock block workStep) m ≡ outcome (refused 1) m
-  -- one call
-  pub steps : (n own : ℕ) (values : List ℤ) → 2 ≤ n → n ≤ 6 → own < n → length values ≡ 128 → (cs : List Call) (c : Call)
-      → let m = after (madeMemory n own values) cs in hostStep m c ≡ step m c
-  -- a list of calls
-  pub lists : (n own : ℕ) (values : List ℤ) → 2 ≤ n → n ≤ 6 → own < n → length values ≡ 128 → (cs : List Call)
-      → hostAfter (madeMemory n own values) cs ≡ after (madeMemory n own values) cs
-  -- the same of a station
+  -- one call or restart
+  pub steps : (n own : ℕ) (values : List ℤ) → 2 ≤ n → n ≤ 6 → own < n → length values ≡ 128 → (cs : List AnyCall) (c : AnyCall)
+      → let m = afterAll (madeMemory n own values) cs in hostAny m c ≡ anyStep m c
+  -- a list of calls and restarts
+  pub lists : (n own : ℕ) (values : List ℤ) → 2 ≤ n → n ≤ 6 → own < n → length values ≡ 128 → (cs : List AnyCall)
+      → hostAfter (madeMemory n own values) cs ≡ afterAll (madeMemory n own values) cs
+  -- the same of a station, which has no restart
   pub station-steps : (n : ℕ) (values : List ℤ) → 2 ≤ n → n ≤ 6 → length values ≡ 128 → (cs : List Call) (c : Call)
       → let m = after (stationMemory n values) cs in hostStep m c ≡ step m c
   pub station-lists : (n : ℕ) (values : List ℤ) → 2 ≤ n → n ≤ 6 → length values ≡ 128 → (cs : List Call)
-      → hostAfter (stationMemory n values) cs ≡ after (stationMemory n values) cs
+      → hostAfter (stationMemory n values) (map call cs) ≡ after (stationMemory n values) cs
   -- a group with its stations, with any bytes, any journals and no premise
   pub groups : (n : ℕ) (start : List ℤ) → 2 ≤ n → n ≤ 6 → length start ≡ 128 → (cs : List CallAt) → Calls n cs
-      → hostRun n start (fresh n start) cs ≡ run n start (fresh n start) cs
+      → hostRun (fresh n start) cs ≡ run (fresh n start) cs

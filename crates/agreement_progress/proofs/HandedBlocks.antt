@@ -16,19 +16,23 @@ use Rattle.block.specs.Answers.{blockRefusal, headerOf}
 use Rattle.block.proofs.Theorems.{theorems}
 use Rattle.memory.specs.Memory.{Memory}
 use Rattle.engine.specs.Calls.{Outcome}
+use Rattle.engine.specs.Calls.Answer.{restarted}
 use Rattle.engine.specs.Client.{beginAt, readOnlyAt, queueAt, rewriteAt, insertWrite, staleAt, withdrawAt, reportStep}
 use Rattle.engine.specs.Moves.{messageFor, sentAlready, sendRefusal, sendNow, deliverNow, blockAtTurn, writesetAt, isLast, passNext, commitWriteset}
 use Rattle.engine.specs.Step.{Call, step}
 use Rattle.engine.specs.Step.Call.{begin, read, write, ask, withdraw, report, send, deliver, work, load}
 use Rattle.engine.specs.Restart.{isFrom, blocksIn, lastOwn, restartedMemory, restartStep}
+use Rattle.engine.specs.History.{AnyCall, anyStep}
+use Rattle.engine.specs.History.AnyCall.{call, restart}
 use Rattle.engine.proofs.Tests.{cond-by, clash}
 use Rattle.engine.proofs.Steps.{begin-by, read-by, write-by, ask-by, withdraw-by, send-by, deliver-by, work-by, load-by, restart-by}
 use Rattle.engine.proofs.Passed.{send-passed}
 use Rattle.engine.proofs.RestartLaws.{AllGood, good-taken, good-replicas, reads-good}
 use Rattle.engine.proofs.ShapeWriteset.{committed}
 use Rattle.protocol.specs.Lists.{Mem, opt}
-use Rattle.agreement.specs.Group.{GroupCall, call, restart, performed, blocksAfter}
+use Rattle.agreement.specs.Group.{blocksAfter}
 use Rattle.agreement.proofs.View.{Sound}
+use Rattle.agreement.proofs.MemberStep.{AsMade, Ours}
 use Rattle.agreement.proofs.Sendable.{sendable}
 
 -- good, of a group of n
@@ -142,15 +146,16 @@ module _ (n k : ℕ) (m : Memory) (B : List (List ℕ)) (s : Sound n m) (own : m
       go false e (inl z) = absurd (eqb-false (getD b 0 0) 0 e z)
       go false e (inr w) = one-more n k B b w
 
-  hands-restart : (start : List ℤ) (j l : List ℕ) → Hands n k B (restartStep m n k start j l)
+  hands-restart : (start : List ℤ) (size own : ℕ) (values : List ℤ) (j l : List ℕ) → Ours n start k m (restart size own values j l) → Hands n k B (restartStep m size own values j l)
   unfolding restartedMemory
-  hands-restart start j l = restart-by (Hands n k B) m n k start j l
-      (λ e. record {
-        grown = given-back (lastOwn k (replicate 512 0) (blocksIn n j)) (last-back (replicate 512 0) (blocksIn n j) (reads-good n 0 _ j) (inl refl));
+  hands-restart start size own values j l =
+      restart-by (λ (o : Outcome). ((x : ℕ) (y : List ℕ) → o .answer ≡ restarted x y → AsMade n start k size own values) → Hands n k B o) m size own values j l
+      (λ e f. let z = f _ _ refl in record {
+        grown = rw (z .0, z .1) (given-back (lastOwn k (replicate 512 0) (blocksIn n j)) (last-back (replicate 512 0) (blocksIn n j) (reads-good n 0 _ j) (inl refl)));
         last = λ t. clash {b = false} t refl;
       })
-      (λ e. quiet _ refl L)
+      (λ e f. quiet _ refl L)
 
-  pub hands : (start : List ℤ) (c : GroupCall) → Hands n k B (performed n start k m c)
-  hands start (call c) = hands-call c
-  hands start (restart j l) = hands-restart start j l
+  pub hands : (start : List ℤ) (c : AnyCall) → Ours n start k m c → Hands n k B (anyStep m c)
+  hands start (call c) f = hands-call c
+  hands start (restart size own values j l) f = hands-restart start size own values j l f

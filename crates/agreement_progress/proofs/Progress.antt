@@ -18,9 +18,11 @@ use Rattle.memory.specs.Turns.{isEmpty}
 use Rattle.engine.specs.Calls.{Outcome}
 use Rattle.engine.specs.Calls.Answer.{restarted}
 use Rattle.engine.specs.Moves.{sentAlready, sameBytes, slotPast, isOwnBlock, notSentHere, nothingWaits}
-use Rattle.engine.specs.Restart.{blocksIn, restartStep}
+use Rattle.engine.specs.Restart.{blocksIn}
 use Rattle.engine.specs.Step.{refusalOf}
 use Rattle.engine.specs.Step.Call.{deliver}
+use Rattle.engine.specs.History.{AnyCall, anyStep}
+use Rattle.engine.specs.History.AnyCall.{call, restart}
 use Rattle.engine.proofs.Tests.{cond-by, bool-by, same-by, less-by}
 use Rattle.engine.proofs.BlockFacts.{taken-block}
 use Rattle.engine.proofs.Steps.{restart-by}
@@ -33,13 +35,14 @@ use Rattle.protocol.specs.Journal.{journal}
 use Rattle.protocol.specs.Observer.{Handout, handoutMessage, noHandout}
 use Rattle.protocol.proofs.ListLaws.{update-by, update-same, mem-map, mem-getD, getD-map-in}
 use Rattle.protocol.proofs.SequenceLaws.{mem-at}
-use Rattle.agreement.specs.Group.{messageIn, GroupCall, call, restart, performed, Group, CallAt, fresh, did, next, run, Comes, MayBeAt, Calls, Premise}
+use Rattle.agreement.specs.Group.{messageIn, Group, CallAt, fresh, did, next, run, Comes, MayBeAt, Calls, Premise}
 use Rattle.agreement.specs.Journals.{blocksAt}
 use Rattle.agreement_progress.specs.Progress.{giving, Given, AllGiven, SlotsLeft, CanSend, CanWork, ProgressTheorem, HandedAnswers}
 use Rattle.agreement.proofs.View.{Sound}
 use Rattle.agreement.proofs.DeliverStep.{slot-said}
+use Rattle.agreement.proofs.MemberStep.{Ours}
 use Rattle.agreement.proofs.Replicas.{Standing, as-replica, as-station, SoundAt}
-use Rattle.agreement.proofs.Runs.{run-on, calls-part, premise-part, own-is, kept-run, fresh-kept}
+use Rattle.agreement.proofs.Runs.{run-on, calls-part, premise-part, lent-ours, own-is, kept-run, fresh-kept}
 use Rattle.agreement.proofs.Theorem.{owes, InvAfter, inv-after}
 use Rattle.agreement.proofs.JournalLength.{FilledAt, filled-after}
 use Rattle.agreement.proofs.Journals.{journals}
@@ -61,13 +64,13 @@ walk P before (c ∷ cs) p f =
 
 module _ (n : ℕ) (start : List ℤ) (least : 2 ≤ n) (most : n ≤ 6) (long : length start ≡ 128) where
   abbrev at : List CallAt → Group
-  at cs = run n start (fresh n start) cs
+  at cs = run (fresh n start) cs
 
   abbrev mem : List CallAt → ℕ → Memory
-  mem cs k = run n start (fresh n start) cs .memories k
+  mem cs k = run (fresh n start) cs .memories k
 
   abbrev D : List CallAt → List (Handout ℤ)
-  D cs = run n start (fresh n start) cs .handouts
+  D cs = run (fresh n start) cs .handouts
 
   module _ (cs : List CallAt) (f : Calls n cs) (p : Premise n start cs) where
     inv : InvAfter n start least most long cs
@@ -75,13 +78,13 @@ module _ (n : ℕ) (start : List ℤ) (least : 2 ≤ n) (most : n ≤ 6) (long :
 
     -- every member's memory, a station's too
     stood : (k : ℕ) → SoundAt n start least most long (owes n start) k (mem cs k)
-    stood = kept-run n start least most long (owes n start) cs f (λ j. journal [] 0) (fresh n start) (fresh-kept n start least most long (owes n start)) .sound
+    stood = kept-run n start least most long (owes n start) cs f (λ j. journal [] 0) (fresh n start) p (fresh-kept n start least most long (owes n start)) .sound
 
-    held : (k : ℕ) → k < n → FilledAt n start least most long k (mem cs k) (at cs .disks k .journal)
+    held : (k : ℕ) → k < n → FilledAt n (mem cs k) (at cs .disks k .journal)
     held = filled-after n start least most long cs f
 
     size-at : (k : ℕ) → k < n → mem cs k .group .replicas ≡ n
-    size-at k h = held k h .sound .sound .size
+    size-at k h = held k h .sound .size
 
     own-at : (k : ℕ) → k < n → mem cs k .group .own ≡ k
     own-at k h = own-is n start least most long (owes n start) k (mem cs k) (stood k) h
@@ -149,12 +152,12 @@ module _ (n : ℕ) (start : List ℤ) (least : 2 ≤ n) (most : n ≤ 6) (long :
   owner-of b G = taken-block b (G .taken) .sender ∙ ap (λ (r : ℕ). ownerOf r (headerOf b .slot)) (G .replicas)
 
   -- i is the number in the memory that the call acts on: the member's at a replica, and no replica's at a station
-  blocks-by : (cs : List CallAt) (c : CallAt) (i : ℕ) → (c .at < n → i ≡ c .at) → (i < n → i ≡ c .at) → Blocks (at cs) → Hands n i (at cs .blocks) (did n start (at cs) c)
-      → Blocks (next n start (at cs) c)
+  blocks-by : (cs : List CallAt) (c : CallAt) (i : ℕ) → (c .at < n → i ≡ c .at) → (i < n → i ≡ c .at) → Blocks (at cs) → Hands n i (at cs .blocks) (did (at cs) c)
+      → Blocks (next (at cs) c)
   blocks-by cs c i own only B H = record {
     good = λ b m. either b (H .grown b m);
-    last = update-by (λ (k : ℕ) (m : Memory). k < n → SentLast k m (next n start (at cs) c .blocks)) (at cs .memories) (c .at) (did n start (at cs) c .memory)
-        (λ l. subst (λ (k : ℕ). SentLast k (did n start (at cs) c .memory) (next n start (at cs) c .blocks)) (own l) (H .last))
+    last = update-by (λ (k : ℕ) (m : Memory). k < n → SentLast k m (next (at cs) c .blocks)) (at cs .memories) (c .at) (did (at cs) c .memory)
+        (λ l. subst (λ (k : ℕ). SentLast k (did (at cs) c .memory) (next (at cs) c .blocks)) (own l) (H .last))
         (λ j d l t b q o z. other j d l t b o z (H .grown b q));
   }
     where
@@ -173,14 +176,14 @@ module _ (n : ℕ) (start : List ℤ) (least : 2 ≤ n) (most : n ≤ 6) (long :
   none-from b G e = let a = owner-of b G in let l = mod-lt (headerOf b .slot) {m = n} (omega arith) in omega arith
 
   -- a station's call; it has no restart
-  station-hands : (B : List (List ℕ)) → ((b : List ℕ) → Mem b B → GoodBlock n b) → (k : ℕ) (m : Memory) → Sound n m → n ≤ k → m .group .own ≡ noNumber → (d : GroupCall) → MayBeAt n k d
-      → Hands n noNumber B (performed n start k m d)
+  station-hands : (B : List (List ℕ)) → ((b : List ℕ) → Mem b B → GoodBlock n b) → (k : ℕ) (m : Memory) → Sound n m → n ≤ k → m .group .own ≡ noNumber → (d : AnyCall) → MayBeAt n k d
+      → Hands n noNumber B (anyStep m d)
   station-hands B good k m s above e (call d) h =
-      hands n noNumber m B s e (λ t b q o z. absurd (none-from b (good b q) o)) (λ b q o z. absurd (none-from b (good b q) o)) start (call d)
-  station-hands B good k m s above e (restart j l) h = absurd (let w : ⊥ = omega arith in w)
+      hands n noNumber m B s e (λ t b q o z. absurd (none-from b (good b q) o)) (λ b q o z. absurd (none-from b (good b q) o)) start (call d) tt
+  station-hands B good k m s above e (restart size own values j l) h = absurd (let w : ⊥ = omega arith in w)
 
-  blocks-next : (cs : List CallAt) → Calls n cs → Premise n start cs → (c : CallAt) → MayBeAt n (c .at) (c .does) → Blocks (at cs) → Blocks (next n start (at cs) c)
-  blocks-next cs f p c here B = by (stood cs f p (c .at) .stands)
+  blocks-next : (cs : List CallAt) → Calls n cs → Premise n start cs → (c : CallAt) → MayBeAt n (c .at) (c .does) → Ours n start (c .at) (mem cs (c .at)) (c .does) → Blocks (at cs) → Blocks (next (at cs) c)
+  blocks-next cs f p c here lent B = by (stood cs f p (c .at) .stands)
     where
       s : Sound n (mem cs (c .at))
       s = stood cs f p (c .at) .sound
@@ -188,11 +191,17 @@ module _ (n : ℕ) (start : List ℤ) (least : 2 ≤ n) (most : n ≤ 6) (long :
       marked : (b : List ℕ) → Mem b (at cs .blocks) → headerOf b .sender ≡ c .at → headerOf b .slot ≡ mem cs (c .at) .turn .slot → sentAlready (mem cs (c .at)) ≡ true
       marked b q o z = mark cs f p (c .at) (ap (ownerOf n) (sym z) ∙ sym (owner-of b (B .good b q)) ∙ o) (subst (λ (s : ℕ). s < length (D cs)) z (known cs f p b q))
 
-      by : Standing n start least most long (owes n start) (c .at) (mem cs (c .at)) → Blocks (next n start (at cs) c)
-      by (as-replica h e) = blocks-by cs c (c .at) (λ l. refl) (λ l. refl) B (hands n (c .at) (mem cs (c .at)) (at cs .blocks) s e (B .last (c .at) h) marked start (c .does))
+      by : Standing n start least most long (owes n start) (c .at) (mem cs (c .at)) → Blocks (next (at cs) c)
+      by (as-replica h e) = blocks-by cs c (c .at) (λ l. refl) (λ l. refl) B (hands n (c .at) (mem cs (c .at)) (at cs .blocks) s e (B .last (c .at) h) marked start (c .does) lent)
       by (as-station h e) =
           blocks-by cs c noNumber (λ l. absurd (let w : ⊥ = omega arith in w)) (λ l. absurd (let w : ⊥ = omega arith in w)) B
           (station-hands (at cs .blocks) (B .good) (c .at) (mem cs (c .at)) s h e (c .does) here)
+
+  -- what the premise says of a call of the list
+  may : (cs : List CallAt) → Premise n start cs → (mid : List CallAt) (c : CallAt) → Comes cs mid c → Ours n start (c .at) (mem mid (c .at)) (c .does)
+  may cs p mid c q =
+      lent-ours n start (c .at) (mem mid (c .at)) (at mid .disks (c .at)) (c .does) (λ size own values j l x b e.
+      p .lent mid (c .at) size own values j l x b (q .0, q .1 ∙ ap (λ (d : AnyCall). mid ++ (record { at = c .at; does = d } ∷ q .0)) e))
 
   blocks-all : (cs : List CallAt) → Calls n cs → Premise n start cs → Blocks (at cs)
   unfolding run
@@ -200,9 +209,9 @@ module _ (n : ℕ) (start : List ℤ) (least : 2 ≤ n) (most : n ≤ 6) (long :
       (record { good = λ b q. absurd (List·Memᴰ·not-nil q); last = λ k h t b q. absurd (List·Memᴰ·not-nil q) })
       (λ mid c q B.
       let e : cs ≡ mid ++ (c ∷ q .0) = q .1 in
-      subst Blocks (sym (run-on n start mid (fresh n start) c))
+      subst Blocks (sym (run-on mid (fresh n start) c))
       (blocks-next mid (calls-part n start cs mid (c ∷ q .0) e f) (premise-part n start cs mid (c ∷ q .0) e (fresh n start) p) c
-      (f c (subst (Mem c) (sym e) (Memᴰ·append-right mid (List·Memᴰ·head refl))) .0) B))
+      (f c (subst (Mem c) (sym e) (Memᴰ·append-right mid (List·Memᴰ·head refl))) .0) (may cs p mid c q) B))
 
   -- ---- a block given
 
@@ -235,22 +244,18 @@ module _ (n : ℕ) (start : List ℤ) (least : 2 ≤ n) (most : n ≤ 6) (long :
 
   -- ---- what has come to a replica stays until the turn has passed it, or a restart is accepted
 
-  come-performed : (k s : ℕ) (m : Memory) → Sound n m → HasCome s m → (d : GroupCall)
-      → ((j l : List ℕ) (x : ℕ) (b : List ℕ) → d ≡ restart j l → restartStep m n k start j l .answer ≡ restarted x b → ⊥) → HasCome s (performed n start k m d .memory)
-  come-performed k s m R C (call c) none = come-each m (R .shape) s C c
-  come-performed k s m R C (restart j l) none =
-      restart-by (λ (o : Outcome). ((x : ℕ) (b : List ℕ) → o .answer ≡ restarted x b → ⊥) → HasCome s (o .memory)) m n k start j l (λ e g. absurd (g _ _ refl)) (λ e g. C)
-      (λ x b. none j l x b refl)
+  come-performed : (s : ℕ) (m : Memory) → Sound n m → HasCome s m → (d : AnyCall) → ((x : ℕ) (b : List ℕ) → anyStep m d .answer ≡ restarted x b → ⊥) → HasCome s (anyStep m d .memory)
+  come-performed s m R C (call c) none = come-each m (R .shape) s C c
+  come-performed s m R C (restart size own values j l) none =
+      restart-by (λ (o : Outcome). ((x : ℕ) (b : List ℕ) → o .answer ≡ restarted x b → ⊥) → HasCome s (o .memory)) m size own values j l (λ e g. absurd (g _ _ refl)) (λ e g. C) none
 
   come-next : (g : Group) (k s : ℕ) → Sound n (g .memories k) → HasCome s (g .memories k) → (c : CallAt)
-      → ((j l : List ℕ) (x : ℕ) (b : List ℕ) → c ≡ record { at = k; does = restart j l } → restartStep (g .memories k) n k start j l .answer ≡ restarted x b → ⊥)
-      → HasCome s (next n start g c .memories k)
+      → ((d : AnyCall) (x : ℕ) (b : List ℕ) → c ≡ record { at = k; does = d } → anyStep (g .memories k) d .answer ≡ restarted x b → ⊥) → HasCome s (next g c .memories k)
   come-next g k s R C c none =
       cond-by (HasCome s) (eqb k (c .at))
       (λ e. let z = eqb-true k (c .at) e in
-      subst (λ (i : ℕ). HasCome s (performed n start i (g .memories i) (c .does) .memory)) z
-      (come-performed k s (g .memories k) R C (c .does) (λ j l x b q.
-      none j l x b (ap (λ (d : GroupCall). record { at = c .at; does = d }) q ∙ ap (λ (i : ℕ). record { at = i; does = restart j l }) (sym z)))))
+      subst (λ (i : ℕ). HasCome s (anyStep (g .memories i) (c .does) .memory)) z
+      (come-performed s (g .memories k) R C (c .does) (λ x b. none (c .does) x b (ap (λ (i : ℕ). record { at = i; does = c .does }) (sym z)))))
       (λ e. C)
 
   come-all : (cs : List CallAt) → Calls n cs → Premise n start cs → (k : ℕ) → k < n → (b : List ℕ) → Given n start cs k b → HasCome (headerOf b .slot) (mem cs k)
@@ -268,19 +273,19 @@ module _ (n : ℕ) (start : List ℤ) (least : 2 ≤ n) (most : n ≤ 6) (long :
       begun =
           let c = calls-part n start cs (G .before) (giving k b ∷ G .later) (G .comes) f in
           let q = premise-part n start cs (G .before) (giving k b ∷ G .later) (G .comes) (fresh n start) p in
-          subst (λ (g : Group). HasCome (headerOf b .slot) (g .memories k)) (sym (run-on n start (G .before) (fresh n start) (giving k b)))
+          subst (λ (g : Group). HasCome (headerOf b .slot) (g .memories k)) (sym (run-on (G .before) (fresh n start) (giving k b)))
           (subst (HasCome (headerOf b .slot)) (sym (update-same (at (G .before) .memories) k _))
-          (come-given (mem (G .before) k) (held (G .before) c q k h .sound .sound .shape) b (givable (G .before) c q k h b (G .handed))))
+          (come-given (mem (G .before) k) (held (G .before) c q k h .sound .shape) b (givable (G .before) c q k h b (G .handed))))
 
       onward : (mid : List CallAt) (c : CallAt) → Comes (G .later) mid c → HasCome (headerOf b .slot) (mem (first ++ mid) k) → HasCome (headerOf b .slot) (mem (first ++ (mid ++ (c ∷ []))) k)
       onward mid c q C =
           let e : cs ≡ (first ++ mid) ++ (c ∷ q .0) = whole ∙ ap (λ (l : List CallAt). first ++ l) (q .1) ∙ sym (append-assoc first mid (c ∷ q .0)) in
-          let R = held (first ++ mid) (calls-part n start cs (first ++ mid) (c ∷ q .0) e f) (premise-part n start cs (first ++ mid) (c ∷ q .0) e (fresh n start) p) k h .sound .sound in
+          let R = held (first ++ mid) (calls-part n start cs (first ++ mid) (c ∷ q .0) e f) (premise-part n start cs (first ++ mid) (c ∷ q .0) e (fresh n start) p) k h .sound in
           subst (λ (l : List CallAt). HasCome (headerOf b .slot) (mem l k)) (append-assoc first mid (c ∷ []))
-          (subst (λ (g : Group). HasCome (headerOf b .slot) (g .memories k)) (sym (run-on n start (first ++ mid) (fresh n start) c))
-          (come-next (at (first ++ mid)) k (headerOf b .slot) R C c (λ j l x y z a.
-          G .since mid j l x y (q .0, q .1 ∙ ap (λ (d : CallAt). mid ++ (d ∷ q .0)) z)
-          (subst (λ (r : List CallAt). restartStep (mem r k) n k start j l .answer ≡ restarted x y) (append-assoc (G .before) (giving k b ∷ []) mid) a))))
+          (subst (λ (g : Group). HasCome (headerOf b .slot) (g .memories k)) (sym (run-on (first ++ mid) (fresh n start) c))
+          (come-next (at (first ++ mid)) k (headerOf b .slot) R C c (λ d x y z a.
+          G .since mid d x y (q .0, q .1 ∙ ap (λ (i : CallAt). mid ++ (i ∷ q .0)) z)
+          (subst (λ (r : List CallAt). anyStep (mem r k) d .answer ≡ restarted x y) (append-assoc (G .before) (giving k b ∷ []) mid) a))))
 
   -- ---- the lowest turn
 
@@ -296,20 +301,20 @@ module _ (n : ℕ) (start : List ℤ) (least : 2 ≤ n) (most : n ≤ 6) (long :
 
 module _ (n : ℕ) (start : List ℤ) (least : 2 ≤ n) (most : n ≤ 6) (long : length start ≡ 128) (cs : List CallAt) (f : Calls n cs) (p : Premise n start cs) where
   abbrev now : ℕ → Memory
-  now k = run n start (fresh n start) cs .memories k
+  now k = run (fresh n start) cs .memories k
 
   abbrev down : List (Handout ℤ)
-  down = run n start (fresh n start) cs .handouts
+  down = run (fresh n start) cs .handouts
 
   abbrev Goes : Type 0
-  Goes = (k : ℕ) × (k < n) × (CanSend (run n start (fresh n start) cs .memories k) ⊎ CanWork (run n start (fresh n start) cs .memories k))
+  Goes = (k : ℕ) × (k < n) × (CanSend (run (fresh n start) cs .memories k) ⊎ CanWork (run (fresh n start) cs .memories k))
 
   -- the block of the turn has come
   behind : AllGiven n start cs → (k : ℕ) → k < n → now k .turn .slot < length down → Goes
   behind given k h l =
       let b = found n start least most long cs f p (now k .turn .slot) l in
       let R = held n start least most long cs f p k h in
-      (k, h, inr (works (now k) (R .sound .sound .shape) (waits (b .0) (b .2) (come-all n start least most long cs f p k h (b .0) (given k h (b .0) (b .1) (let e = b .2 in omega arith))))))
+      (k, h, inr (works (now k) (R .sound .shape) (waits (b .0) (b .2) (come-all n start least most long cs f p k h (b .0) (given k h (b .0) (b .1) (let e = b .2 in omega arith))))))
     where
       waits : (b : List ℕ) → headerOf b .slot ≡ now k .turn .slot → HasCome (headerOf b .slot) (now k) → nothingWaits (now k) ≡ false
       waits b e (inl q) = absurd (let z : ⊥ = omega arith in z)
@@ -323,9 +328,9 @@ module _ (n : ℕ) (start : List ℤ) (least : 2 ≤ n) (most : n ≤ 6) (long :
       let u : t % n < n = mod-lt t {m = n} (omega arith) in
       let e = all (t % n) u in
       let R = held n start least most long cs f p (t % n) u in
-      let o : ownerOf (now (t % n) .group .replicas) (now (t % n) .turn .slot) ≡ now (t % n) .group .own = rw (R .sound .sound .size, e, own-at n start least most long cs f p (t % n) u) in
+      let o : ownerOf (now (t % n) .group .replicas) (now (t % n) .turn .slot) ≡ now (t % n) .group .own = rw (R .sound .size, e, own-at n start least most long cs f p (t % n) u) in
       let s : sentAlready (now (t % n)) ≡ false = not-so (sentAlready (now (t % n))) (λ q. let z = sent-known n start least most long cs f p (t % n) u q in omega arith) in
-      (t % n, u, inl (λ lent z. sends (now (t % n)) (R .sound .sound .shape) lent z (omega arith) o s))
+      (t % n, u, inl (λ lent z. sends (now (t % n)) (R .sound .shape) lent z (omega arith) o s))
 
   goes : AllGiven n start cs → SlotsLeft n start cs → Goes
   goes given some =
@@ -345,6 +350,6 @@ progress n start least most long cs f p = goes n start least most long cs f p
 pub handed-answers : HandedAnswers
 unfolding refusalOf
 handed-answers n start least most long cs f p k h b q =
-    let m = run n start (fresh n start) cs .memories k in
-    subst (λ (a : ℕ). (a ≡ 0) ⊎ ((a ≡ 17) ⊎ (a ≡ 20))) (sym (refusals .number (run n start (fresh n start) cs .memories k) (deliver b)))
-    (given-number (run n start (fresh n start) cs .memories k) (held n start least most long cs f p k h .sound .sound .shape) b (givable n start least most long cs f p k h b q))
+    let m = run (fresh n start) cs .memories k in
+    subst (λ (a : ℕ). (a ≡ 0) ⊎ ((a ≡ 17) ⊎ (a ≡ 20))) (sym (refusals .number (run (fresh n start) cs .memories k) (deliver b)))
+    (given-number (run (fresh n start) cs .memories k) (held n start least most long cs f p k h .sound .shape) b (givable n start least most long cs f p k h b q))

@@ -13,9 +13,10 @@ use Rattle.engine.specs.Calls.{numberOf}
 use Rattle.engine.specs.Calls.Answer.{restarted}
 use Rattle.engine.specs.Step.{step}
 use Rattle.engine.specs.Step.Call.{send, deliver, work}
-use Rattle.engine.specs.Restart.{restartStep}
+use Rattle.engine.specs.History.{AnyCall, anyStep}
+use Rattle.engine.specs.History.AnyCall.{call}
 use Rattle.protocol.specs.Lists.{Mem}
-use Rattle.agreement.specs.Group.{call, restart, CallAt, fresh, run, Comes, Calls, Premise}
+use Rattle.agreement.specs.Group.{CallAt, fresh, run, Comes, Calls, Premise}
 
 abbrev pub giving : ℕ → List ℕ → CallAt
 giving k b = record { at = k; does = call (deliver b) }
@@ -26,17 +27,17 @@ module _ (n : ℕ) (start : List ℤ) (cs : List CallAt) where
     pub before : List CallAt
     pub later : List CallAt
     pub comes : cs ≡ before ++ (giving k b ∷ later)
-    pub handed : Mem b (run n start (fresh n start) before .blocks)
-    pub since : (more : List CallAt) (journal block : List ℕ) (count : ℕ) (given : List ℕ) → Comes later more (record { at = k; does = restart journal block })
-        → restartStep (run n start (fresh n start) (before ++ (giving k b ∷ more)) .memories k) n k start journal block .answer ≡ restarted count given → ⊥
+    pub handed : Mem b (run (fresh n start) before .blocks)
+    pub since : (more : List CallAt) (c : AnyCall) (count : ℕ) (given : List ℕ) → Comes later more (record { at = k; does = c })
+        → anyStep (run (fresh n start) (before ++ (giving k b ∷ more)) .memories k) c .answer ≡ restarted count given → ⊥
 
   -- every block handed out was given to every replica; not asked of those whose slot its turn has passed, since such a deliver is answered 17 and changes nothing
   abbrev pub AllGiven : Type 0
-  AllGiven = (k : ℕ) → k < n → (b : List ℕ) → Mem b (run n start (fresh n start) cs .blocks) → run n start (fresh n start) cs .memories k .turn .slot ≤ headerOf b .slot → Given k b
+  AllGiven = (k : ℕ) → k < n → (b : List ℕ) → Mem b (run (fresh n start) cs .blocks) → run (fresh n start) cs .memories k .turn .slot ≤ headerOf b .slot → Given k b
 
   -- its turn is below 100,000,000
   abbrev pub SlotsLeft : Type 0
-  SlotsLeft = (k : ℕ) × (k < n) × (run n start (fresh n start) cs .memories k .turn .slot < maxSlots)
+  SlotsLeft = (k : ℕ) × (k < n) × (run (fresh n start) cs .memories k .turn .slot < maxSlots)
 
 -- a send is accepted, of any 512 bytes lent
 abbrev pub CanSend : Memory → Type 0
@@ -47,11 +48,11 @@ CanWork m = numberOf (step m work .answer) ≡ 0
 
 abbrev pub ProgressTheorem : Type 0
 ProgressTheorem = (n : ℕ) (start : List ℤ) → 2 ≤ n → n ≤ 6 → length start ≡ 128 → (cs : List CallAt) → Calls n cs → Premise n start cs → AllGiven n start cs → SlotsLeft n start cs
-    → let g = run n start (fresh n start) cs in (k : ℕ) × (k < n) × (CanSend (g .memories k) ⊎ CanWork (g .memories k))
+    → let g = run (fresh n start) cs in (k : ℕ) × (k < n) × (CanSend (g .memories k) ⊎ CanWork (g .memories k))
 
 -- What a host may drop. At a replica a block handed out that is delivered is kept, or answered 17 or 20: never 18, nor 19. So a block answered 18 there was handed out by nobody so far.
 -- At a station 18 may come for one (`StationRun`), and it is to be delivered again.
 abbrev pub HandedAnswers : Type 0
 HandedAnswers = (n : ℕ) (start : List ℤ) → 2 ≤ n → n ≤ 6 → length start ≡ 128 → (cs : List CallAt) → Calls n cs → Premise n start cs
-    → (k : ℕ) → k < n → (b : List ℕ) → let g = run n start (fresh n start) cs in Mem b (g .blocks)
+    → (k : ℕ) → k < n → (b : List ℕ) → let g = run (fresh n start) cs in Mem b (g .blocks)
     → let a = numberOf (step (g .memories k) (deliver b) .answer) in (a ≡ 0) ⊎ ((a ≡ 17) ⊎ (a ≡ 20))

@@ -5,6 +5,8 @@ use mathlib.Core.Bool.{Bool, true, false}
 use mathlib.Core.Logic.{_⊎_, inl, inr}
 use mathlib.Core.List.{List, List·Memᴰ·cases-cons, List·Memᴰ·head, List·Memᴰ·not-nil, Memᴰ·append-right, [], _∷_}
 use native.Mathlib.Omega.{arith}
+use lib.Dec.{eqb}
+use borrow.Author.Tests.{eq-eqb}
 use Rattle.block.specs.Numbers.{bytesOf, numberFrom, valueBytes, valueOf}
 use Rattle.block.specs.Check.{word, sumTo, weightedTo, firstCheck, secondCheck, checkBytes, checkMatches}
 use Rattle.block.specs.Message.{ownerOf, within, kindFits, entriesFit, recordFits, recordsFit, ticketAbsent, ticketsDiffer, valid, signed32}
@@ -23,27 +25,25 @@ use Rattle.engine.specs.Step.{step}
 use Rattle.engine.specs.Step.Call.{report, work}
 use Rattle.engine.specs.Restart.{isGood, blocksFrom, firstBlocks, writesetsFrom, commitAll, commitBlocks, highestTicket, highestOwn, ownWritesets, lastOwn, restartedMemory, restartRefusal, restartStep}
 use Rattle.engine.specs.Worked.{zeros}
+use Rattle.engine.specs.History.{AnyCall}
 use Rattle.engine.proofs.Tests.{same-by, clash}
 use Rattle.protocol.specs.Lists.{Mem, any}
 use Rattle.protocol.proofs.ListLaws.{any-false}
-use Rattle.agreement.specs.Group.{GroupCall, call, restart, messageIn, heard, CallAt, fresh, run, Comes, Calls}
+use Rattle.agreement.specs.Group.{messageIn, heard, CallAt, fresh, run, Comes, Calls}
 use Rattle.agreement_progress.specs.Progress.{giving, Given, AllGiven}
 use Rattle.agreement_runs.specs.Worked.{at, sending}
 use Rattle.agreement_runs.specs.Progress.{slotZero, given, ungiven, early, emptied, triedOn, tried, after, WorkedProgress}
-use Rattle.agreement_runs.proofs.Worked.{outage, allowed, premise-met, calls-met}
+use Rattle.agreement_runs.proofs.Worked.{outage, sameValues, allowed, premise-met, calls-met}
 
--- ---- a list without restarts
+-- ---- a list without a call at a replica
 
-abbrev restartIs : GroupCall → Bool
-restartIs (call d) = false
-restartIs (restart j l) = true
+abbrev isAt : ℕ → CallAt → Bool
+isAt k c = eqb (c .at) k
 
-abbrev isRestart : CallAt → Bool
-isRestart c = restartIs (c .does)
-
-none-restarts : (later more : List CallAt) (k : ℕ) (j l : List ℕ) → any isRestart later ≡ false → Comes later more (record { at = k; does = restart j l }) → ⊥
-none-restarts later more k j l e q =
-    clash {b = true} refl (any-false isRestart later e (record { at = k; does = restart j l }) (subst (Mem (record { at = k; does = restart j l })) (sym (q .1)) (Memᴰ·append-right more (List·Memᴰ·head refl))))
+none-at : (later more : List CallAt) (k : ℕ) (d : AnyCall) → any (isAt k) later ≡ false → Comes later more (record { at = k; does = d }) → ⊥
+none-at later more k d e q =
+    clash (eq-eqb k k refl)
+    (any-false (isAt k) later e (record { at = k; does = d }) (subst (Mem (record { at = k; does = d })) (sym (q .1)) (Memᴰ·append-right more (List·Memᴰ·head refl))))
 
 -- ---- the run in which all is given
 
@@ -65,7 +65,7 @@ to-first = record {
   later = giving 1 slotZero ∷ at 2 work ∷ [];
   comes = refl;
   handed = subst (Mem slotZero) (sym (given-computed .1)) (List·Memᴰ·head refl);
-  since = λ more j l c g q. absurd (none-restarts (giving 1 slotZero ∷ at 2 work ∷ []) more 0 j l refl q);
+  since = λ more d c g q. absurd (none-at (giving 1 slotZero ∷ at 2 work ∷ []) more 0 d refl q);
 }
 
 to-second : Given 2 zeros given 1 slotZero
@@ -75,7 +75,7 @@ to-second = record {
   later = at 2 work ∷ [];
   comes = refl;
   handed = subst (Mem slotZero) (sym (given-computed .2)) (List·Memᴰ·head refl);
-  since = λ more j l c g q. absurd (none-restarts (at 2 work ∷ []) more 1 j l refl q);
+  since = λ more d c g q. absurd (none-at (at 2 work ∷ []) more 1 d refl q);
 }
 
 all-given : AllGiven 2 zeros given
@@ -99,7 +99,7 @@ unfolding bytesOf numberFrom valueBytes valueOf word sumTo weightedTo firstCheck
 early-computed = (refl, refl)
 
 emptied-computed : (allowed 2 zeros (fresh 2 zeros) emptied (outage report 0 ∷ []) ≡ true) × (tried (after emptied) ≡ 11 ∷ 21 ∷ 11 ∷ 21 ∷ [])
-unfolding bytesOf numberFrom valueBytes valueOf word sumTo weightedTo firstCheck secondCheck checkBytes checkMatches ownerOf within kindFits entriesFit recordFits recordsFit ticketAbsent ticketsDiffer valid signed32 entryBytes entriesBytes recordBytes recordsBytes headerFor headerBytes bodyBytes blockOf entryOf entriesOf recordOf recordsOf messageOf allZero entriesPadded recordPadded recordsPadded padded wellFormed firstOf headerOf recordAt entryAt entriesFrom bump rowFrom rowOf freeRow indexFrom has holderFrom countBelow placeStart madeMemory beginRefusal beginAt beginRow writeRefusal rewriteAt insertWrite staleAt writeRow hasClass classFrom classToCome mustWait areClasses loadRefusal loadStep askRefusal readOnlyAt queueAt askRow reportOf waiting writesetOf messageFor sendRefusal sendNow sendStep sameBytes deliverRefusal deliverNow deliverStep entriesFor applied stamped shares afterAborts insertRising hitTickets without workRefusal passNext commitWriteset workStep step run any allowed isGood blocksFrom firstBlocks writesetsFrom commitAll commitBlocks highestTicket highestOwn ownWritesets lastOwn restartedMemory restartRefusal restartStep placesFit partsFit openCount messageIn blockRefusal heard reportStep triedOn
+unfolding bytesOf numberFrom valueBytes valueOf word sumTo weightedTo firstCheck secondCheck checkBytes checkMatches ownerOf within kindFits entriesFit recordFits recordsFit ticketAbsent ticketsDiffer valid signed32 entryBytes entriesBytes recordBytes recordsBytes headerFor headerBytes bodyBytes blockOf entryOf entriesOf recordOf recordsOf messageOf allZero entriesPadded recordPadded recordsPadded padded wellFormed firstOf headerOf recordAt entryAt entriesFrom bump rowFrom rowOf freeRow indexFrom has holderFrom countBelow placeStart madeMemory beginRefusal beginAt beginRow writeRefusal rewriteAt insertWrite staleAt writeRow hasClass classFrom classToCome mustWait areClasses loadRefusal loadStep askRefusal readOnlyAt queueAt askRow reportOf waiting writesetOf messageFor sendRefusal sendNow sendStep sameBytes deliverRefusal deliverNow deliverStep entriesFor applied stamped shares afterAborts insertRising hitTickets without workRefusal passNext commitWriteset workStep step run any allowed isGood blocksFrom firstBlocks writesetsFrom commitAll commitBlocks highestTicket highestOwn ownWritesets lastOwn restartedMemory restartRefusal restartStep placesFit partsFit openCount messageIn blockRefusal heard reportStep triedOn sameValues
 emptied-computed = (refl, refl)
 
 given-calls : Calls 2 given

@@ -1,13 +1,13 @@
 -- The runs, computed from the definitions. Assumes nothing.
 use Prim.Native.Nat.{ℕ}
 use mathlib.Core.Path.{_≡_, refl, sym, ap, _∙_, subst}
-use mathlib.Core.Bool.{Bool, true, false, not, _&&_}
+use mathlib.Core.Bool.{Bool, true, false, cond, not, _&&_}
 use mathlib.Core.List.{List, [], _∷_, _++_}
 use lib.Dec.{ltb, leb, eqb}
 use native.Mathlib.Omega.{arith}
 use lib.IntN.{ℤ, pos, negsuc}
 use lib.ListN.{length, getD, set, take, replicate, length-replicate}
-use borrow.Author.Tests.{eqb-true, leb-true, ltb-true, not-false}
+use borrow.Author.Tests.{eq-eqb, eqb-true, leb-true, ltb-true, not-false}
 use Rattle.block.specs.Numbers.{bytesOf, numberFrom, valueBytes, valueOf}
 use Rattle.block.specs.Check.{word, sumTo, weightedTo, firstCheck, secondCheck, checkBytes, checkMatches}
 use Rattle.block.specs.Message.{ownerOf, within, kindFits, entriesFit, recordFits, recordsFit, ticketAbsent, ticketsDiffer, valid, signed32}
@@ -19,7 +19,7 @@ use Rattle.block.proofs.BoolLaws.{both}
 use Rattle.memory.specs.Memory.{Memory, bump}
 use Rattle.memory.specs.Rows.{openCount, rowFrom, rowOf, freeRow, indexFrom, has, holderFrom, countBelow}
 use Rattle.memory.specs.Turns.{placeStart}
-use Rattle.engine.specs.Calls.{Answer}
+use Rattle.engine.specs.Calls.{Answer, Outcome}
 use Rattle.engine.specs.Calls.Answer.{refused, made, began, got, wrote, queued, readOnly, withdrew, reported, sent, kept, worked, loaded, restarted}
 use Rattle.engine.specs.Make.{madeMemory, placesFit, partsFit}
 use Rattle.engine.specs.Classes.{hasClass, classFrom, classToCome, mustWait, areClasses, loadRefusal, loadStep}
@@ -29,11 +29,14 @@ use Rattle.engine.specs.Step.{Call, step}
 use Rattle.engine.specs.Step.Call.{write, report, send, deliver}
 use Rattle.engine.specs.Restart.{isGood, blocksFrom, firstBlocks, writesetsFrom, commitAll, commitBlocks, highestTicket, highestOwn, ownWritesets, lastOwn, restartedMemory, restartRefusal, restartStep}
 use Rattle.engine.specs.Worked.{zeros}
+use Rattle.engine.specs.History.{AnyCall}
+use Rattle.engine.specs.History.AnyCall.{call, restart}
 use Rattle.engine.proofs.Tests.{clash}
+use Rattle.engine.proofs.Steps.{restart-by}
 use Rattle.protocol.specs.Lists.{Mem, any}
 use Rattle.protocol.specs.Observer.{sequence, applyAll}
 use Rattle.protocol.proofs.ListLaws.{any-true, any-false}
-use Rattle.agreement.specs.Group.{GroupCall, call, restart, argumentsOf, messageIn, heard, Disk, journalAfter, Group, CallAt, fresh, run, did, next, Comes, MayBeAt, Calls, Lent, Premise}
+use Rattle.agreement.specs.Group.{argumentsOf, messageIn, heard, Disk, journalAfter, Group, CallAt, fresh, run, did, next, Comes, MayBeAt, Calls, Lent, Premise}
 use Rattle.agreement_runs.specs.Worked.{story, forgery, outages, fourth, watched, watching, numbers, watchedValues, seen, after, HeldBy, held, holding, storyValues, outageValues, WorkedRuns, halfApplied, classes, classesValues}
 use Rattle.agreement.proofs.Theorem.{agreement}
 
@@ -49,7 +52,7 @@ same-bytes (x ∷ xs) (y ∷ ys) e =
     rw (eqb-true x y (h .left), same-bytes xs ys (h .right))
 
 -- a block that is kept is one of those handed out
-abbrev known : List (List ℕ) → GroupCall → Answer → Bool
+abbrev known : List (List ℕ) → AnyCall → Answer → Bool
 known B c (refused n) = true
 known B c made = true
 known B c (began t) = true
@@ -65,7 +68,7 @@ known B c (worked s) = true
 known B c loaded = true
 known B c (restarted k b) = true
 
--- for each restart of a list, the call that the cut ended, and how many bytes it left
+-- for each accepted restart of a list, the call that the cut ended, and how many bytes it left
 pub record Outage : Type 0 where
   ended : Call
   count : ℕ
@@ -78,58 +81,111 @@ lentAfter m d journal h =
     signed32 (argumentsOf (call (h .ended)) .value)
     && (sameBytes journal (take (h .count) (journalAfter (d .journal) (call (h .ended)) (step m (h .ended) .answer))) && leb (d .floor) (length journal))
 
-abbrev lentIn : Group → ℕ → GroupCall → List Outage → Bool
-lentIn g k (call c) hs = true
-lentIn g k (restart j l) [] = false
-lentIn g k (restart j l) (h ∷ hs) = lentAfter (g .memories k) (g .disks k) j h
+abbrev pub sameValue : ℤ → ℤ → Bool
+sameValue (pos a) (pos b) = eqb a b
+sameValue (pos a) (negsuc b) = false
+sameValue (negsuc a) (pos b) = false
+sameValue (negsuc a) (negsuc b) = eqb a b
 
-abbrev outagesLeft : GroupCall → List Outage → List Outage
-outagesLeft (call c) hs = hs
-outagesLeft (restart j l) [] = []
-outagesLeft (restart j l) (h ∷ hs) = hs
+unfoldable pub sameValues : List ℤ → List ℤ → Bool
+sameValues [] [] = true
+sameValues [] (y ∷ ys) = false
+sameValues (x ∷ xs) [] = false
+sameValues (x ∷ xs) (y ∷ ys) = sameValue x y && sameValues xs ys
 
-lent-by : (g : Group) (k : ℕ) (j l : List ℕ) (hs : List Outage) → lentIn g k (restart j l) hs ≡ true → Lent (g .memories k) (g .disks k) j
-lent-by g k j l [] e = clash {b = false} e refl
-lent-by g k j l (h ∷ hs) e =
-    let a = both (signed32 (argumentsOf (call (h .ended)) .value)) _ e in
-    let b = both (sameBytes j _) _ (a .right) in
-    record { ended = h .ended; value = a .left; count = h .count; part = same-bytes _ _ (b .left); enough = leb-true _ _ (b .right) }
+same-value : (a b : ℤ) → sameValue a b ≡ true → a ≡ b
+same-value (pos a) (pos b) e = ap pos (eqb-true a b e)
+same-value (pos a) (negsuc b) e = clash {b = false} e refl
+same-value (negsuc a) (pos b) e = clash {b = false} e refl
+same-value (negsuc a) (negsuc b) e = ap negsuc (eqb-true a b e)
+
+same-values : (a b : List ℤ) → sameValues a b ≡ true → a ≡ b
+unfolding sameValues
+same-values [] [] e = refl
+same-values [] (y ∷ ys) e = clash {b = false} e refl
+same-values (x ∷ xs) [] e = clash {b = false} e refl
+same-values (x ∷ xs) (y ∷ ys) e =
+    let h = both (sameValue x y) (sameValues xs ys) e in
+    rw (same-value x y (h .left), same-values xs ys (h .right))
+
+abbrev accepts : Memory → AnyCall → Bool
+accepts m (call c) = false
+accepts m (restart size own values j l) = eqb (restartRefusal m size own values l) 0
+
+abbrev outagesLeft : Memory → AnyCall → List Outage → List Outage
+outagesLeft m c [] = []
+outagesLeft m c (h ∷ hs) = cond (accepts m c) hs (h ∷ hs)
 
 module _ (n : ℕ) (start : List ℤ) where
+  abbrev lentNow : Group → ℕ → AnyCall → Outage → Bool
+  lentNow g k (call c) h = true
+  lentNow g k (restart size own values j l) h = (eqb size n && (eqb own k && sameValues values start)) && lentAfter (g .memories k) (g .disks k) j h
+
+  -- an accepted restart needs an outage
+  abbrev lentIn : Group → ℕ → AnyCall → List Outage → Bool
+  lentIn g k c [] = not (accepts (g .memories k) c)
+  lentIn g k c (h ∷ hs) = cond (accepts (g .memories k) c) (lentNow g k c h) true
+
+  abbrev LentAt : Group → ℕ → ℕ → ℕ → List ℤ → List ℕ → Type 0
+  LentAt g k size own values j = (size ≡ n) × (own ≡ k) × (values ≡ start) × Lent (g .memories k) (g .disks k) j
+
+  lent-by : (g : Group) (k size own : ℕ) (values : List ℤ) (j l : List ℕ) (hs : List Outage) → lentIn g k (restart size own values j l) hs ≡ true
+      → restartRefusal (g .memories k) size own values l ≡ 0 → LentAt g k size own values j
+  lent-by g k size own values j l [] e z = clash {b = false} (rw (eq-eqb (restartRefusal (g .memories k) size own values l) 0 z) at e) refl
+  lent-by g k size own values j l (h ∷ hs) e z =
+      let t : lentNow g k (restart size own values j l) h ≡ true = rw (eq-eqb (restartRefusal (g .memories k) size own values l) 0 z) at e in
+      let u = both (eqb size n && (eqb own k && sameValues values start)) _ t in
+      let v = both (eqb size n) (eqb own k && sameValues values start) (u .left) in
+      let w = both (eqb own k) (sameValues values start) (v .right) in
+      let a = both (signed32 (argumentsOf (call (h .ended)) .value)) _ (u .right) in
+      let b = both (sameBytes j _) _ (a .right) in (
+        eqb-true size n (v .left),
+        eqb-true own k (w .left),
+        same-values values start (w .right),
+        record { ended = h .ended; value = a .left; count = h .count; part = same-bytes _ _ (b .left); enough = leb-true _ _ (b .right) },
+      )
+
+  accepted-lent : (g : Group) (k size own : ℕ) (values : List ℤ) (j l : List ℕ) (hs : List Outage) → lentIn g k (restart size own values j l) hs ≡ true → (x : ℕ) (b : List ℕ)
+      → restartStep (g .memories k) size own values j l .answer ≡ restarted x b → LentAt g k size own values j
+  accepted-lent g k size own values j l hs e x b =
+      restart-by (λ (o : Outcome). o .answer ≡ restarted x b → LentAt g k size own values j) (g .memories k) size own values j l
+      (λ z q. lent-by g k size own values j l hs e z)
+      (λ z q. let w : _≡_ {A = ℕ} 0 1 = cc in absurd (let y : ⊥ = omega arith in y))
+
   unfoldable pub allowed : Group → List CallAt → List Outage → Bool
   allowed g [] hs = true
-  allowed g (c ∷ cs) hs = (known (g .blocks) (c .does) (did n start g c .answer) && lentIn g (c .at) (c .does) hs) && allowed (next n start g c) cs (outagesLeft (c .does) hs)
+  allowed g (c ∷ cs) hs = (known (g .blocks) (c .does) (did g c .answer) && lentIn g (c .at) (c .does) hs) && allowed (next g c) cs (outagesLeft (g .memories (c .at)) (c .does) hs)
 
   record AllowedAt (g : Group) (c : CallAt) : Type 0 where
-    delivers : known (g .blocks) (c .does) (did n start g c .answer) ≡ true
+    delivers : known (g .blocks) (c .does) (did g c .answer) ≡ true
     left : List Outage
     restarts : lentIn g (c .at) (c .does) left ≡ true
 
-  allowed-at : (before : List CallAt) (c : CallAt) (rest : List CallAt) (g : Group) (hs : List Outage) → allowed g (before ++ (c ∷ rest)) hs ≡ true → AllowedAt (run n start g before) c
+  allowed-at : (before : List CallAt) (c : CallAt) (rest : List CallAt) (g : Group) (hs : List Outage) → allowed g (before ++ (c ∷ rest)) hs ≡ true → AllowedAt (run g before) c
   unfolding allowed run
-  allowed-at [] c rest g hs e = let a = both (known (g .blocks) (c .does) (did n start g c .answer)) _ (both _ _ e .left) in record { delivers = a .left; left = hs; restarts = a .right }
+  allowed-at [] c rest g hs e = let a = both (known (g .blocks) (c .does) (did g c .answer)) _ (both _ _ e .left) in record { delivers = a .left; left = hs; restarts = a .right }
   allowed-at (b ∷ before) c rest g hs e =
-      allowed-at before c rest (next n start g b) (outagesLeft (b .does) hs) (both (known (g .blocks) (b .does) (did n start g b .answer) && lentIn g (b .at) (b .does) hs) _ e .right)
+      allowed-at before c rest (next g b) (outagesLeft (g .memories (b .at)) (b .does) hs) (both (known (g .blocks) (b .does) (did g b .answer) && lentIn g (b .at) (b .does) hs) _ e .right)
 
   pub premise-met : (cs : List CallAt) (hs : List Outage) → allowed (fresh n start) cs hs ≡ true → Premise n start cs
   premise-met cs hs e = record {
     delivered = λ before k bytes h a.
-        let m = any-true (sameBytes bytes) _ (subst (λ (o : Answer). known (run n start (fresh n start) before .blocks) (call (deliver bytes)) o ≡ true) a (at before _ h .delivers)) in
-        subst (λ (b : List ℕ). Mem b (run n start (fresh n start) before .blocks)) (sym (same-bytes bytes (m .0) (m .1 .1))) (m .1 .0);
-    lent = λ before k j l x b h q. let a = at before _ h in lent-by (run n start (fresh n start) before) k j l (a .left) (a .restarts);
+        let m = any-true (sameBytes bytes) _ (subst (λ (o : Answer). known (run (fresh n start) before .blocks) (call (deliver bytes)) o ≡ true) a (at before _ h .delivers)) in
+        subst (λ (b : List ℕ). Mem b (run (fresh n start) before .blocks)) (sym (same-bytes bytes (m .0) (m .1 .1))) (m .1 .0);
+    lent = λ before k size own values j l x b h. let a = at before _ h in accepted-lent (run (fresh n start) before) k size own values j l (a .left) (a .restarts) x b;
   }
     where
-      at : (before : List CallAt) (c : CallAt) → Comes cs before c → AllowedAt (run n start (fresh n start) before) c
+      at : (before : List CallAt) (c : CallAt) → Comes cs before c → AllowedAt (run (fresh n start) before) c
       at before c h = allowed-at before c (h .0) (fresh n start) hs (subst (λ (l : List CallAt). allowed (fresh n start) l hs ≡ true) (h .1) e)
 
 -- a restart is a replica's
-abbrev pub hereIn : ℕ → ℕ → GroupCall → Bool
+abbrev pub hereIn : ℕ → ℕ → AnyCall → Bool
 hereIn n k (call c) = true
-hereIn n k (restart j l) = ltb k n
+hereIn n k (restart size own values j l) = ltb k n
 
-here-by : (n k : ℕ) (c : GroupCall) → hereIn n k c ≡ true → MayBeAt n k c
+here-by : (n k : ℕ) (c : AnyCall) → hereIn n k c ≡ true → MayBeAt n k c
 here-by n k (call c) e = tt
-here-by n k (restart j l) e = ltb-true k n e
+here-by n k (restart size own values j l) e = ltb-true k n e
 
 abbrev pub astray : ℕ → CallAt → Bool
 astray n c = not (hereIn n (c .at) (c .does) && signed32 (argumentsOf (c .does) .value))
@@ -171,7 +227,7 @@ abbrev ends : List Outage
 ends = outage (send (replicate 512 0)) 512 ∷ outage (send (replicate 512 0)) 612 ∷ outage report 512 ∷ []
 
 outages-computed : (allowed 3 zeros (fresh 3 zeros) outages ends ≡ true) × (held outages 0 ≡ holding outageValues 2) × (held outages 1 ≡ holding outageValues 2) × (held outages 2 ≡ holding outageValues 2)
-unfolding bytesOf numberFrom valueBytes valueOf word sumTo weightedTo firstCheck secondCheck checkBytes checkMatches ownerOf within kindFits entriesFit recordFits recordsFit ticketAbsent ticketsDiffer valid signed32 entryBytes entriesBytes recordBytes recordsBytes headerFor headerBytes bodyBytes blockOf entryOf entriesOf recordOf recordsOf messageOf allZero entriesPadded recordPadded recordsPadded padded wellFormed firstOf headerOf recordAt entryAt entriesFrom bump rowFrom rowOf freeRow indexFrom has holderFrom countBelow placeStart madeMemory beginRefusal beginAt beginRow writeRefusal rewriteAt insertWrite staleAt writeRow hasClass classFrom classToCome mustWait areClasses loadRefusal loadStep askRefusal readOnlyAt queueAt askRow reportOf waiting writesetOf messageFor sendRefusal sendNow sendStep sameBytes deliverRefusal deliverNow deliverStep entriesFor applied stamped shares afterAborts insertRising hitTickets without workRefusal passNext commitWriteset workStep step run any allowed isGood blocksFrom firstBlocks writesetsFrom commitAll commitBlocks highestTicket highestOwn ownWritesets lastOwn restartedMemory restartRefusal restartStep placesFit partsFit openCount messageIn blockRefusal heard reportStep
+unfolding bytesOf numberFrom valueBytes valueOf word sumTo weightedTo firstCheck secondCheck checkBytes checkMatches ownerOf within kindFits entriesFit recordFits recordsFit ticketAbsent ticketsDiffer valid signed32 entryBytes entriesBytes recordBytes recordsBytes headerFor headerBytes bodyBytes blockOf entryOf entriesOf recordOf recordsOf messageOf allZero entriesPadded recordPadded recordsPadded padded wellFormed firstOf headerOf recordAt entryAt entriesFrom bump rowFrom rowOf freeRow indexFrom has holderFrom countBelow placeStart madeMemory beginRefusal beginAt beginRow writeRefusal rewriteAt insertWrite staleAt writeRow hasClass classFrom classToCome mustWait areClasses loadRefusal loadStep askRefusal readOnlyAt queueAt askRow reportOf waiting writesetOf messageFor sendRefusal sendNow sendStep sameBytes deliverRefusal deliverNow deliverStep entriesFor applied stamped shares afterAborts insertRising hitTickets without workRefusal passNext commitWriteset workStep step run any allowed isGood blocksFrom firstBlocks writesetsFrom commitAll commitBlocks highestTicket highestOwn ownWritesets lastOwn restartedMemory restartRefusal restartStep placesFit partsFit openCount messageIn blockRefusal heard reportStep sameValues
 outages-computed = (refl, refl, refl, refl)
 
 classes-computed : (allowed 3 zeros (fresh 3 zeros) classes [] ≡ true) × (step (after halfApplied .memories 1) (write 1 5 (pos 84)) .answer ≡ wrote)

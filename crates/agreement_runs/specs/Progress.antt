@@ -41,7 +41,7 @@ early =
 
 -- both are given the block and replica 0 works it; replica 1 restarts before it does, and its places are empty
 abbrev pub emptied : List CallAt
-emptied = sending 0 ∷ at 0 (deliver slotZero) ∷ at 1 (deliver slotZero) ∷ at 0 work ∷ restarting 1 [] ∷ []
+emptied = sending 0 ∷ at 0 (deliver slotZero) ∷ at 1 (deliver slotZero) ∷ at 0 work ∷ restarting 2 1 [] ∷ []
 
 -- what a send and a work answer on a memory, and at replica 0 and replica 1 then
 unfoldable pub triedOn : Memory → List ℕ
@@ -51,7 +51,7 @@ abbrev pub tried : Group → List ℕ
 tried g = triedOn (g .memories 0) ++ triedOn (g .memories 1)
 
 abbrev pub after : List CallAt → Group
-after cs = run 2 zeros (fresh 2 zeros) cs
+after cs = run (fresh 2 zeros) cs
 
 pub record Ending (cs : List CallAt) (numbers : List ℕ) : Type 0 where
   pub calls : Calls 2 cs

@@ -13,8 +13,9 @@ use Rattle.engine.specs.Client.{reportOf}
 use Rattle.engine.specs.Step.{Call, step}
 use Rattle.engine.specs.Worked.{zeros}
 use Rattle.engine.specs.Step.Call.{begin, read, write, ask, send, deliver, work, load}
+use Rattle.engine.specs.History.AnyCall.{call, restart}
 use Rattle.protocol.specs.Lists.{Mem}
-use Rattle.agreement.specs.Group.{Group, call, restart, CallAt, fresh, did, next, run, Calls, Premise}
+use Rattle.agreement.specs.Group.{Group, CallAt, fresh, did, next, run, Calls, Premise}
 
 abbrev pub at : ℕ → Call → CallAt
 at k c = record { at = k; does = call c }
@@ -69,8 +70,9 @@ forgery =
 
 -- ---- and power cuts
 
-abbrev pub restarting : ℕ → List ℕ → CallAt
-restarting k journal = record { at = k; does = restart journal (replicate 512 0) }
+-- of replica k of n, lent what it was made with
+abbrev pub restarting : ℕ → ℕ → List ℕ → CallAt
+restarting n k journal = record { at = k; does = restart n k zeros journal (replicate 512 0) }
 
 abbrev pub first : List ℕ
 first = blockCommitting 0 0 1 10 (pos 80)
@@ -91,16 +93,17 @@ third = blockOf (record { kind = 1; sender = 2; replicas = 3; slot = 2; records 
 
 -- replica 0 asks, and a cut ends its send when the block is on its disk: the restart hands the block out. Replica 1 takes it and works; a cut tears the block it
 -- then sends after 100 bytes, so it restarts with slot 0 alone: its transaction is gone, ticket 1 is given anew, and it sends another block for slot 1. Replica 0
--- works that block and loses power: its disk keeps slot 0, its own, and no more. The block is delivered again and worked. Replica 2 takes both, and sends
+-- works that block and loses power: its disk keeps slot 0, its own, and no more. A restart that is lent N = 7 is refused; then it restarts, and the block is delivered again and worked. Replica 2
+-- takes both, and sends
 abbrev pub outages : List CallAt
 outages =
     asking 0 1 10 (pos 80)
-    ++ (restarting 0 first ∷ asking 1 1 20 (pos 70))
+    ++ (restarting 3 0 first ∷ asking 1 1 20 (pos 70))
     ++ taking 1 first
-    ++ (restarting 1 torn ∷ asking 1 1 20 (pos 71))
+    ++ (restarting 3 1 torn ∷ asking 1 1 20 (pos 71))
     ++ (sending 1 ∷ taking 1 second)
     ++ taking 0 second
-    ++ (restarting 0 first ∷ taking 0 second)
+    ++ (restarting 7 0 first ∷ restarting 3 0 first ∷ taking 0 second)
     ++ taking 2 first
     ++ taking 2 second
     ++ (sending 2 ∷ taking 2 third)
@@ -152,7 +155,7 @@ watching =
 -- ---- what the runs leave
 
 abbrev pub after : List CallAt → Group
-after cs = run 3 zeros (fresh 3 zeros) cs
+after cs = run (fresh 3 zeros) cs
 
 -- what replica k holds after a run: its values and its commit count
 pub record HeldBy : Type 0 where
@@ -168,7 +171,7 @@ holding values commits = record { values = values; commits = commits }
 -- the numbers that a list of calls is answered with, from the group g
 unfoldable pub numbers : Group → List CallAt → List ℕ
 numbers g [] = []
-numbers g (c ∷ cs) = numberOf (did 3 zeros g c .answer) ∷ numbers (next 3 zeros g c) cs
+numbers g (c ∷ cs) = numberOf (did g c .answer) ∷ numbers (next g c) cs
 
 abbrev pub storyValues : List ℤ
 storyValues = set (set (set zeros 10 (pos 80)) 20 (pos 70)) 5 (pos 84)

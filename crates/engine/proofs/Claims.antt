@@ -25,6 +25,7 @@ use Rattle.engine.proofs.Tests.{not-first}
 use Rattle.engine.proofs.RowLaws.{all-open, none-free}
 use Rattle.engine.proofs.Rising.{rises-at, aborted-rise}
 use Rattle.engine.proofs.ReadBack.{reads-after}
+use Rattle.engine.proofs.TurnStays.{turn-stays}
 
 rising : {over : ℕ} (m : Memory) → Shape over m → (s : Step) → step m work .answer ≡ worked s
     → (j k : ℕ) → j < k → k < length (s .aborted) → getD (s .aborted) j 0 < getD (s .aborted) k 0
@@ -45,6 +46,7 @@ claims = record {
   read-back = λ m S t x v e. reads-after m S t x v e .0;
   read-other = λ m S t x v e. reads-after m S t x v e .1;
   rising = rising;
+  turn-stays = turn-stays;
   changed = changed;
   full = λ table l e. all-open table 0 (e ∙ sym l) ∙ omega arith;
   six-open = λ table l e. none-free table 0 (e ∙ omega arith) ∙ l;

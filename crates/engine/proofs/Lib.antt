@@ -35,8 +35,9 @@ pub mod Frames
 pub mod Shapes
 pub mod Rising
 pub mod ReadBack
-pub mod Claims
 pub mod SentLaws
+pub mod TurnStays
+pub mod Claims
 pub mod SentClient
 pub mod SentSend
 pub mod SentWork

@@ -18,17 +18,17 @@ use Rattle.engine.specs.Moves.{entriesFor, writesetAt, blockAtTurn}
 use Rattle.engine.specs.Classes.{isApplying, hasClass, classFrom, classToCome, mustWait}
 use Rattle.engine.specs.Client.{rowNo, writeRefusal, writeUnless, writeRow}
 use Rattle.engine.specs.Restart.{blocksIn, Replayed, commitAll, commitBlocks, commitOne, startReplay, writesetsIn, restartedMemory}
-use Rattle.engine.specs.Step.{Call, step, after}
+use Rattle.engine.specs.Step.{Call, step}
 use Rattle.engine.specs.Step.Call.{begin, read, write, ask, withdraw, report, send, deliver, work, load}
+use Rattle.engine.specs.History.{AnyCall, anyStep, afterAll}
+use Rattle.engine.specs.History.AnyCall.{call, restart}
 use Rattle.engine.specs.Shape.{Shape}
 use Rattle.engine.specs.OneClass.{unclassedRefusal, unclassedWrite, Unloaded, isLoad, noLoads, OneClass}
 use Rattle.engine.proofs.Tests.{bool-by, clash}
-use Rattle.engine.proofs.Steps.{writes-so, load-by}
-use Rattle.engine.proofs.Reports.{made-own, restarted-own}
-use Rattle.engine.proofs.Reached.{numbered, own-after}
+use Rattle.engine.proofs.Steps.{writes-so, load-by, restart-by}
+use Rattle.engine.proofs.Reached.{Reached, made-reached, restarted-reached, all-reached}
 use Rattle.engine.proofs.BlockFacts.{taken-block}
 use Rattle.engine.proofs.ShapeMade.{getD-zeros}
-use Rattle.engine.proofs.Shapes.{shapes, shape-after}
 use Rattle.engine.proofs.Frames.{frames}
 
 -- ---- the condition of 7
@@ -82,7 +82,7 @@ module _ {over : ℕ} (m : Memory) (S : Shape over m) (none : Unloaded m) where
 
 -- ---- the table stays
 
-stays : (m : Memory) (c : Call) → isLoad c ≡ false → step m c .memory .store .classes ≡ m .store .classes
+stays : (m : Memory) (c : Call) → isLoad (call c) ≡ false → step m c .memory .store .classes ≡ m .store .classes
 stays m begin h = ap (λ (s : Store). s .classes) (frames .begins m .kept .store)
 stays m (read t i) h = ap (λ (k : Memory). k .store .classes) (frames .reads m t i)
 stays m (write t i v) h = ap (λ (s : Store). s .classes) (frames .writes m t i v .kept .store)
@@ -107,13 +107,6 @@ kept m work h = stays m work refl
 kept m (load l) h =
     load-by (λ (o : Outcome). (o .answer ≡ loaded → ⊥) → o .memory .store .classes ≡ m .store .classes) m l (λ e k. absurd (k refl)) (λ e k. refl) h
 
-none-after : (m : Memory) (cs : List Call) → noLoads cs ≡ true → Unloaded m → Unloaded (after m cs)
-unfolding after noLoads
-none-after m [] h u = u
-none-after m (c ∷ cs) h u =
-    let b = both (not (isLoad c)) (noLoads cs) h in
-    none-after (step m c .memory) cs (b .right) (stays m c (not-true (isLoad c) (b .left)) ∙ u)
-
 -- ---- the start
 
 made-none : (n own : ℕ) (values : List ℤ) → Unloaded (madeMemory n own values)
@@ -134,16 +127,29 @@ restarted-none : (n own : ℕ) (values : List ℤ) (bs : List (List ℕ)) → Un
 unfolding restartedMemory
 restarted-none n own values bs = blocks-none bs (startReplay values)
 
+-- ---- a list
+
+any-none : (m : Memory) (c : AnyCall) → isLoad c ≡ false → Unloaded m → Unloaded (anyStep m c .memory)
+any-none m (call c) h u = stays m c h ∙ u
+any-none m (restart n own values journal block) h u =
+    restart-by (λ (o : Outcome). Unloaded (o .memory)) m n own values journal block (λ e. restarted-none n own values (blocksIn n journal)) (λ e. u)
+
+none-after : (m : Memory) (cs : List AnyCall) → noLoads cs ≡ true → Unloaded m → Unloaded (afterAll m cs)
+unfolding afterAll noLoads
+none-after m [] h u = u
+none-after m (c ∷ cs) h u =
+    let b = both (not (isLoad c)) (noLoads cs) h in
+    none-after (anyStep m c .memory) cs (b .right) (any-none m c (not-true (isLoad c) (b .left)) u)
+
+write-after : (m : Memory) → Reached m → Unloaded m → (cs : List AnyCall) → noLoads cs ≡ true → (ticket item : ℕ) (value : ℤ)
+    → step (afterAll m cs) (write ticket item value) ≡ unclassedWrite (afterAll m cs) ticket item value
+write-after m R u cs q = let N = all-reached m R cs in write-same (afterAll m cs) (N .shape) (none-after m cs q u) (N .replica)
+
 pub one-class : OneClass
 one-class = record {
   writes = λ m S h u. write-same m S u h;
   kept = kept;
-  made = λ n own values l h o v cs q.
-      let m = madeMemory n own values in
-      let S = shapes .made n own values l h o v in
-      write-same (after m cs) (shape-after m S cs) (none-after m cs q (made-none n own values)) (numbered (after m cs) n own (own-after m cs ∙ made-own n own values) o h);
-  restarted = λ n own values l h o v journal cs q.
-      let m = restartedMemory n own values (blocksIn n journal) in
-      let S = shapes .restarted n own values l h o v journal in
-      write-same (after m cs) (shape-after m S cs) (none-after m cs q (restarted-none n own values (blocksIn n journal))) (numbered (after m cs) n own (own-after m cs ∙ restarted-own n own values (blocksIn n journal)) o h);
+  made = λ n own values l h o v. write-after (madeMemory n own values) (made-reached n own values l h o v) (made-none n own values);
+  restarted = λ n own values l h o v journal.
+      write-after (restartedMemory n own values (blocksIn n journal)) (restarted-reached n own values l h o v journal) (restarted-none n own values (blocksIn n journal));
 }

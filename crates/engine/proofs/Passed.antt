@@ -18,6 +18,7 @@ use Rattle.memory.specs.Turns.{isEmpty}
 use Rattle.engine.specs.Classes.{loadRefusal}
 use Rattle.engine.specs.Client.{freeNo, rowNo, rowIn, isOwn, notOpen, notActive, heldByOther, beginRefusal, writeRefusal, askRefusal, withdrawRefusal}
 use Rattle.engine.specs.Moves.{sentAlready, sendRefusal, sameBytes, isOwnBlock, deliverRefusal, workRefusal}
+use Rattle.engine.specs.Make.{placesFit, slicesFit, partsFit}
 use Rattle.engine.specs.Restart.{restartRefusal}
 use Rattle.engine.proofs.Tests.{bool-by, clash, passes}
 
@@ -205,3 +206,14 @@ restart-passed m n own values block e =
     let s = neither (not (within 2 6 n)) (leb n own) (b .0) in
     let w = is-within 2 6 n (not-false _ (s .0)) in
     record { least = w .above; most = w .below; among = leb-false n own (s .1); long = eqb-true _ _ (both-so _ _ (a .0) .left) }
+
+-- the places lent have room for N blocks
+pub restart-places : (m : Memory) (n own : ℕ) (values : List ℤ) (block : List ℕ) → restartRefusal m n own values block ≡ 0 → length (m .blocks .places) ≡ 512 * n
+unfolding restartRefusal partsFit placesFit
+restart-places m n own values block e =
+    let a = passes _ _ refl e in
+    let b = passes _ _ refl (a .1) in
+    let s = neither (not (within 2 6 n)) (leb n own) (b .0) in
+    let g = both (eqb (length block) 512) (partsFit m n) (both-so (eqb (length values) 128) _ (a .0) .right) .right in
+    let f : not (within 2 6 n) || eqb (length (m .blocks .places)) (512 * n) ≡ true = both (slicesFit m) _ g .right in
+    eqb-true (length (m .blocks .places)) (512 * n) (rw (s .0) at f)

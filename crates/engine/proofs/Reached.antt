@@ -1,6 +1,6 @@
 -- What holds of every memory that calls and restarts at a replica lead to. Assumes nothing.
 use Prim.Native.Nat.{ℕ, _≤_, _<_}
-use mathlib.Core.Path.{_≡_, refl, _∙_, ap}
+use mathlib.Core.Path.{_≡_, _∙_, ap}
 use mathlib.Core.Bool.{false}
 use mathlib.Core.List.{List, [], _∷_}
 use native.Mathlib.Omega.{arith}
@@ -12,7 +12,6 @@ use Rattle.memory.specs.Memory.{Memory, noNumber, isStation}
 use Rattle.engine.specs.Calls.{Outcome}
 use Rattle.engine.specs.Make.{madeMemory}
 use Rattle.engine.specs.Restart.{blocksIn, restartedMemory}
-use Rattle.engine.specs.Step.{Call, step, after}
 use Rattle.engine.specs.Shape.{Shape}
 use Rattle.engine.specs.Sent.{SentShape}
 use Rattle.engine.specs.History.{AnyCall, anyStep, afterAll}
@@ -35,14 +34,16 @@ pub record Reached (m : Memory) : Type 0 where
 pub numbered : (m : Memory) (n own : ℕ) → m .group .own ≡ own → own < n → n ≤ 6 → isStation m ≡ false
 numbered m n own e o h = ne-eqb (m .group .own) 255 (λ z. omega arith)
 
--- calls alone leave the number
-pub own-after : (m : Memory) (cs : List Call) → after m cs .group .own ≡ m .group .own
-unfolding after
-own-after m [] = refl
-own-after m (c ∷ cs) = own-after (step m c .memory) cs ∙ own-same m c
-
 pub made-reached : (n own : ℕ) (values : List ℤ) → 2 ≤ n → n ≤ 6 → own < n → length values ≡ 128 → Reached (madeMemory n own values)
 made-reached n own values l h o v = record { over = 0; shape = shapes .made n own values l h o v; sent = sent-shapes .made n own values; replica = numbered (madeMemory n own values) n own (made-own n own values) o h }
+
+pub restarted-reached : (n own : ℕ) (values : List ℤ) → 2 ≤ n → n ≤ 6 → own < n → length values ≡ 128 → (journal : List ℕ) → Reached (restartedMemory n own values (blocksIn n journal))
+restarted-reached n own values l h o v journal = record {
+  over = _;
+  shape = shapes .restarted n own values l h o v journal;
+  sent = sent-shapes .restarted n own values journal;
+  replica = numbered (restartedMemory n own values (blocksIn n journal)) n own (restarted-own n own values (blocksIn n journal)) o h;
+}
 
 pub any-reached : (m : Memory) → Reached m → (c : AnyCall) → Reached (anyStep m c .memory)
 any-reached m R (call c) = record {
@@ -53,13 +54,7 @@ any-reached m R (call c) = record {
 }
 any-reached m R (restart n own values journal block) =
     restart-by (λ (o : Outcome). Reached (o .memory)) m n own values journal block
-    (λ e. let p = restart-passed m n own values block e in
-    record {
-      over = _;
-      shape = shapes .restarted n own values (p .least) (p .most) (p .among) (p .long) journal;
-      sent = sent-shapes .restarted n own values journal;
-      replica = numbered (restartedMemory n own values (blocksIn n journal)) n own (restarted-own n own values (blocksIn n journal)) (p .among) (p .most);
-    })
+    (λ e. let p = restart-passed m n own values block e in restarted-reached n own values (p .least) (p .most) (p .among) (p .long) journal)
     (λ z. R)
 
 pub all-reached : (m : Memory) → Reached m → (cs : List AnyCall) → Reached (afterAll m cs)

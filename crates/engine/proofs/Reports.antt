@@ -205,10 +205,10 @@ pub reports : Reports
 reports = record {
   report = λ n own values l h o v cs.
       let m = madeMemory n own values in
-      report-from (after m cs) (shapes .all n own values l h o v cs)
+      report-from (after m cs) (shape-after m (shapes .made n own values l h o v) cs)
       ∙ ap (reportFrom 0) (tally-kept own m (shapes .made n own values l h o v) (sent-shapes .made n own values) (made-own n own values) cs
       ∙ ap (λ (t : Tally). tally own t m cs) (made-kept n own values));
-  sum = λ n own values l h o v cs. unfold reportOf in sym (add-zero _) ∙ shapes .all n own values l h o v cs .ranges .endings;
+  sum = λ n own values l h o v cs. unfold reportOf in sym (add-zero _) ∙ shape-after (madeMemory n own values) (shapes .made n own values l h o v) cs .ranges .endings;
   restarted = λ n own values l h o v journal cs.
       let bs = blocksIn n journal in
       let m = restartedMemory n own values bs in

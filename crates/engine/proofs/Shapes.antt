@@ -1,8 +1,9 @@
--- Every memory that calls lead to from a replica just made has the shape. Assumes nothing.
+-- Every memory that calls and restarts lead to from a replica just made has the shape. Assumes nothing.
 use Prim.Native.Nat.{ℕ}
 use mathlib.Core.Path.{_≡_}
 use mathlib.Core.List.{List, [], _∷_}
 use native.Mathlib.Omega.{arith}
+use borrow.Author.Tests.{ne-eqb}
 use Rattle.memory.specs.Memory.{Memory}
 use Rattle.memory.specs.Rows.{rowAt}
 use Rattle.engine.specs.Calls.{Outcome}
@@ -10,10 +11,13 @@ use Rattle.engine.specs.Make.{madeMemory}
 use Rattle.engine.specs.Client.{rowNo, ownIndex, reportStep}
 use Rattle.engine.specs.Step.{Call, step, after}
 use Rattle.engine.specs.Step.Call.{begin, read, write, ask, withdraw, report, send, deliver, work, load}
+use Rattle.engine.specs.Restart.{highestOwn, ownWritesets, restartRefusal}
+use Rattle.engine.specs.History.{AnyCall, anyStep, afterAll, History, begun, historyAfter, history}
+use Rattle.engine.specs.History.AnyCall.{call, restart}
 use Rattle.engine.specs.Shape.{Shape, Shapes}
 use Rattle.engine.proofs.RowLaws.{row-found}
-use Rattle.engine.proofs.Steps.{begin-by, read-by, write-by, ask-by, withdraw-by, send-by, deliver-by, work-by, load-by}
-use Rattle.engine.proofs.Passed.{RowPassed, begin-passed, write-passed, stale-passed, ask-passed, withdraw-passed, deliver-passed, load-passed}
+use Rattle.engine.proofs.Steps.{begin-by, read-by, write-by, ask-by, withdraw-by, send-by, deliver-by, work-by, load-by, restart-by}
+use Rattle.engine.proofs.Passed.{RowPassed, begin-passed, write-passed, stale-passed, ask-passed, withdraw-passed, deliver-passed, load-passed, restart-passed}
 use Rattle.engine.proofs.Shaping.{shape-loaded}
 use Rattle.engine.proofs.ShapeMade.{shape-made}
 use Rattle.engine.proofs.ShapeBegin.{shape-begin}
@@ -66,10 +70,25 @@ unfolding after
 shape-after m s [] = s
 shape-after m s (c ∷ cs) = shape-after (step m c .memory) (shape-each m s c) cs
 
+-- ---- restarts among the calls
+
+any-shape : (h : History) (m : Memory) → Shape (h .over) m → (c : AnyCall) → Shape (historyAfter h c (anyStep m c .answer) .over) (anyStep m c .memory)
+any-shape h m s (call c) = shape-each m s c
+any-shape h m s (restart n own values journal block) =
+    restart-by (λ (o : Outcome). Shape (historyAfter h (restart n own values journal block) (o .answer) .over) (o .memory)) m n own values journal block
+    (λ e. let p = restart-passed m n own values block e in shape-restarted n own values (p .least) (p .most) (p .among) (p .long) journal)
+    (λ z. rw (ne-eqb (restartRefusal m n own values block) 0 z) s)
+
+shape-all : (h : History) (m : Memory) → Shape (h .over) m → (cs : List AnyCall) → Shape (history h m cs .over) (afterAll m cs)
+unfolding history afterAll
+shape-all h m s [] = s
+shape-all h m s (c ∷ cs) = shape-all (historyAfter h c (anyStep m c .answer)) (anyStep m c .memory) (any-shape h m s c) cs
+
 pub shapes : Shapes
+unfolding highestOwn ownWritesets
 shapes = record {
   made = shape-made;
   each = shape-each;
-  all = λ n own values l h o v cs. shape-after (madeMemory n own values) (shape-made n own values l h o v) cs;
+  all = λ n own values l h o v cs. shape-all (begun own []) (madeMemory n own values) (shape-made n own values l h o v) cs;
   restarted = shape-restarted;
 }

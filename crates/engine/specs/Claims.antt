@@ -1,9 +1,9 @@
--- What calls answer: on every memory of the shape a write is read again, the tickets that a work names rise, and no row is free exactly where six transactions are open; on every memory a deliver
--- of a block that a fault changed is refused.
+-- What calls answer: on every memory of the shape a write is read again, the tickets that a work names rise, the turn stays until a block sent is delivered back, and no row is free exactly where
+-- six transactions are open; on every memory a deliver of a block that a fault changed is refused.
 use Prim.Native.Nat.{ℕ, _<_}
 use mathlib.Core.Path.{_≡_}
 use mathlib.Core.Bool.{true}
-use mathlib.Core.List.{List}
+use mathlib.Core.List.{List, List·Memᴰ}
 use lib.IntN.{ℤ}
 use lib.ListN.{length, getD}
 use Rattle.block.specs.Theorems.{Accepted, TwoWordsChanged}
@@ -11,11 +11,12 @@ use Rattle.memory.specs.declared.Txn.{Txn}
 use Rattle.memory.specs.Memory.{Memory}
 use Rattle.memory.specs.Rows.{openCount, freeRow}
 use Rattle.engine.specs.Calls.{Step}
-use Rattle.engine.specs.Calls.Answer.{refused, got, wrote, worked}
+use Rattle.engine.specs.Calls.Answer.{refused, got, wrote, sent, worked}
 use Rattle.engine.specs.Moves.{deliverLent}
-use Rattle.engine.specs.Step.{step}
-use Rattle.engine.specs.Step.Call.{read, write, deliver, work}
+use Rattle.engine.specs.Step.{Call, step, after}
+use Rattle.engine.specs.Step.Call.{read, write, send, deliver, work}
 use Rattle.engine.specs.Shape.{Shape}
+use Rattle.engine.specs.Sent.{SentShape}
 
 pub record Claims : Type 0 where
   -- a read under the ticket gives what it wrote last to the item
@@ -27,6 +28,9 @@ pub record Claims : Type 0 where
   -- the aborted tickets rise strictly
   pub rising : {over : ℕ} (m : Memory) → Shape over m → (s : Step) → step m work .answer ≡ worked s
       → (j k : ℕ) → j < k → k < length (s .aborted) → getD (s .aborted) j 0 < getD (s .aborted) k 0
+  -- after a send the turn stays until the replica gets its block back: through any calls but a deliver of it
+  pub turn-stays : {over : ℕ} (m : Memory) → Shape over m → SentShape m → (lent block : List ℕ) → step m (send lent) .answer ≡ sent block
+      → (cs : List Call) → (List·Memᴰ (deliver block) cs → ⊥) → after (step m (send lent) .memory) cs .turn .slot ≡ m .turn .slot
   -- of an accepted block with one or two of its words changed, whatever the memory: 14
   pub changed : (m : Memory) (b c : List ℕ) (i j : ℕ) → Accepted b → TwoWordsChanged b c i j → deliverLent m c ≡ true → step m (deliver c) .answer ≡ refused 14
   -- 5's condition, no free row, holds exactly where 6 transactions are open

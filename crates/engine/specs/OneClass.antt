@@ -1,4 +1,4 @@
--- With no table of classes loaded a write is that of an engine without classes, on every memory that calls lead to: what it was before document 02's Req 02, but for the order of 9 and 8,
+-- With no table of classes loaded a write is that of an engine without classes, on every memory that calls and restarts lead to: what it was before document 02's Req 02, but for the order of 9 and 8,
 -- which is today's here (`Staleness.antt` has the order of before).
 use Prim.Native.Nat.{ℕ, _≤_, _<_}
 use mathlib.Core.Path.{_≡_}
@@ -15,8 +15,10 @@ use Rattle.engine.specs.Make.{madeMemory}
 use Rattle.engine.specs.Classes.{isApplying}
 use Rattle.engine.specs.Client.{rowNo, earlyRefusals, lateRefusals, writeUnless}
 use Rattle.engine.specs.Restart.{blocksIn, restartedMemory}
-use Rattle.engine.specs.Step.{Call, step, after}
+use Rattle.engine.specs.Step.{Call, step}
 use Rattle.engine.specs.Step.Call.{begin, read, write, ask, withdraw, report, send, deliver, work, load}
+use Rattle.engine.specs.History.{AnyCall, afterAll}
+use Rattle.engine.specs.History.AnyCall.{call, restart}
 use Rattle.engine.specs.Shape.{Shape}
 
 -- the refusals of a write without classes: 7 wherever the applying mark is on, and neither classes nor places lent
@@ -31,20 +33,21 @@ unclassedWrite m ticket item value = writeUnless (unclassedRefusal m (rowNo m ti
 abbrev pub Unloaded : Memory → Type 0
 Unloaded m = m .store .classes ≡ replicate 128 0
 
-abbrev pub isLoad : Call → Bool
-isLoad begin = false
-isLoad (read t i) = false
-isLoad (write t i v) = false
-isLoad (ask t) = false
-isLoad (withdraw t) = false
-isLoad report = false
-isLoad (send b) = false
-isLoad (deliver b) = false
-isLoad work = false
-isLoad (load l) = true
+abbrev pub isLoad : AnyCall → Bool
+isLoad (call begin) = false
+isLoad (call (read t i)) = false
+isLoad (call (write t i v)) = false
+isLoad (call (ask t)) = false
+isLoad (call (withdraw t)) = false
+isLoad (call report) = false
+isLoad (call (send b)) = false
+isLoad (call (deliver b)) = false
+isLoad (call work) = false
+isLoad (call (load l)) = true
+isLoad (restart n own values journal block) = false
 
 -- no call of the list is a load
-unfoldable pub noLoads : List Call → Bool
+unfoldable pub noLoads : List AnyCall → Bool
 noLoads [] = true
 noLoads (c ∷ cs) = not (isLoad c) && noLoads cs
 
@@ -53,9 +56,9 @@ pub record OneClass : Type 0 where
       → step m (write ticket item value) ≡ unclassedWrite m ticket item value
   -- an accepted load alone changes the table
   pub kept : (m : Memory) (c : Call) → (step m c .answer ≡ loaded → ⊥) → step m c .memory .store .classes ≡ m .store .classes
-  -- so on any list of calls without a load, after a make or a restart
-  pub made : (n own : ℕ) (values : List ℤ) → 2 ≤ n → n ≤ 6 → own < n → length values ≡ 128 → (cs : List Call) → noLoads cs ≡ true → (ticket item : ℕ) (value : ℤ)
-      → let m = after (madeMemory n own values) cs in step m (write ticket item value) ≡ unclassedWrite m ticket item value
-  pub restarted : (n own : ℕ) (values : List ℤ) → 2 ≤ n → n ≤ 6 → own < n → length values ≡ 128 → (journal : List ℕ) (cs : List Call) → noLoads cs ≡ true
+  -- so on any list of calls and restarts without a load, after a make or a restart
+  pub made : (n own : ℕ) (values : List ℤ) → 2 ≤ n → n ≤ 6 → own < n → length values ≡ 128 → (cs : List AnyCall) → noLoads cs ≡ true → (ticket item : ℕ) (value : ℤ)
+      → let m = afterAll (madeMemory n own values) cs in step m (write ticket item value) ≡ unclassedWrite m ticket item value
+  pub restarted : (n own : ℕ) (values : List ℤ) → 2 ≤ n → n ≤ 6 → own < n → length values ≡ 128 → (journal : List ℕ) (cs : List AnyCall) → noLoads cs ≡ true
       → (ticket item : ℕ) (value : ℤ)
-      → let m = after (restartedMemory n own values (blocksIn n journal)) cs in step m (write ticket item value) ≡ unclassedWrite m ticket item value
+      → let m = afterAll (restartedMemory n own values (blocksIn n journal)) cs in step m (write ticket item value) ≡ unclassedWrite m ticket item value

@@ -1,8 +1,8 @@
--- The memory's shape: what holds of every memory that calls lead to from a replica or a station just made, with any bytes and any arguments.
+-- The memory's shape: what holds of every memory that calls and restarts lead to from a replica or a station just made, with any bytes, journals and arguments.
 use Prim.Native.Nat.{ℕ, _+_, _*_, _-_, _≤_, _<_}
 use mathlib.Core.Path.{_≡_}
 use mathlib.Core.Bool.{true, false}
-use mathlib.Core.List.{List, _++_}
+use mathlib.Core.List.{List, [], _++_}
 use lib.IntN.{ℤ}
 use lib.ListN.{length, getD, replicate}
 use Rattle.block.specs.Answers.{blockRefusal, headerOf}
@@ -11,8 +11,9 @@ use Rattle.memory.specs.Rows.{closed, openCount, rowOf, rowAt, writeCount, item
 use Rattle.memory.specs.Turns.{isOn, blockIn, isEmpty}
 use Rattle.engine.specs.Make.{madeMemory}
 use Rattle.engine.specs.Moves.{waiting, blockAtTurn}
-use Rattle.engine.specs.Step.{Call, step, after}
+use Rattle.engine.specs.Step.{Call, step}
 use Rattle.engine.specs.Restart.{blocksIn, repeated, restartedMemory}
+use Rattle.engine.specs.History.{AnyCall, afterAll, begun, history}
 
 pub record Lengths (m : Memory) : Type 0 where
   pub table : length (m .txns .table) ≡ 6
@@ -90,7 +91,8 @@ pub record Shape (over : ℕ) (m : Memory) : Type 0 where
 pub record Shapes : Type 0 where
   pub made : (n own : ℕ) (values : List ℤ) → 2 ≤ n → n ≤ 6 → own < n → length values ≡ 128 → Shape 0 (madeMemory n own values)
   pub each : {over : ℕ} (m : Memory) → Shape over m → (c : Call) → Shape over (step m c .memory)
-  pub all : (n own : ℕ) (values : List ℤ) → 2 ≤ n → n ≤ 6 → own < n → length values ≡ 128 → (cs : List Call) → Shape 0 (after (madeMemory n own values) cs)
+  pub all : (n own : ℕ) (values : List ℤ) → 2 ≤ n → n ≤ 6 → own < n → length values ≡ 128 → (cs : List AnyCall)
+      → let m = madeMemory n own values in Shape (history (begun own []) m cs .over) (afterAll m cs)
   -- from any journal
   pub restarted : (n own : ℕ) (values : List ℤ) → 2 ≤ n → n ≤ 6 → own < n → length values ≡ 128 → (journal : List ℕ)
       → Shape (repeated own (blocksIn n journal)) (restartedMemory n own values (blocksIn n journal))

@@ -35,4 +35,6 @@ worked-cases = record {
   own-early = refl;
   aborted = refl;
   stale = refl;
+  limits = refl;
+  limits-sent = refl;
 }

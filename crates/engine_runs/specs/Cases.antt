@@ -3,15 +3,15 @@ use Prim.Native.Nat.{ℕ}
 use mathlib.Core.Path.{_≡_}
 use mathlib.Core.Bool.{true}
 use mathlib.Core.List.{List, [], _∷_, _++_}
-use lib.IntN.{pos}
+use lib.IntN.{pos, negsuc}
 use lib.ListN.{replicate, drop}
 use Rattle.block.specs.Bytes.{blockOf}
 use Rattle.block.specs.Worked.{WorkedBlocks, exampleCommit}
 use Rattle.engine.specs.Calls.{numberOf}
-use Rattle.engine.specs.Calls.Answer.{sent, kept, worked}
+use Rattle.engine.specs.Calls.Answer.{got, queued, sent, kept, worked}
 use Rattle.engine.specs.Make.{makeStep}
 use Rattle.engine.specs.Step.{Call}
-use Rattle.engine.specs.Step.Call.{begin, write, ask, withdraw, send, deliver, work}
+use Rattle.engine.specs.Step.Call.{begin, read, write, ask, withdraw, send, deliver, work}
 use Rattle.engine.specs.Worked.{answers, numbers, zeros, fresh, nextBlock}
 
 abbrev pub makeNumber : ℕ → ℕ
@@ -34,6 +34,16 @@ writeEight =
     ∷ write 1 7 (pos 1)
     ∷ []
 
+-- a *tocommit* of replica 0 of 2, for slot 0: ticket 1 writes the least value to item 0 and the greatest to item 127
+abbrev pub limitsBlock : List ℕ
+limitsBlock = blockOf (record {
+  kind = 2;
+  sender = 0;
+  replicas = 2;
+  slot = 0;
+  records = record { ticket = 1; entries = record { item = 0; value = negsuc 2_147_483_647 } ∷ record { item = 127; value = pos 2_147_483_647 } ∷ [] } ∷ [];
+})
+
 pub record WorkedCases : Type 0 where
   pub blocks : WorkedBlocks
   pub size-1 : makeNumber 1 ≡ 2
@@ -50,3 +60,7 @@ pub record WorkedCases : Type 0 where
       ≡ kept ∷ worked (record { sender = 1; ticket = 1; moved = true; aborted = 1 ∷ []; append = blockOf exampleCommit }) ∷ sent (nextBlock 2 0 2) ∷ []
   pub stale : numbers (fresh 2 0) (firstTurn ++ (begin ∷ deliver (blockOf exampleCommit) ∷ work ∷ write 1 5 (pos 9) ∷ write 1 5 (pos 9) ∷ []))
       ≡ replicate 6 0 ++ (9 ∷ 3 ∷ [])
+  -- −2,147,483,648 and 2,147,483,647 come back unchanged: read where they were written, sent, and read at the other replica once committed
+  pub limits : drop 3 (answers (fresh 2 0) (begin ∷ write 1 0 (negsuc 2_147_483_647) ∷ write 1 127 (pos 2_147_483_647) ∷ read 1 0 ∷ read 1 127 ∷ ask 1 ∷ send (replicate 512 0) ∷ []))
+      ≡ got (negsuc 2_147_483_647) ∷ got (pos 2_147_483_647) ∷ queued ∷ sent limitsBlock ∷ []
+  pub limits-sent : drop 3 (answers (fresh 2 1) (deliver limitsBlock ∷ work ∷ begin ∷ read 1 0 ∷ read 1 127 ∷ [])) ≡ got (negsuc 2_147_483_647) ∷ got (pos 2_147_483_647) ∷ []

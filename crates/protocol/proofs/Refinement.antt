@@ -37,7 +37,11 @@ module _ {X : Type 0} (S : Setup X) where
     });
     txns = rw (L .commits, L .tickets) (open-sub S (sequence D) k (p .noted) (r .store .commits) (r .transactions .tickets) (r .transactions .txns) (M .txns) (s .transactions .txns) (L .back));
     queue = rw (L .queue) (queue-same (p .pending) (r .transactions .queue) (r .transactions .txns) (M .queue) (s .transactions .txns) (λ u m e. (u, (L .there u m, refl, e))));
-    stamps = record { low = λ q h i g. rw (L .stamps i) (M .stamps .low q (rw (L .commits) at h) i g) };
+    stamps = record {
+      within = λ i. rw (L .stamps i, L .commits) (M .stamps .within i);
+      written = λ i q e. M .stamps .written i q (sym (L .stamps i) ∙ e);
+      last = λ q h i g. rw (L .stamps i) (M .stamps .last q (rw (L .commits) at h) i g);
+    };
   }
     where
       T : Tracked S D (p .commits) k (r .cursor) (r .store) (r .blocks)
@@ -52,7 +56,7 @@ module _ {X : Type 0} (S : Setup X) where
   }
 
   module _ (M : Machine S) where
-    open Machine M using (Memory, Command, perform, meaning, Member, view, Sound, make, refines, stays, made-sound, made-alike)
+    open Machine M using (Memory, Command, perform, meaning, Member, view, Sound, Allowed, make, refines, stays, made-sound, made-alike)
 
     -- a refusal other than 9 says nothing
     refusal-claim : (F : List (Placed X)) (D : List (Handout X)) (p : Observed X) (k : ℕ) (o : Option (Call X)) (c : ℕ) → (c ≡ 9 → ⊥) → CommandClaim S F D p k o (refused c)
@@ -75,7 +79,7 @@ module _ {X : Type 0} (S : Setup X) where
         pub sound : (k : ℕ) → Member k → Sound k (g .memories k)
 
       module _ (g : MachineSystem S M) (H : MachineInv g) (a : CommandAt S M) (h : HandedOut (g .messages) (perform (a .at) (g .memories (a .at)) (a .command) .event))
-          (lent : CommandLent S M (g .journals (a .at)) (a .at) (g .memories (a .at)) (a .command)) where
+          (lent : CommandLent S M (g .journals (a .at)) (a .at) (g .memories (a .at)) (a .command)) (allowed : Allowed (a .at) (g .memories (a .at)) (a .command)) where
         abbrev k : ℕ
         k = a .at
 
@@ -101,8 +105,8 @@ module _ {X : Type 0} (S : Setup X) where
         did = perform (a .at) (g .memories (a .at)) (a .command)
 
         -- what a command appends is what some call does
-        appends-as : (b : Command) (l : List (Message X)) → Cut J (appendedBy S M k m b) l → (c : Call X) × Cut J (appends S r (step S r c)) l
-        appends-as b l C = go (refines k m b (H .sound k (a .here)))
+        appends-as : (b : Command) → Allowed k m b → (l : List (Message X)) → Cut J (appendedBy S M k m b) l → (c : Call X) × Cut J (appends S r (step S r c)) l
+        appends-as b may l C = go (refines k m b (H .sound k (a .here)) may)
           where
             go : Refines S (perform k) meaning (view k) m b → (c : Call X) × Cut J (appends S r (step S r c)) l
             go (refuses c n e L) = unfold step appended in (report, subst (λ (v : Event X). Cut J (appended S r (view k (perform k m b .memory) .cursor .turn) v) l) e C)
@@ -114,10 +118,10 @@ module _ {X : Type 0} (S : Setup X) where
 
         lent-of : (c : Call X) → meaning (a .command) ≡ some c → did .event ≡ step S r c .event → Lent S J r c
         unfolding step
-        lent-of c q e l i = let C = lent l _ _ (q ∙ ap some i) (e ∙ ap (λ (d : Call X). step S r d .event) i) in appends-as (C .0) l (C .1)
+        lent-of c q e l i = let C = lent l _ _ (q ∙ ap some i) (e ∙ ap (λ (d : Call X). step S r d .event) i) in appends-as (C .0) (C .1) l (C .2)
 
         kept : Kept S D B p k (record { replica = view k (did .memory); event = did .event })
-        kept = go (refines k m (a .command) (H .sound k (a .here)))
+        kept = go (refines k m (a .command) (H .sound k (a .here)) allowed)
           where
             go : Refines S (perform k) meaning (view k) m (a .command) → Kept S D B p k (record { replica = view k (did .memory); event = did .event })
             go (refuses c n e L) = kept-alike D B p k (record { replica = r; event = refused c }) _ _ e L
@@ -126,7 +130,7 @@ module _ {X : Type 0} (S : Setup X) where
                 (step-keeps S A D B p k r (H .inv .whole) (H .inv .each k) J (H .inv .journals k) c (rw e at h) (lent-of c q e))
 
         journaled : Journaled S (handoutsAfter D k p (did .event)) k (view k (did .memory) .cursor .turn) (journalAfter J (appendedBy S M k m (a .command)) (did .event))
-        journaled = go (refines k m (a .command) (H .sound k (a .here)))
+        journaled = go (refines k m (a .command) (H .sound k (a .here)) allowed)
           where
             After : ℕ → Event X → Type 0
             After n v = Journaled S (handoutsAfter D k p v) k n (journalAfter J (appended S r n v) v)
@@ -138,7 +142,7 @@ module _ {X : Type 0} (S : Setup X) where
                 (subst (λ (n : ℕ). After n (step S r c .event)) (ap (λ (x : Cursor). x .turn) (sym (L .cursor))) (step-journal S A D B p k r (H .inv .whole) (H .inv .each k) J (H .inv .journals k) c (lent-of c q e)))
 
         said : (E : List (Placed X)) → CommandClaim S (sequence D ++ E) D p k (meaning (a .command)) (did .event)
-        said E = go (refines k m (a .command) (H .sound k (a .here)))
+        said E = go (refines k m (a .command) (H .sound k (a .here)) allowed)
           where
             go : Refines S (perform k) meaning (view k) m (a .command) → CommandClaim S (sequence D ++ E) D p k (meaning (a .command)) (did .event)
             go (refuses c n e L) = subst (λ (v : Event X). CommandClaim S (sequence D ++ E) D p k (meaning (a .command)) v) (sym e) (refusal-claim (sequence D ++ E) D p k (meaning (a .command)) c n)
@@ -163,7 +167,7 @@ module _ {X : Type 0} (S : Setup X) where
             one j false e = kept .others j (eqb-false j k e) (g .observed j) (view j (g .memories j)) (H .inv .each j)
 
             two : (j : ℕ) → Member j → (b : Bool) → eqb j k ≡ b → Sound j (cond b m′ (g .memories j))
-            two j h true e = subst (λ (i : ℕ). Sound i m′) (sym (eqb-true j k e)) (stays k m (a .command) (H .sound k (a .here)))
+            two j h true e = subst (λ (i : ℕ). Sound i m′) (sym (eqb-true j k e)) (stays k m (a .command) (H .sound k (a .here)) allowed)
             two j h false e = H .sound j h
 
             J′ : Journal X
@@ -184,12 +188,12 @@ module _ {X : Type 0} (S : Setup X) where
       pub inv-commands : (cs : List (CommandAt S M)) (g : MachineSystem S M) → MachineInv g → CommandPremise S M g cs → MachineInv (runCommands S M g cs)
       unfolding runCommands CommandPremise
       inv-commands [] g H f = H
-      inv-commands (a ∷ cs) g H f = inv-commands cs (afterCommand S M g a) (inv-next g H a (f .0 .0) (f .0 .1)) (f .1)
+      inv-commands (a ∷ cs) g H f = inv-commands cs (afterCommand S M g a) (inv-next g H a (f .0 .0) (f .0 .1) (f .0 .2)) (f .1)
 
       pub command-claims-hold : (cs : List (CommandAt S M)) (g : MachineSystem S M) → MachineInv g → CommandPremise S M g cs → CommandClaims S M (sequence (runCommands S M g cs .handouts)) g cs
       unfolding runCommands CommandPremise CommandClaims
       command-claims-hold [] g H f = tt
-      command-claims-hold (a ∷ cs) g H f = let E = commands-grow (a ∷ cs) g in (rw (E .1) (said g H a (f .0 .0) (f .0 .1) (E .0)), command-claims-hold cs (afterCommand S M g a) (inv-next g H a (f .0 .0) (f .0 .1)) (f .1))
+      command-claims-hold (a ∷ cs) g H f = let E = commands-grow (a ∷ cs) g in (rw (E .1) (said g H a (f .0 .0) (f .0 .1) (f .0 .2) (E .0)), command-claims-hold cs (afterCommand S M g a) (inv-next g H a (f .0 .0) (f .0 .1) (f .0 .2)) (f .1))
 
   pub fresh-inv : (M : Machine S) (A : PlacesApart S) → MachineInv M A (freshSystem S M)
   fresh-inv M A = record {

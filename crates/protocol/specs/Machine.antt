@@ -38,7 +38,7 @@ module _ {X : Type 0} (S : Setup X) where
       follows : (c : Call X) → meaning a ≡ some c → perform m a .event ≡ step S (view m) c .event → Alike (step S (view m) c .replica) (view (perform m a .memory)) → Refines m a
 
   -- perform k: what a command at member k does and how the observer sees it; meaning: the call it is, if it is well formed; Member k: the group has a replica k;
-  -- view k, Sound k: the memory of member k as a replica's state, and what it meets after every call
+  -- view k, Sound k: the memory of member k as a replica's state, and what it meets after every call; Allowed k: what a premise asks of a command there
   pub record Machine : Type 1 where
     pub Memory : Type 0
     pub Command : Type 0
@@ -47,9 +47,10 @@ module _ {X : Type 0} (S : Setup X) where
     pub Member : ℕ → Type 0
     pub view : ℕ → Memory → Replica X
     pub Sound : ℕ → Memory → Type 0
+    pub Allowed : ℕ → Memory → Command → Type 0
     pub make : ℕ → Memory
-    pub refines : (k : ℕ) (m : Memory) (a : Command) → Sound k m → Refines (perform k) meaning (view k) m a
-    pub stays : (k : ℕ) (m : Memory) (a : Command) → Sound k m → Sound k (perform k m a .memory)
+    pub refines : (k : ℕ) (m : Memory) (a : Command) → Sound k m → Allowed k m a → Refines (perform k) meaning (view k) m a
+    pub stays : (k : ℕ) (m : Memory) (a : Command) → Sound k m → Allowed k m a → Sound k (perform k m a .memory)
     pub made-sound : (k : ℕ) → Member k → Sound k (make k)
     pub made-alike : (k : ℕ) → Alike (made S k) (view k (make k))
 
@@ -59,7 +60,7 @@ module _ {X : Type 0} (S : Setup X) where
   CommandClaim F D p k (some c) e = Claim S F D p k c e
 
   module _ (M : Machine) where
-    open Machine M using (Memory, Command, perform, meaning, Member, view, make)
+    open Machine M using (Memory, Command, perform, meaning, Member, view, Allowed, make)
 
     pub record MachineSystem : Type 0 where
       pub memories : ℕ → Memory
@@ -97,13 +98,14 @@ module _ {X : Type 0} (S : Setup X) where
     -- what an accepted restart is lent is left by a cut, in which one command of any kind may have ended
     abbrev pub CommandLent : Journal X → ℕ → Memory → Command → Type 0
     CommandLent J k m a = (lent held : List (Message X)) (given : Option (Message X)) → meaning a ≡ some (restart lent) → perform k m a .event ≡ restarted held given
-        → (ended : Command) × Cut J (appendedBy k m ended) lent
+        → (ended : Command) × Allowed k m ended × Cut J (appendedBy k m ended) lent
 
     -- the premise on a list of commands
     unfoldable pub CommandPremise : MachineSystem → List CommandAt → Type 0
     CommandPremise g [] = Unit
     CommandPremise g (a ∷ cs) =
-        (HandedOut (g .messages) (perform (a .at) (g .memories (a .at)) (a .command) .event) × CommandLent (g .journals (a .at)) (a .at) (g .memories (a .at)) (a .command))
+        (HandedOut (g .messages) (perform (a .at) (g .memories (a .at)) (a .command) .event) × CommandLent (g .journals (a .at)) (a .at) (g .memories (a .at)) (a .command)
+        × Allowed (a .at) (g .memories (a .at)) (a .command))
         × CommandPremise (afterCommand g a) cs
 
     -- the group as the model sees it
