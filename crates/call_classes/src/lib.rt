@@ -68,7 +68,7 @@ pub fn must_wait(
     if turn.applying == 0 {
         return false;
     }
-    let at = place_start(group, turn.slot);
+    let at = place_start(group.replicas, turn.slot);
     let end = at + 512;
     if places.len() < end {
         return false;

@@ -88,7 +88,7 @@ fn refusal(
     if not_sent_here(turn, group.own, header.sender, outbox, bytes) {
         return 19;
     }
-    let first = place_start(group, header.slot);
+    let first = place_start(group.replicas, header.slot);
     if places[first] != 0 {
         return 20;
     }
@@ -114,7 +114,7 @@ pub fn deliver(group: Group, turn: Turn, places: &mut [u8], outbox: &[u8], bytes
     if number != 0 {
         return number;
     }
-    let at = place_start(group, header.slot);
+    let at = place_start(group.replicas, header.slot);
     copy_bytes(bytes, &mut places[at..at + 512]);
     0
 }

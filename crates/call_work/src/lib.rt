@@ -256,7 +256,7 @@ pub fn work(
         stamps.len(),
         places.len(),
     );
-    let at = place_start(group, turn.slot);
+    let at = place_start(group.replicas, turn.slot);
     let number = refusal(fits, at, &*places);
     if number != 0 {
         return unchanged(number, turn, counts);

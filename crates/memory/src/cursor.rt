@@ -1,6 +1,6 @@
 // The turn as a cursor: methods by value, each of which hands the cursor back; and the place of a slot.
 ghost use mathlib.Core.Path.{_≡_};
-ghost use Rattle.memory.specs.Memory.{ownerAt, span};
+ghost use Rattle.memory.specs.Memory.{ownerAt};
 ghost use Rattle.memory.specs.Turns.{markSent, markApplying, advance, placeStart};
 use super::Group;
 use super::Owned;
@@ -55,12 +55,12 @@ impl Turn {
     }
 }
 
-// Where the place of a slot begins; of a group with no replica it is defined too.
-pub fn place_start(group: Group, slot: u32) -> usize
-    ensures { λ r. ⌜ r ≡ placeStart (span group) slot ⌝ }
+// Where the place of a slot begins, among so many; where there is none it is defined too. By the number and not the group: one field read twice is one division.
+pub fn place_start(span: u8, slot: u32) -> usize
+    ensures { λ r. ⌜ r ≡ placeStart span slot ⌝ }
 {
-    if group.replicas == 0 {
+    if span == 0 {
         return 512 * slot as usize;
     }
-    512 * (slot % (group.replicas as u32)) as usize
+    512 * (slot % (span as u32)) as usize
 }

@@ -1,22 +1,25 @@
 -- A call at a place, and the journal after it. Assumes nothing.
-use Prim.Native.Nat.{ℕ}
-use mathlib.Core.Path.{_≡_, ap, _∙_}
+use Prim.Native.Nat.{ℕ, _+_, _≤_, min}
+use mathlib.Core.Path.{_≡_, sym, ap, _∙_}
 use mathlib.Core.Bool.{Bool, true, false, not}
 use mathlib.Core.List.{List}
 use mathlib.Core.Logic.{_⊎_, inl, inr}
 use borrow.Author.Tests.{eq-eqb, ne-eqb}
 use lib.Dec.{eqb}
-use lib.ListN.{length}
+use native.Mathlib.Omega.{arith}
+use lib.ListN.{length, take}
+use lib.Seq.{paste, length-paste, take-paste}
 use Rattle.memory.specs.Memory.{numberless}
 use Rattle.memory.specs.declared.Group.{Group}
 use Rattle.replay_parse.specs.declared.Call.{Call}
-use Rattle.replay_journal.specs.declared.Change.{Change}
 use Rattle.replay_journal.specs.declared.Held.{Held}
-use Rattle.replay_journal.specs.Journals.{Journal, changed, journalOf, hasPart, bytesGiven}
-use Rattle.replay_calls.specs.declared.Played.{Played}
-use Rattle.replay_calls.specs.declared.Replica.{Replica}
-use Rattle.replay_calls.specs.Effects.{memoryOf, sizeLent, Effect, played, Plays}
-use Rattle.replay.specs.Places.{isReplica, isThere, isAnswered, asMade, PlaysAt}
+use Rattle.replay_journal.specs.Journals.{Journal, changed, journalOf, hasPart, bytesGiven, Lends}
+use Rattle.replay_journal.proofs.JournalLaws.{take-there}
+use Rattle.replay_replica.specs.declared.Played.{Played}
+use Rattle.replay_replica.specs.declared.Replica.{Replica}
+use Rattle.replay_replica.specs.Effects.{memoryOf, Effect, Plays}
+use Rattle.replay_calls.specs.Letters.{sizeLent, played}
+use Rattle.replay.specs.Places.{isReplica, isThere, isAnswered, asMade, givenAt, PlaysAt}
 
 -- ---- whether there is an answer
 
@@ -84,12 +87,35 @@ module _ (c : Call) (group : Group) where
   unfolding asMade
   made-again e = rw (eq-eqb (c .letter) 90 e)
 
+-- ---- what it is given
+
+module _ {bytes lent left : List ℕ} {n : ℕ} (h : Lends bytes lent left n) where
+  pub lent-within : n ≤ length left
+  lent-within =
+      let m : min (length bytes) (length lent) ≡ n = sym (h .count) in
+      let e = rw m at (h .over) in
+      rw (e, length-paste lent 0 bytes n (omega (arith, h .count)) (omega (arith, h .count))) (omega (arith, h .count))
+
+  lent-first : take n left ≡ take n bytes
+  lent-first =
+      let m : min (length bytes) (length lent) ≡ n = sym (h .count) in
+      let e = rw m at (h .over) in
+      let z : 0 + n ≡ n = omega arith in
+      rw e (ap (λ (k : ℕ). take k (paste lent 0 bytes n)) (sym z) ∙ take-paste lent 0 bytes n (omega arith) (omega (arith, h .count)))
+
+pub given-at : (c : Call) (named : List ℕ) (j : Journal) {lent left : List ℕ} {n : ℕ} → 65536 ≡ length lent → Lends (bytesGiven c named j) lent left n → take n left ≡ givenAt c named j
+unfolding givenAt
+given-at c named j {n = n} l h =
+    let bytes = bytesGiven c named j in
+    let m : n ≡ min 65536 (length bytes) = omega (arith, h .count) in
+    lent-first h ∙ ap (λ (k : ℕ). take k bytes) m ∙ take-there 65536 bytes
+
 -- ---- the call
 
 module _ (c : Call) (replica : Replica) (held : Held) (named lent page : List ℕ) where
   pub plays-at : {asked : Call} {given block left : List ℕ} {p : Played} {after : Held}
       → asked ≡ asMade c (replica .group)
-      → given ≡ bytesGiven c named (journalOf held page)
+      → given ≡ givenAt c named (journalOf held page)
       → Plays (sizeLent asked (replica .group)) replica p block (played asked given lent (memoryOf (sizeLent asked (replica .group)) replica))
       → journalOf after left ≡ changed (length page) given block (p .change) (journalOf held page)
       → PlaysAt c named lent (length page) (journalOf held page) replica (record { played = p; held = after }) left block

@@ -1,18 +1,18 @@
 -- What a call at a place does: at the replica or the station there, and with the journal that is kept of it.
 use Prim.Native.Nat.{ℕ}
 use mathlib.Core.Path.{_≡_}
-use mathlib.Core.Bool.{Bool, false, true, cond, not, _&&_, _||_}
+use mathlib.Core.Bool.{Bool, true, cond, not, _&&_, _||_}
 use mathlib.Core.List.{List}
 use lib.Dec.{eqb}
-use lib.ListN.{length}
+use lib.ListN.{take}
 use Rattle.memory.specs.Memory.{numberless}
 use Rattle.memory.specs.declared.Group.{Group}
 use Rattle.replay_parse.specs.declared.Call.{Call}
-use Rattle.replay_journal.specs.declared.Held.{Held}
 use Rattle.replay_journal.specs.Journals.{Journal, changed, journalOf, hasPart, bytesGiven}
 use Rattle.replay.specs.declared.Placed.{Placed}
-use Rattle.replay_calls.specs.declared.Replica.{Replica}
-use Rattle.replay_calls.specs.Effects.{memoryOf, isMake, sizeLent, Effect, played, Plays}
+use Rattle.replay_replica.specs.declared.Replica.{Replica}
+use Rattle.replay_replica.specs.Effects.{memoryOf, Effect, Plays}
+use Rattle.replay_calls.specs.Letters.{isMake, sizeLent, played}
 
 -- a replica was made, and not a station
 abbrev pub isReplica : Group → Bool
@@ -39,11 +39,15 @@ asMade c group =
 abbrev pub sizeAt : Call → Replica → ℕ
 sizeAt c replica = sizeLent (asMade c (replica .group)) (replica .group)
 
+-- what it is given, of which the program has room for 65,536 bytes: a page has no more
+unfoldable pub givenAt : Call → List ℕ → Journal → List ℕ
+givenAt c named j = take 65_536 (bytesGiven c named j)
+
 -- what the call does at the replica, where its line names those bytes
 abbrev pub effectAt : Call → List ℕ → List ℕ → Journal → Replica → Effect
-effectAt c named lent j replica = played (asMade c (replica .group)) (bytesGiven c named j) lent (memoryOf (sizeAt c replica) replica)
+effectAt c named lent j replica = played (asMade c (replica .group)) (givenAt c named j) lent (memoryOf (sizeAt c replica) replica)
 
 -- that effect, and with the block that is left the journal by its rule; `room` is what the page has room for. At a station the rule is the same, and no call asks for what is kept
 pub record PlaysAt (c : Call) (named lent : List ℕ) (room : ℕ) (j : Journal) (replica : Replica) (p : Placed) (page block : List ℕ) : Type 0 where
   pub plays : Plays (sizeAt c replica) replica (p .played) block (effectAt c named lent j replica)
-  pub journal : journalOf (p .held) page ≡ changed room (bytesGiven c named j) block (effectAt c named lent j replica .change) j
+  pub journal : journalOf (p .held) page ≡ changed room (givenAt c named j) block (effectAt c named lent j replica .change) j

@@ -1,8 +1,11 @@
 // The lines of standard input.
-ghost use Prim.Native.Nat.{_≤_};
+ghost use Prim.Native.Nat.{_+_, _≤_, min};
 ghost use mathlib.Core.Path.{_≡_};
-ghost use lib.ListN.{length};
+ghost use mathlib.Core.Bool.{_||_};
+ghost use lib.Dec.{eqb};
+ghost use lib.ListN.{length, set};
 use libc::STDIN_FILENO;
+use memory::rows::lesser;
 
 // The bytes of the input buffer from `at` to `end` are still to be read. `failed` where the system could not read more.
 pub struct Source {
@@ -20,11 +23,15 @@ pub struct Line {
 
 // The source with a byte to read, unless the input has ended.
 fn ready(source: Source, buffer: &mut [u8]) -> Source
-    requires { ⌜ source .end ≤ length (now buffer) ⌝ }
     ensures { λ r. ⌜ r .end ≤ length (now (buffer .exit)) ⌝ }
 {
-    if source.at < source.end {
-        return source;
+    let end = lesser(source.end, buffer.len());
+    if source.at < end {
+        return Source {
+            at: source.at,
+            end: end,
+            failed: source.failed,
+        };
     }
     let got = libc::read(STDIN_FILENO, &mut *buffer);
     Source {
@@ -36,19 +43,18 @@ fn ready(source: Source, buffer: &mut [u8]) -> Source
 
 // The line with one byte more, where it has room.
 fn keep(line: &mut [u8], n: usize, byte: u8) -> usize
-    requires { ⌜ n ≤ length (now line) ⌝ }
-    ensures { λ r. ⌜ r ≤ length (now (line .exit)) ⌝ }
+    ensures { λ r. ⌜ (r ≡ min (n + 1) (length (now (line .entry)))) × (now (line .exit) ≡ set (now (line .entry)) n byte) ⌝ }
 {
     if n < line.len() {
         line[n] = byte;
         return n + 1;
     }
-    n
+    line.len()
 }
 
 // The rest of the input is the last line, unless it is empty or the system could not read to its end.
 fn last_line(source: Source, n: usize) -> Line
-    ensures { λ r. ⌜ (r .source ≡ source) × (r .length ≡ n) ⌝ }
+    ensures { λ r. ⌜ r ≡ record { source = source; length = n; ended = source .failed || eqb n 0 } ⌝ }
 {
     Line {
         source: source,
@@ -59,8 +65,7 @@ fn last_line(source: Source, n: usize) -> Line
 
 // The next line, to its newline or to the end of the input. What the slice has no room for is passed over.
 pub fn next_line(source: Source, buffer: &mut [u8], line: &mut [u8]) -> Line
-    requires { ⌜ source .end ≤ length (now buffer) ⌝ }
-    ensures { λ r. ⌜ (r .source .end ≤ length (now (buffer .exit))) × (r .length ≤ length (now (line .exit))) ⌝ }
+    ensures { λ r. ⌜ r .length ≤ length (now (line .exit)) ⌝ }
 {
     let mut from = source;
     let mut n: usize = 0;

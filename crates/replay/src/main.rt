@@ -6,15 +6,16 @@ ghost use Rattle.replay_print.specs.Text.{answerText, Holds};
 use input::Source;
 use memory::bytes::copy_bytes;
 use output::Output;
-use replay_calls::Played;
-use replay_calls::Replica;
-use replay_calls::nobody;
 use replay_journal::Held;
 use replay_parse::Call;
+use replay_replica::Played;
+use replay_replica::Replica;
+use replay_replica::nobody;
 
 mod input;
 mod output;
 mod places;
+mod usage;
 
 // A replica or a station, and how much of its page is its journal. A station has none: what its works leave there is never shown.
 pub struct Place {
@@ -103,8 +104,8 @@ fn request_of(line: &[u8], sent: u64, kept: &[u8]) -> Request
 
 // What the next line of the input asks.
 fn next_request(source: Source, sent: u64, buffer: &mut [u8], kept: &[u8]) -> Asked
-    requires { ⌜ (source .end ≤ length (now buffer)) × (length (now kept) ≡ 32768) ⌝ }
-    ensures { λ r. ⌜ (r .source .end ≤ length (now (buffer .exit))) × (r .request .place < 8) × (r .request .count ≤ 2100) ⌝ }
+    requires { ⌜ length (now kept) ≡ 32768 ⌝ }
+    ensures { λ r. ⌜ (r .request .place < 8) × (r .request .count ≤ 2100) ⌝ }
 {
     // One byte more than the longest call has, `Y k `, three numbers and 2,100 bytes: a longer line is no call.
     let mut line = [0u8; 4239];
@@ -186,7 +187,7 @@ fn play_line(
     kept: &mut [u8],
     out: &mut [u8],
 ) -> Answered
-    requires { ⌜ (request .count ≤ 2100) × (length (now page) ≡ 65536) ⌝ }
+    requires { ⌜ request .count ≤ 2100 ⌝ }
     ensures { λ r. ⌜ r .said .length ≤ length (now (out .exit)) ⌝ }
 {
     let call = request.call;
@@ -214,7 +215,7 @@ fn answer(
     kept: &mut [u8],
     out: &mut [u8],
 ) -> Answered
-    requires { ⌜ (request .count ≤ 2100) × (length (now page) ≡ 65536) ⌝ }
+    requires { ⌜ request .count ≤ 2100 ⌝ }
     ensures { λ r. ⌜ r .said .length ≤ length (now (out .exit)) ⌝ }
 {
     let call = request.call;
@@ -257,12 +258,12 @@ fn reply(
     let said = next.said;
     Replied {
         place: after,
-        output: output::with_line(output, said.length, said.sent),
+        output: output::with_line(output, end + said.length, said.sent),
     }
 }
 
 // Every line of the input, in its order.
-fn main() {
+fn play() {
     let mut places = [nowhere(); 8];
     // Of each journal 128 blocks are kept.
     let mut pages = [0u8; 524288];
@@ -302,4 +303,11 @@ fn main() {
         output = next.output;
         turns -= 1;
     }
+}
+
+fn main() {
+    if usage::answered() {
+        return;
+    }
+    play();
 }

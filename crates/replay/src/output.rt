@@ -1,10 +1,11 @@
 // The answers, held until they are written to standard output.
-ghost use Prim.Native.Nat.{_+_, _≤_};
 ghost use mathlib.Core.Path.{_≡_};
-ghost use lib.ListN.{length};
+ghost use mathlib.Core.Bool.{cond};
+ghost use Rattle.replay.specs.Outputs.{asWritten, isDue, withLine};
 use super::input::Source;
 use libc::STDERR_FILENO;
 use libc::STDOUT_FILENO;
+use memory::rows::lesser;
 
 // How many bytes of answers are held, to how many lines there is an answer, how many of these are written, and how many blocks were sent. `failed` where the system could
 // not write.
@@ -25,10 +26,9 @@ fn complain(what: &[u8], lines: u64) {
 
 // The answers held, written.
 fn written(output: Output, out: &[u8]) -> Output
-    requires { ⌜ output .held ≤ length (now out) ⌝ }
-    ensures { λ r. ⌜ r .held ≡ 0 ⌝ }
+    ensures { λ r. ⌜ r ≡ asWritten output (r .failed) ⌝ }
 {
-    let held = output.held;
+    let held = lesser(output.held, out.len());
     let done = io::write_all(STDOUT_FILENO, &out[..held]);
     if !done {
         complain(
@@ -47,8 +47,7 @@ fn written(output: Output, out: &[u8]) -> Output
 
 // The answers are written before more input is waited for, and where there may be no room for another line.
 pub fn with_room(output: Output, source: Source, out: &[u8]) -> Output
-    requires { ⌜ output .held ≤ length (now out) ⌝ }
-    ensures { λ r. ⌜ r .held ≤ length (now (out .entry)) ⌝ }
+    ensures { λ r. ⌜ r ≡ cond (isDue output source) (asWritten output (r .failed)) output ⌝ }
 {
     if source.end <= source.at {
         return written(output, out);
@@ -60,9 +59,7 @@ pub fn with_room(output: Output, source: Source, out: &[u8]) -> Output
 }
 
 // The input has ended, or could not be read.
-pub fn finish(output: Output, failed: bool, out: &[u8])
-    requires { ⌜ output .held ≤ length (now out) ⌝ }
-{
+pub fn finish(output: Output, failed: bool, out: &[u8]) {
     let last = written(output, out);
     if last.failed {
         return;
@@ -75,16 +72,21 @@ pub fn finish(output: Output, failed: bool, out: &[u8])
     }
 }
 
-// With the answer to one line more, and with a block more where one was sent.
-pub fn with_line(output: Output, length: usize, sent: bool) -> Output
-    requires { ⌜ output .held + length ≤ 65536 ⌝ }
-    ensures { λ r. ⌜ r .held ≡ output .held + length ⌝ }
+fn one_if(sent: bool) -> u64
+    ensures { λ r. ⌜ r ≡ cond sent 1 0 ⌝ }
+{
+    if sent { 1 } else { 0 }
+}
+
+// With the answer to one line more, so many bytes held, and with a block more where one was sent.
+pub fn with_line(output: Output, held: usize, sent: bool) -> Output
+    ensures { λ r. ⌜ r ≡ withLine output held sent ⌝ }
 {
     Output {
-        held: output.held + length,
+        held: held,
         answered: std::num::wrapping_add_u64(output.answered, 1),
         written: output.written,
-        sent: std::num::wrapping_add_u64(output.sent, if sent { 1 } else { 0 }),
+        sent: std::num::wrapping_add_u64(output.sent, one_if(sent)),
         failed: false,
     }
 }

@@ -1,5 +1,4 @@
 // A call at a place: at the replica or the station there, with the journal that is kept of it.
-ghost use Prim.Native.Nat.{_≤_};
 ghost use mathlib.Core.Path.{_≡_};
 ghost use lib.ListN.{length};
 ghost use Rattle.replay_journal.specs.Journals.{journalOf};
@@ -7,12 +6,11 @@ ghost use Rattle.replay.specs.Places.{isReplica, isThere, isAnswered, as
 use super::Place;
 use super::Placed;
 use memory::Group;
-use replay_calls::is_station;
-use replay_calls::play;
 use replay_journal::give;
 use replay_journal::has_part;
 use replay_journal::keep;
 use replay_parse::Call;
+use replay_replica::is_station;
 
 fn is_replica(group: Group) -> bool
     ensures { λ r. ⌜ r ≡ isReplica group ⌝ }
@@ -70,7 +68,6 @@ fn as_made(call: Call, group: Group) -> Call
 
 // The call, and the journal after it. `bytes` are those that the line names.
 pub fn run(call: Call, place: Place, bytes: &[u8], page: &mut [u8], block: &mut [u8]) -> Placed
-    requires { ⌜ (length (now bytes) ≤ 65536) × (length (now page) ≤ 65536) ⌝ }
     ensures { λ r. ⌜ PlaysAt call (now (bytes .entry)) (now (block .entry)) (length (now (page .entry))) (journalOf (place .held) (now (page .entry))) (place .replica) r
         (now (page .exit)) (now (block .exit)) ⌝ }
 {
@@ -79,7 +76,7 @@ pub fn run(call: Call, place: Place, bytes: &[u8], page: &mut [u8], block: &mut 
     let held = place.held;
     let mut given = io::large_buffer();
     let n = give(call, held, &*page, bytes, &mut given);
-    let played = play::run(as_made(call, group), replica, &given[..n], &mut *block);
+    let played = replay_calls::run(as_made(call, group), replica, &given[..n], &mut *block);
     let change = played.change;
     let after = keep(change, held, &given[..n], &*block, &mut *page);
     Placed {

@@ -6,27 +6,30 @@ use mathlib.Core.Logic.{_⊎_, inl, inr}
 use borrow.Author.Tests.{ne-eqb}
 use lib.ListN.{replicate}
 use Rattle.memory.specs.Memory.{Memory}
-use Rattle.engine.specs.Calls.{Outcome, unlessStation}
+use Rattle.engine.specs.Calls.{Outcome}
+use Rattle.engine.specs.Step.{step}
+use Rattle.engine.specs.Step.Call.{write, send}
 use Rattle.engine.specs.Make.{makeStep}
 use Rattle.engine.specs.Classes.{loadStep}
-use Rattle.engine.specs.Client.{beginStep, readStep, writeStep, askStep, withdrawStep, reportStep}
-use Rattle.engine.specs.Moves.{sendStep, deliverStep, workStep}
+use Rattle.engine.specs.Client.{beginStep, readStep, askStep, withdrawStep, reportStep}
+use Rattle.engine.specs.Moves.{deliverStep, workStep}
 use Rattle.engine.specs.Restart.{restartStep}
 use Rattle.engine.specs.Station.{stationStep}
 use Rattle.call_reply.specs.Called.{withBlock}
 use Rattle.replay_parse.specs.declared.Call.{Call}
-use Rattle.replay_calls.specs.declared.Played.{Played}
-use Rattle.replay_calls.specs.declared.Replica.{Replica}
-use Rattle.replay_calls.specs.Effects.{placesSize, memoryOf, sizeLent, effect, look, show, played, Plays}
+use Rattle.replay_replica.specs.declared.Played.{Played}
+use Rattle.replay_replica.specs.declared.Replica.{Replica}
+use Rattle.replay_replica.specs.Effects.{placesSize, memoryOf, effect, Plays}
+use Rattle.replay_calls.specs.Letters.{sizeLent, look, show, played}
 
 module _ (c : Call) (replica : Replica) (p : Played) (bytes lent : List ℕ) where
-  -- the contract of `play::run`
+  -- the contract of `run`
   abbrev Runs : List ℕ → Type 0
   Runs left = Plays (sizeLent c (replica .group)) replica p left (played c bytes lent (memoryOf (sizeLent c (replica .group)) replica))
 
   -- a step that does not look at the places
   abbrev Client : (Memory → Outcome) → Type 0
-  Client step = (size : ℕ) (block : List ℕ) → Plays size replica p block (effect block (step (memoryOf size replica)))
+  Client does = (size : ℕ) (block : List ℕ) → Plays size replica p block (effect block (does (memoryOf size replica)))
 
   pub run-make : c .letter ≡ 77
       → ((block : List ℕ) → Plays (placesSize (c .first)) replica p block (effect block (makeStep (memoryOf (placesSize (c .first)) replica) (c .first) (c .second) (replicate 128 (c .value)))))
@@ -35,40 +38,40 @@ module _ (c : Call) (replica : Replica) (p : Played) (bytes lent : List ℕ) whe
   run-make e h = rw e (h lent)
 
   pub run-begin : c .letter ≡ 66 → Client (λ (m : Memory). beginStep m) → Runs lent
-  unfolding played
+  unfolding played step
   run-begin e h = rw e (h (placesSize (replica .group .replicas)) lent)
 
   pub run-read : c .letter ≡ 82 → Client (λ (m : Memory). readStep m (c .first) (c .second)) → Runs lent
-  unfolding played
+  unfolding played step
   run-read e h = rw e (h (placesSize (replica .group .replicas)) lent)
 
   pub run-ask : c .letter ≡ 67 → Client (λ (m : Memory). askStep m (c .first)) → Runs lent
-  unfolding played
+  unfolding played step
   run-ask e h = rw e (h (placesSize (replica .group .replicas)) lent)
 
   pub run-withdraw : c .letter ≡ 88 → Client (λ (m : Memory). withdrawStep m (c .first)) → Runs lent
-  unfolding played
+  unfolding played step
   run-withdraw e h = rw e (h (placesSize (replica .group .replicas)) lent)
 
   pub run-report : c .letter ≡ 81 → Client (λ (m : Memory). reportStep m) → Runs lent
-  unfolding played
+  unfolding played step
   run-report e h = rw e (h (placesSize (replica .group .replicas)) lent)
 
-  pub run-send : (left : List ℕ) → c .letter ≡ 83 → ((size : ℕ) → Plays size replica p left (effect lent (unlessStation (memoryOf size replica) (sendStep (memoryOf size replica) lent)))) → Runs left
-  unfolding played
+  pub run-send : (left : List ℕ) → c .letter ≡ 83 → ((size : ℕ) → Plays size replica p left (effect lent (step (memoryOf size replica) (send lent)))) → Runs left
+  unfolding played step
   run-send left e h = rw e (h (placesSize (replica .group .replicas)))
 
   -- a step at the replica's own places
   abbrev AtPlaces : (Memory → Outcome) → Type 0
-  AtPlaces step =
-      (block : List ℕ) → Plays (placesSize (replica .group .replicas)) replica p block (effect block (step (memoryOf (placesSize (replica .group .replicas)) replica)))
+  AtPlaces does =
+      (block : List ℕ) → Plays (placesSize (replica .group .replicas)) replica p block (effect block (does (memoryOf (placesSize (replica .group .replicas)) replica)))
 
-  pub run-write : c .letter ≡ 87 → AtPlaces (λ (m : Memory). unlessStation m (writeStep m (c .first) (c .second) (c .value))) → Runs lent
-  unfolding played
+  pub run-write : c .letter ≡ 87 → AtPlaces (λ (m : Memory). step m (write (c .first) (c .second) (c .value))) → Runs lent
+  unfolding played step
   run-write e h = rw e (h lent)
 
   pub run-deliver : (c .letter ≡ 68) ⊎ ((c .letter ≡ 70) ⊎ (c .letter ≡ 72)) → AtPlaces (λ (m : Memory). deliverStep m bytes) → Runs lent
-  unfolding played
+  unfolding played step
   run-deliver (inl e) h = rw e (h lent)
   run-deliver (inr (inl e)) h = rw e (h lent)
   run-deliver (inr (inr e)) h = rw e (h lent)
@@ -87,7 +90,7 @@ module _ (c : Call) (replica : Replica) (p : Played) (bytes lent : List ℕ) whe
   run-restart left e h = rw e h
 
   pub run-load : c .letter ≡ 80 → Client (λ (m : Memory). loadStep m bytes) → Runs lent
-  unfolding played
+  unfolding played step
   run-load e h = rw e (h (placesSize (replica .group .replicas)) lent)
 
   pub run-show : (left : List ℕ) → c .letter ≡ 74 → ((size : ℕ) → Plays size replica p left (show bytes lent (memoryOf size replica))) → Runs left

@@ -1,2 +1,2 @@
--- What a call at a replica gives and leaves.
-pub mod Effects
+-- What a call does, by its letter.
+pub mod Letters

@@ -1,93 +1,60 @@
-// A call at a replica or a station, by its letter. Both have one kind of memory, which goes in and out by value.
-ghost use mathlib.Core.Path.{_≡_};
-ghost use Rattle.memory.specs.Memory.{numberless};
-ghost use Rattle.replay_calls.specs.Effects.{noReplica};
-use memory::Counts;
-use memory::Group;
-use memory::NO_NUMBER;
-use memory::Turn;
-use memory::Txn;
+// A call at a replica or a station, by its letter.
+ghost use Prim.Native.Nat.{ℕ};
+ghost use mathlib.Core.List.{List};
+ghost use Rattle.replay_replica.specs.Effects.{memoryOf, Plays};
+ghost use Rattle.replay_calls.specs.Letters.{sizeLent, look, show, played};
+use memory::bytes::copy_bytes;
 use replay_journal::Change;
+use replay_parse::Call;
+use replay_replica::Played;
+use replay_replica::Replica;
+use replay_replica::results::bare;
+use replay_replica::results::with_values;
 
-mod client;
-mod moves;
-pub mod play;
-mod results;
-mod stations;
-
-// A replica's memory, or a station's. Of the bytes for places a group of n uses the first 512·n. The group of one that was not made has no replicas.
-pub struct Replica {
-    pub group: Group,
-    pub turn: Turn,
-    pub counts: Counts,
-    pub rows: [Txn; 6],
-    pub queue: [u32; 6],
-    pub items: [u8; 48],
-    pub writes: [i32; 48],
-    pub snapshots: [i32; 768],
-    pub values: [i32; 128],
-    pub stamps: [u32; 128],
-    pub classes: [u8; 128],
-    pub places: [u8; 3072],
-    pub outbox: [u8; 512],
-}
-
-// What a call gives: its number, and behind it the first `count` numbers and the first `shown` values; the replica after it, and what becomes of its
-// journal.
-pub struct Played {
-    pub replica: Replica,
-    pub number: u8,
-    pub count: usize,
-    pub numbers: [u32; 10],
-    pub shown: usize,
-    pub values: [i32; 128],
-    pub change: Change,
-}
-
-// Whether it is a station that knows this of its group.
-pub fn is_station(group: Group) -> bool
-    ensures { λ r. ⌜ r ≡ numberless group ⌝ }
+// The replica's values.
+fn shown(replica: Replica) -> Played
+    ensures { λ r. ⌜ ((size : ℕ) (lent : List ℕ) → Plays size replica r lent (look lent (memoryOf size replica))) ⌝ }
 {
-    group.own == NO_NUMBER
+    let values = replica.values;
+    with_values(replica, 0, 128, values)
 }
 
-// No replica.
-pub fn nobody() -> Replica
-    ensures { λ r. ⌜ r ≡ noReplica ⌝ }
+// The bytes, put over those lent.
+fn show(replica: Replica, bytes: &[u8], block: &mut [u8]) -> Played
+    ensures { λ r. ⌜ ((size : ℕ) → Plays size replica r (now (block .exit)) (show (now (bytes .entry)) (now (block .entry)) (memoryOf size replica))) ⌝ }
 {
-    Replica {
-        group: Group {
-            replicas: 0,
-            own: 0,
-        },
-        turn: Turn {
-            slot: 0,
-            sent: 0,
-            applying: 0,
-        },
-        counts: Counts {
-            commits: 0,
-            done: 0,
-            tickets: 0,
-            committed: 0,
-            read_only: 0,
-            aborted: 0,
-            withdrawn: 0,
-        },
-        rows: [Txn {
-            ticket: 0,
-            stage: 0,
-            snapshot: 0,
-            writes: 0,
-        }; 6],
-        queue: [0; 6],
-        items: [0; 48],
-        writes: [0; 48],
-        snapshots: [0; 768],
-        values: [0; 128],
-        stamps: [0; 128],
-        classes: [0; 128],
-        places: [0; 3072],
-        outbox: [0; 512],
+    copy_bytes(bytes, &mut *block);
+    bare(replica, 0, Change::Stays)
+}
+
+// The call, by its letter: `bytes` are what it is given, `block` takes the block that it gives.
+pub fn run(call: Call, replica: Replica, bytes: &[u8], block: &mut [u8]) -> Played
+    ensures { λ r. ⌜ Plays (sizeLent call (replica .group)) replica r (now (block .exit))
+        (played call (now (bytes .entry)) (now (block .entry)) (memoryOf (sizeLent call (replica .group)) replica)) ⌝ }
+{
+    let letter = call.letter;
+    match letter {
+        b'M' => replay_moves::make(replica, call.first, call.second, call.value),
+        b'B' => replay_client::begin(replica),
+        b'R' => replay_client::read(replica, call.first, call.second),
+        b'W' => replay_client::write(replica, call.first, call.second, call.value),
+        b'C' => replay_client::ask(replica, call.first),
+        b'X' => replay_client::withdraw(replica, call.first),
+        b'Q' => replay_client::report(replica),
+        b'S' => replay_moves::send(replica, &mut *block),
+        b'D' | b'F' | b'H' => replay_moves::deliver(replica, bytes),
+        b'K' => replay_moves::work(replica, &mut *block),
+        b'Y' => replay_moves::restart(
+            replica,
+            call.first,
+            call.second,
+            call.value,
+            bytes,
+            &mut *block,
+        ),
+        b'P' => replay_client::load(replica, bytes),
+        b'J' => show(replica, bytes, &mut *block),
+        b'A' => replay_moves::make_station(replica, call.first, call.value),
+        _ => shown(replica),
     }
 }

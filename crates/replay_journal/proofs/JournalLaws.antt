@@ -1,20 +1,19 @@
 -- A journal with bytes appended, in its page. Assumes nothing.
 use Prim.Native.Nat.{ℕ, _+_, _-_, _*_, _≤_, _<_, min}
-use mathlib.Core.Path.{_≡_, refl, sym, ap, _∙_}
-use mathlib.Core.List.{List, [], _∷_, _++_, append-assoc, append-nil}
+use mathlib.Core.Path.{_≡_, refl, sym, _∙_}
+use mathlib.Core.List.{List, [], _++_, append-assoc, append-nil}
 use native.Mathlib.Decide.{decLe}
 use native.Mathlib.Nat.{zero-add}
 use native.Mathlib.Omega.{arith}
 use borrow.Author.Tests.{le-leb, lt-leb}
 use borrow.Rule.Slice.PartMut.{putMid}
-use lib.ListN.{length, take, drop, length-append, length-take, length-drop}
-use lib.Seq.{paste, take-all, take-at, take-take, take-length}
+use lib.ListN.{length, take, drop, length-append, length-take, length-drop, drop-of-length-le}
+use lib.Seq.{paste, take-all, take-at, take-take, take-length, drop-drop}
 use Rattle.replay_journal.specs.declared.Held.{Held}
 use Rattle.replay_journal.specs.declared.Held.the-variants.{Bytes, Outgrown}
 use Rattle.replay_journal.specs.declared.Change.{Change}
 use Rattle.replay_journal.specs.declared.Change.the-variants.{Stays, Grows, Begins}
-use Rattle.replay_journal.specs.Journals.{Journal, ifRoom, grown, changed, journalOf}
-use Rattle.replay_journal.specs.Journals.Journal.{whole, outgrown}
+use Rattle.replay_journal.specs.Journals.{Appends, Keeps}
 
 -- ---- first elements
 
@@ -40,15 +39,20 @@ module _ (page bytes : List ℕ) (n at : ℕ) (clamped : at ≡ min n (length pa
   long : length (take n page ++ bytes) ≡ at + length bytes
   long = rw (length-append, length-take) (omega arith)
 
-  pub append-out : {held : Held} → held ≡ Bytes n → length page - at < length bytes → outgrown ≡ grown (length page) bytes (journalOf held page)
+  pub append-out : {held : Held} → held ≡ Bytes n → length page - at < length bytes → Appends bytes held page Outgrown page
   append-out e h =
       let k : length page < at + length bytes = omega arith in
-      rw (e, long, lt-leb (at + length bytes) (length page) k)
+      let none = lt-leb (at + length bytes) (length page) k in
+      record {
+        journal = rw (e, long, none);
+        held = rw (e, ← clamped, none);
+        bytes = rw (e, ← clamped, none);
+      }
 
   -- what the copy leaves behind the journal
   pub append-in : {held : Held} {left : List ℕ} → held ≡ Bytes n → length bytes ≤ length page - at
       → (let behind = take (length page - at) (drop at page) in left ≡ paste behind 0 bytes (min (length bytes) (length behind)))
-      → whole (take (at + length bytes) (putMid at (length page - at) page left)) ≡ grown (length page) bytes (journalOf held page)
+      → Appends bytes held page (Bytes (at + length bytes)) (putMid at (length page - at) page left)
   append-in {left} e h is =
       let behind = take (length page - at) (drop at page) in
       let d : length behind ≡ length page - at = rw (length-take, length-drop) (omega arith) in
@@ -58,17 +62,28 @@ module _ (page bytes : List ℕ) (n at : ℕ) (clamped : at ≡ min n (length pa
       let front : take at page ≡ take n page = rw clamped (take-there n page) in
       let parted : putMid at (length page - at) page left ≡ (take n page ++ bytes) ++ rest = rw (copied, front, append-assoc, append-assoc) in
       let k : at + length bytes ≤ length page = omega arith in
-      rw (e, parted, take-at (take n page ++ bytes) rest (at + length bytes) long, long, le-leb (at + length bytes) (length page) k)
+      let room = le-leb (at + length bytes) (length page) k in
+      let all : behind ≡ drop at page = take-all (length page - at) (drop at page) (rw (length-drop at page) (omega arith)) in
+      let past : drop (length page - at) (drop at page) ≡ [] = drop-of-length-le (drop at page) {i = length page - at} (rw (length-drop at page) (omega arith)) in
+      let behind-is : rest ≡ drop (at + length bytes) page = rw (all, past, append-nil) (drop-drop (length bytes) at page) in
+      record {
+        journal = rw (e, parted, take-at (take n page ++ bytes) rest (at + length bytes) long, long, room);
+        held = rw (e, ← clamped, room);
+        bytes = rw (e, ← clamped, room) (parted ∙ rw (behind-is, take-length bytes, front));
+      }
 
 -- ---- after a call
 
-module _ (room : ℕ) (given block page : List ℕ) (held : Held) {change : Change} where
-  pub keep-stays : change ≡ Stays → journalOf held page ≡ changed room given block change (journalOf held page)
-  keep-stays e = rw e
+module _ (given block page : List ℕ) (held : Held) {change : Change} where
+  pub keep-stays : change ≡ Stays → Keeps change given block held page held page
+  keep-stays e = rw e (record { journal = refl; held = refl; bytes = refl })
 
-  pub keep-grows : {j : Journal} → change ≡ Grows → j ≡ grown room block (journalOf held page) → j ≡ changed room given block change (journalOf held page)
-  keep-grows e h = rw e h
+  module _ {after : Held} {left : List ℕ} where
+    pub keep-grows : change ≡ Grows → Appends block held page after left → Keeps change given block held page after left
+    keep-grows e h = rw e (record { journal = h .journal; held = h .held; bytes = h .bytes })
 
-  pub keep-begins : {j : Journal} {count n : ℕ} → change ≡ Begins count → n ≡ min (512 * count) (length given) → j ≡ grown room (take n given) (whole [])
-      → j ≡ changed room given block change (journalOf held page)
-  keep-begins {count = count} e is h = rw (e, ← take-there (512 * count) given, ← is) h
+    pub keep-begins : {count n : ℕ} → change ≡ Begins count → n ≡ min (512 * count) (length given) → Appends (take n given) (Bytes 0) page after left
+        → Keeps change given block held page after left
+    keep-begins {count} e is h =
+        let t = rw (is, take-there (512 * count) given) at h in
+        rw e (record { journal = t .journal; held = t .held; bytes = t .bytes })

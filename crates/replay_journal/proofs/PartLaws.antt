@@ -1,20 +1,20 @@
 -- The part of a journal that a line names. Assumes nothing.
-use Prim.Native.Nat.{ℕ, _+_, _-_, _≤_, _<_, min}
+use Prim.Native.Nat.{ℕ, _-_, _≤_, min}
 use mathlib.Core.Path.{_≡_, refl, sym, ap, _∙_}
-use mathlib.Core.Bool.{Bool, true, false, cond}
-use mathlib.Core.List.{List, [], _++_}
+use mathlib.Core.Bool.{true, false}
+use mathlib.Core.List.{List}
 use mathlib.Core.Logic.{_⊎_, inl, inr}
 use native.Mathlib.Decide.{decLe}
 use native.Mathlib.Omega.{arith}
 use borrow.Author.Tests.{ne-eqb}
-use lib.Dec.{eqb, leb}
+use lib.Dec.{leb}
 use lib.ListN.{length, take, drop, length-take, length-drop, drop-of-length-le}
-use lib.Seq.{paste, slice, take-all, drop-length, length-paste, take-paste}
+use lib.Seq.{paste, slice, drop-length}
 use Rattle.block.proofs.ListLaws.{lent, lent-slice}
 use Rattle.replay_parse.specs.declared.Call.{Call}
 use Rattle.replay_journal.specs.declared.Held.{Held}
 use Rattle.replay_journal.specs.declared.Held.the-variants.{Bytes, Outgrown}
-use Rattle.replay_journal.specs.Journals.{journalOf, isPart, partStart, partEnd, hasPart, bytesGiven}
+use Rattle.replay_journal.specs.Journals.{journalOf, isPart, partStart, partEnd, hasPart, bytesGiven, Lends}
 use Rattle.replay_journal.proofs.JournalLaws.{take-both, take-there}
 
 pub is-part : (letter : ℕ) → (letter ≡ 74) ⊎ (letter ≡ 90) → true ≡ isPart letter
@@ -65,22 +65,17 @@ drop-there n l = go (decLe n (length l))
         let e : min n (length l) ≡ length l = omega arith in
         rw (e, drop-length l, drop-of-length-le l {i = n} (omega arith))
 
-module _ (page given : List ℕ) (from to start end : ℕ) (e : end ≡ min to (length page)) (s : start ≡ min from end) (room : length page ≤ length given) where
+module _ (page given : List ℕ) (from to start end : ℕ) (e : end ≡ min to (length page)) (s : start ≡ min from end) where
   part : lent start end page ≡ slice from to page
   part =
       let whole : take end page ≡ take to page = rw e (take-there to page) in
       let l : end ≡ length (take to page) = rw (length-take to page) e in
       lent-slice start end page (omega arith) ∙ rw (whole, s, l) (drop-there from (take to page))
 
-  pub lend-is : {left : List ℕ} → left ≡ paste given 0 (lent start end page) (min (length (lent start end page)) (length given))
-      → (end - start ≤ length left) × (take (end - start) left ≡ slice from to page)
-  lend-is {left} is =
+  pub lend-is : {left : List ℕ} {n : ℕ} → left ≡ paste given 0 (lent start end page) (min (length (lent start end page)) (length given))
+      → n ≡ min (end - start) (length given) → Lends (slice from to page) given left n
+  lend-is {left} {n} is k =
       let p = lent start end page in
       let l : length p ≡ end - start = rw (length-take, length-drop) (omega arith) in
-      let m : min (length p) (length given) ≡ end - start = omega arith in
-      let q : left ≡ paste given 0 p (end - start) = rw m at is in
-      let k : end - start ≤ length p = omega arith in
-      let z : 0 + (end - start) ≡ end - start = omega arith in (
-        rw (q, length-paste given 0 p (end - start) (omega arith) k) (omega arith),
-        rw q (ap (λ (n : ℕ). take n (paste given 0 p (end - start))) (sym z) ∙ take-paste given 0 p (end - start) (omega arith) k ∙ take-all (end - start) p (omega arith) ∙ part),
-      )
+      let m : n ≡ min (length p) (length given) = k ∙ rw l in
+      record { count = rw part at m; over = rw part at is }

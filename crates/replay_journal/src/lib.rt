@@ -1,9 +1,7 @@
 // The journal that the program keeps at a place: what was appended there, in the first bytes of a page that is lent.
-ghost use Prim.Native.Nat.{_≤_};
 ghost use mathlib.Core.Path.{_≡_};
-ghost use lib.ListN.{length, take};
 ghost use lib.Seq.{slice};
-ghost use Rattle.replay_journal.specs.Journals.{grown, changed, journalOf, isPart, partStart, partEnd, hasPart, bytesGiven};
+ghost use Rattle.replay_journal.specs.Journals.{journalOf, isPart, partStart, partEnd, hasPart, bytesGiven, Lends, Appends, Keeps};
 use memory::bytes::copy_bytes;
 use memory::rows::lesser;
 use replay_parse::Call;
@@ -66,22 +64,21 @@ pub fn has_part(call: Call, held: Held, page: &[u8]) -> bool
     }
 }
 
-// The page's bytes from `from` to `to`, put over the first of those lent; how many they are.
+// The page's bytes from `from` to `to`, put over the first of those lent, as many as there is room for; how many they are.
 fn lend(page: &[u8], from: usize, to: usize, given: &mut [u8]) -> usize
-    requires { ⌜ length (now page) ≤ length (now given) ⌝ }
-    ensures { λ r. ⌜ (r ≤ length (now (given .exit))) × (take r (now (given .exit)) ≡ slice from to (now (page .entry))) ⌝ }
+    ensures { λ r. ⌜ Lends (slice from to (now (page .entry))) (now (given .entry)) (now (given .exit)) r ⌝ }
 {
     let end = lesser(to, page.len());
     let start = lesser(from, end);
+    let n = lesser(end - start, given.len());
     copy_bytes(&page[start..end], &mut *given);
-    end - start
+    n
 }
 
-// What the call is given, put over the first of those lent: the part that it names, else the bytes that its line names. How many they are.
+// What the call is given, put over the first of those lent, as much as there is room for: the part that it names, else the bytes that its line names. How many they
+// are.
 pub fn give(call: Call, held: Held, page: &[u8], named: &[u8], given: &mut [u8]) -> usize
-    requires { ⌜ (length (now page) ≤ length (now given)) × (length (now named) ≤ length (now given)) ⌝ }
-    ensures { λ r. ⌜ (r ≤ length (now (given .exit)))
-        × (take r (now (given .exit)) ≡ bytesGiven call (now (named .entry)) (journalOf held (now (page .entry)))) ⌝ }
+    ensures { λ r. ⌜ Lends (bytesGiven call (now (named .entry)) (journalOf held (now (page .entry)))) (now (given .entry)) (now (given .exit)) r ⌝ }
 {
     if !is_part(call.letter) {
         return lend(named, 0, named.len(), &mut *given);
@@ -99,7 +96,7 @@ pub fn give(call: Call, held: Held, page: &[u8], named: &[u8], given: &mut [u8])
 
 // The bytes behind the journal, where there is room for them.
 fn append(held: Held, bytes: &[u8], page: &mut [u8]) -> Held
-    ensures { λ r. ⌜ journalOf r (now (page .exit)) ≡ grown (length (now (page .entry))) (now (bytes .entry)) (journalOf held (now (page .entry))) ⌝ }
+    ensures { λ r. ⌜ Appends (now (bytes .entry)) held (now (page .entry)) r (now (page .exit)) ⌝ }
 {
     let Held::Bytes(n) = held else {
         return Held::Outgrown;
@@ -114,8 +111,7 @@ fn append(held: Held, bytes: &[u8], page: &mut [u8]) -> Held
 
 // The journal after a call, which was given those bytes and left that block.
 pub fn keep(change: Change, held: Held, given: &[u8], block: &[u8], page: &mut [u8]) -> Held
-    ensures { λ r. ⌜ journalOf r (now (page .exit))
-        ≡ changed (length (now (page .entry))) (now (given .entry)) (now (block .entry)) change (journalOf held (now (page .entry))) ⌝ }
+    ensures { λ r. ⌜ Keeps change (now (given .entry)) (now (block .entry)) held (now (page .entry)) r (now (page .exit)) ⌝ }
 {
     match change {
         Change::Stays => held,

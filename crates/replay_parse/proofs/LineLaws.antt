@@ -1,9 +1,8 @@
 -- Numbers and fields at a place of a line. Assumes nothing.
 use Prim.Native.Nat.{ℕ, zero, suc, _+_, _*_, _-_, _≤_, _<_}
-use mathlib.Core.Path.{_≡_, refl, ap}
+use mathlib.Core.Path.{_≡_, refl, sym, ap, _∙_}
 use mathlib.Core.Bool.{Bool, true, false, cond}
 use mathlib.Core.List.{List, [], _∷_}
-use mathlib.Core.Logic.{_⊎_, inl, inr}
 use native.Mathlib.Numerals.{add-one}
 use native.Mathlib.Omega.{arith}
 use borrow.Author.Tests.{lt-ltb, le-ltb, le-leb, lt-leb, leb-true, eq-eqb, ne-eqb}
@@ -16,7 +15,13 @@ use mir.Syntax.{w32}
 use mir.Val.{toZ}
 use Rattle.block.specs.Message.{within}
 use Rattle.replay_parse.specs.declared.Call.{Call}
-use Rattle.replay_parse.specs.Lines.{Field, digitNumber, upTo, digitsFrom, readDigits, readNumber, positive, negative, readSigned, readValue, callWith, noCall, withDigits, bytesBehind, nothingBehind, atEnd, oneNumber, twoNumbers, numberAndValue, numbersAndValue, callBehind, callOf, placeNamed}
+use Rattle.replay_parse.specs.declared.Shape.{Shape}
+use Rattle.replay_parse.specs.declared.Number.{Number}
+use Rattle.replay_parse.specs.declared.Number.the-variants.{Is, Missing}
+use Rattle.replay_parse.specs.declared.Value.{Value}
+use Rattle.replay_parse.specs.declared.Value.the-variants.{Is as Value·Is, Missing as Value·Missing}
+use Rattle.replay_parse.specs.Lines.{numberUpTo, numberField, valueField, ReadsNumber, ReadsValue}
+use Rattle.replay_parse.specs.Lines.{Field, digitNumber, upTo, digitsFrom, readDigits, readNumber, positive, negative, readSigned, readValue, callWith, noCall, withDigits, bytesBehind, atEnd, numberIf, valueIf, shapeOf, callAs, callOf, placeNamed}
 use Rattle.replay_parse.specs.Lines.Field.{none, found}
 
 -- ---- digits
@@ -50,6 +55,38 @@ text-at line at h = rw add-one (drop-cons line at 0 h)
 
 pub text-past : (line : List ℕ) (at : ℕ) → length line ≤ at → drop at line ≡ []
 text-past line at h = drop-of-length-le line h
+
+-- ---- what was read of the line
+
+module _ {r : Number} {line : List ℕ} {f : Field ℕ} where
+  pub no-number : r ≡ Missing → none ≡ f → ReadsNumber r line f
+  no-number q e = rw (q, sym e) (record { field = refl; end = omega arith })
+
+  pub missing-number : ReadsNumber r line f → r ≡ Missing → f ≡ none
+  missing-number h q = sym (h .field) ∙ ap (λ (x : Number). numberField x line) q
+
+  pub told-number : {n end : ℕ} → ReadsNumber r line f → r ≡ Is n end → f ≡ found n (drop end line)
+  told-number h q = sym (h .field) ∙ ap (λ (x : Number). numberField x line) q
+
+  pub told-end : {n end : ℕ} → ReadsNumber r line f → r ≡ Is n end → end ≤ length line
+  told-end h q = rw q at (h .end)
+
+module _ {r : Value} {line : List ℕ} {f : Field ℤ} where
+  pub no-value : r ≡ Value·Missing → none ≡ f → ReadsValue r line f
+  no-value q e = rw (q, sym e) (record { field = refl; end = omega arith })
+
+  pub missing-value : ReadsValue r line f → r ≡ Value·Missing → f ≡ none
+  missing-value h q = sym (h .field) ∙ ap (λ (x : Value). valueField x line) q
+
+  pub told-value : {v : ℤ} {end : ℕ} → ReadsValue r line f → r ≡ Value·Is v end → f ≡ found v (drop end line)
+  told-value h q = sym (h .field) ∙ ap (λ (x : Value). valueField x line) q
+
+reads-if : (t : Bool) (n end : ℕ) (line : List ℕ) → end ≤ length line → ReadsNumber (cond t (Is n end) Missing) line (cond t (found n (drop end line)) none)
+reads-if true n end line h = record { field = refl; end = h }
+reads-if false n end line h = record { field = refl; end = omega arith }
+
+pub reads-up-to : (most n end : ℕ) (line : List ℕ) {r : Number} {f : Field ℕ} → end ≤ length line → r ≡ numberUpTo most n end → upTo most n (drop end line) ≡ f → ReadsNumber r line f
+reads-up-to most n end line h q e = rw (q, sym e) (reads-if (leb n most) n end line h)
 
 -- on from n, at place i
 module _ (most n : ℕ) (line : List ℕ) (i : ℕ) where
@@ -143,20 +180,37 @@ module _ (line : List ℕ) (end : ℕ) (c : Call) where
   pub bytes-are : end < length line → getD line end 0 ≡ 32 → withDigits c (length line - (end + 1)) ≡ bytesBehind c (drop end line)
   bytes-are h e = rw (text-at line end h, eq-eqb (getD line end 0) 32 e, length-drop (end + 1) line)
 
-  pub end-bytes : (c .letter ≡ 72) ⊎ ((c .letter ≡ 80) ⊎ (c .letter ≡ 89)) → bytesBehind c (drop end line) ≡ atEnd c (drop end line)
-  unfolding atEnd
-  end-bytes (inl e) = rw e
-  end-bytes (inr (inl e)) = rw e
-  end-bytes (inr (inr e)) = rw e
-
-  module _ (other : (c .letter ≡ 72) ⊎ ((c .letter ≡ 80) ⊎ (c .letter ≡ 89)) → ⊥) where
-    pub end-not : end < length line → noCall ≡ atEnd c (drop end line)
+  module _ {bytes : Bool} where
+    pub end-bytes : bytes ≡ true → bytesBehind c (drop end line) ≡ atEnd bytes c (drop end line)
     unfolding atEnd
-    end-not h = rw (ne-eqb (c .letter) 72 (λ e. other (inl e)), ne-eqb (c .letter) 80 (λ e. other (inr (inl e))), ne-eqb (c .letter) 89 (λ e. other (inr (inr e))), text-at line end h)
+    end-bytes e = rw e
 
-    pub end-is : length line ≤ end → c ≡ atEnd c (drop end line)
+    pub end-not : bytes ≡ false → end < length line → noCall ≡ atEnd bytes c (drop end line)
     unfolding atEnd
-    end-is h = rw (ne-eqb (c .letter) 72 (λ e. other (inl e)), ne-eqb (c .letter) 80 (λ e. other (inr (inl e))), ne-eqb (c .letter) 89 (λ e. other (inr (inr e))), text-past line end h)
+    end-not e h = rw (e, text-at line end h)
+
+    pub end-is : bytes ≡ false → length line ≤ end → c ≡ atEnd bytes c (drop end line)
+    unfolding atEnd
+    end-is e h = rw (e, text-past line end h)
+
+-- ---- a field that the line may have
+
+module _ (line : List ℕ) (at : ℕ) {has : Bool} where
+  pub number-there : has ≡ true → {r : Number} → ReadsNumber r line (readNumber (drop at line)) → ReadsNumber r line (numberIf has (drop at line))
+  unfolding numberIf
+  number-there e h = rw e h
+
+  pub number-not : has ≡ false → at ≤ length line → ReadsNumber (Is 0 at) line (numberIf has (drop at line))
+  unfolding numberIf
+  number-not e h = rw e (record { field = refl; end = h })
+
+  pub value-there : has ≡ true → {r : Value} → ReadsValue r line (readValue (drop at line)) → ReadsValue r line (valueIf has (drop at line))
+  unfolding valueIf
+  value-there e h = rw e h
+
+  pub value-not : has ≡ false → at ≤ length line → ReadsValue (Value·Is (pos 0) at) line (valueIf has (drop at line))
+  unfolding valueIf
+  value-not e h = rw e (record { field = refl; end = h })
 
 -- ---- the place
 
@@ -237,58 +291,26 @@ positive-is text {n} {rest} e =
     let m : n ≤ 2147483647 = rw e at (most-read 2147483647 text) in
     rw e (ap (λ (v : ℤ). found v rest) (toZ-pos w32 (omega arith)))
 
--- ---- calls of one field after the other
+-- ---- one field after the other
 
-module _ (letter : ℕ) (text : List ℕ) where
-  pub one-none : readNumber text ≡ none → noCall ≡ oneNumber letter text
-  unfolding oneNumber
-  one-none e = rw e
+module _ (s : Shape) (letter : ℕ) (text : List ℕ) where
+  pub shaped-none : numberIf (ltb 0 (s .numbers)) text ≡ none → noCall ≡ callAs s letter text
+  unfolding callAs
+  shaped-none e = rw e
 
-  pub two-none : readNumber text ≡ none → noCall ≡ twoNumbers letter text
-  unfolding twoNumbers
-  two-none e = rw e
+  module _ {a : ℕ} {rest : List ℕ} (first : numberIf (ltb 0 (s .numbers)) text ≡ found a rest) where
+    pub shaped-short : numberIf (ltb 1 (s .numbers)) rest ≡ none → noCall ≡ callAs s letter text
+    unfolding callAs
+    shaped-short e = rw (first, e)
 
-  pub value-no-number : readNumber text ≡ none → noCall ≡ numberAndValue letter text
-  unfolding numberAndValue
-  value-no-number e = rw e
+    module _ {b : ℕ} {more : List ℕ} (second : numberIf (ltb 1 (s .numbers)) rest ≡ found b more) where
+      pub shaped-no-value : valueIf (s .value) more ≡ none → noCall ≡ callAs s letter text
+      unfolding callAs
+      shaped-no-value e = rw (first, second, e)
 
-  pub three-none : readNumber text ≡ none → noCall ≡ numbersAndValue letter text
-  unfolding numbersAndValue
-  three-none e = rw e
-
-  module _ {a : ℕ} {rest : List ℕ} (first : readNumber text ≡ found a rest) where
-    pub one-is : atEnd (callWith letter a 0 (pos 0)) rest ≡ oneNumber letter text
-    unfolding oneNumber
-    one-is = rw first
-
-    pub two-short : readNumber rest ≡ none → noCall ≡ twoNumbers letter text
-    unfolding twoNumbers
-    two-short e = rw (first, e)
-
-    pub value-missing : readValue rest ≡ none → noCall ≡ numberAndValue letter text
-    unfolding numberAndValue
-    value-missing e = rw (first, e)
-
-    pub value-is : {v : ℤ} {end : List ℕ} → readValue rest ≡ found v end → atEnd (callWith letter a 0 v) end ≡ numberAndValue letter text
-    unfolding numberAndValue
-    value-is e = rw (first, e)
-
-    pub three-short : readNumber rest ≡ none → noCall ≡ numbersAndValue letter text
-    unfolding numbersAndValue
-    three-short e = rw (first, e)
-
-    module _ {b : ℕ} {more : List ℕ} (second : readNumber rest ≡ found b more) where
-      pub two-are : atEnd (callWith letter a b (pos 0)) more ≡ twoNumbers letter text
-      unfolding twoNumbers
-      two-are = rw (first, second)
-
-      pub three-no-value : readValue more ≡ none → noCall ≡ numbersAndValue letter text
-      unfolding numbersAndValue
-      three-no-value e = rw (first, second, e)
-
-      pub three-are : {v : ℤ} {end : List ℕ} → readValue more ≡ found v end → atEnd (callWith letter a b v) end ≡ numbersAndValue letter text
-      unfolding numbersAndValue
-      three-are e = rw (first, second, e)
+      pub shaped-is : {v : ℤ} {end : List ℕ} → valueIf (s .value) more ≡ found v end → atEnd (s .bytes) (callWith letter a b v) end ≡ callAs s letter text
+      unfolding callAs
+      shaped-is e = rw (first, second, e)
 
 -- ---- the call by its letter
 
@@ -297,73 +319,11 @@ module _ (line : List ℕ) where
   unfolding callOf
   call-short h = rw (lt-ltb (length line) 3 h)
 
-  pub call-long : 3 ≤ length line → {c : Call} → c ≡ callBehind (getD line 0 0) (drop 3 line) → c ≡ callOf line
-  unfolding callOf
-  call-long h e = rw (le-ltb (length line) 3 h) e
+  module _ (h : 3 ≤ length line) {s : Shape} (is : s ≡ shapeOf (getD line 0 0)) where
+    pub call-none : s .known ≡ false → noCall ≡ callOf line
+    unfolding callOf
+    call-none e = rw (le-ltb (length line) 3 h, sym is, e)
 
-module _ (letter : ℕ) (text : List ℕ) where
-  pub behind-three : (letter ≡ 77) ⊎ ((letter ≡ 87) ⊎ (letter ≡ 89)) → numbersAndValue letter text ≡ callBehind letter text
-  unfolding callBehind
-  behind-three (inl e) = rw e
-  behind-three (inr (inl e)) = rw e
-  behind-three (inr (inr e)) = rw e
-
-  pub behind-two : (letter ≡ 70) ⊎ (letter ≡ 82) → twoNumbers letter text ≡ callBehind letter text
-  unfolding callBehind
-  behind-two (inl e) = rw e
-  behind-two (inr e) = rw e
-
-  pub behind-one : (letter ≡ 67) ⊎ ((letter ≡ 68) ⊎ ((letter ≡ 74) ⊎ (letter ≡ 88))) → oneNumber letter text ≡ callBehind letter text
-  unfolding callBehind
-  behind-one (inl e) = rw e
-  behind-one (inr (inl e)) = rw e
-  behind-one (inr (inr (inl e))) = rw e
-  behind-one (inr (inr (inr e))) = rw e
-
-  pub behind-value : (letter ≡ 65) ⊎ (letter ≡ 90) → numberAndValue letter text ≡ callBehind letter text
-  unfolding callBehind
-  behind-value (inl e) = rw e
-  behind-value (inr e) = rw e
-
-  -- B, H, K, Q, S, V
-  abbrev Bare : Type 0
-  Bare = (letter ≡ 66) ⊎ ((letter ≡ 72) ⊎ ((letter ≡ 75) ⊎ ((letter ≡ 81) ⊎ ((letter ≡ 83) ⊎ (letter ≡ 86)))))
-
-  pub behind-bare : Bare → atEnd (callWith letter 0 0 (pos 0)) text ≡ callBehind letter text
-  unfolding callBehind
-  behind-bare (inl e) = rw e
-  behind-bare (inr (inl e)) = rw e
-  behind-bare (inr (inr (inl e))) = rw e
-  behind-bare (inr (inr (inr (inl e)))) = rw e
-  behind-bare (inr (inr (inr (inr (inl e))))) = rw e
-  behind-bare (inr (inr (inr (inr (inr e))))) = rw e
-
-  pub behind-load : letter ≡ 80 → atEnd (callWith letter 0 0 (pos 0)) text ≡ callBehind letter text
-  unfolding callBehind
-  behind-load e = rw e
-
-  pub behind-none : ((letter ≡ 77) ⊎ ((letter ≡ 87) ⊎ (letter ≡ 89)) → ⊥) → ((letter ≡ 70) ⊎ (letter ≡ 82) → ⊥)
-      → ((letter ≡ 67) ⊎ ((letter ≡ 74) ⊎ (letter ≡ 88)) → ⊥) → (letter ≡ 68 → ⊥) → ((letter ≡ 65) ⊎ (letter ≡ 90) → ⊥) → (Bare → ⊥) → (letter ≡ 80 → ⊥)
-      → noCall ≡ callBehind letter text
-  unfolding callBehind
-  behind-none a b d g e f p =
-      rw (
-        ne-eqb letter 77 (λ x. a (inl x)),
-        ne-eqb letter 87 (λ x. a (inr (inl x))),
-        ne-eqb letter 89 (λ x. a (inr (inr x))),
-        ne-eqb letter 82 (λ x. b (inr x)),
-        ne-eqb letter 70 (λ x. b (inl x)),
-        ne-eqb letter 67 (λ x. d (inl x)),
-        ne-eqb letter 68 g,
-        ne-eqb letter 74 (λ x. d (inr (inl x))),
-        ne-eqb letter 88 (λ x. d (inr (inr x))),
-        ne-eqb letter 65 (λ x. e (inl x)),
-        ne-eqb letter 90 (λ x. e (inr x)),
-        ne-eqb letter 66 (λ x. f (inl x)),
-        ne-eqb letter 72 (λ x. f (inr (inl x))),
-        ne-eqb letter 75 (λ x. f (inr (inr (inl x)))),
-        ne-eqb letter 80 p,
-        ne-eqb letter 81 (λ x. f (inr (inr (inr (inl x))))),
-        ne-eqb letter 83 (λ x. f (inr (inr (inr (inr (inl x)))))),
-        ne-eqb letter 86 (λ x. f (inr (inr (inr (inr (inr x)))))),
-      )
+    pub call-shaped : s .known ≡ true → callAs s (getD line 0 0) (drop 3 line) ≡ callOf line
+    unfolding callOf
+    call-shaped e = rw (le-ltb (length line) 3 h, sym is, e)

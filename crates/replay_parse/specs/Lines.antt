@@ -1,6 +1,7 @@
 -- A line as a call: its letter, a space, the digit of its place, and then fields, each behind one space. A number is written as it would be printed.
-use Prim.Native.Nat.{ℕ, zero, suc, _+_, _*_, _-_}
-use mathlib.Core.Bool.{Bool, cond, _||_}
+use Prim.Native.Nat.{ℕ, zero, suc, _+_, _*_, _-_, _≤_}
+use mathlib.Core.Path.{_≡_}
+use mathlib.Core.Bool.{Bool, true, false, cond, _||_}
 use mathlib.Core.List.{List, [], _∷_}
 use lib.Dec.{eqb, ltb, leb}
 use lib.IntN.{ℤ, pos, negsuc}
@@ -9,6 +10,7 @@ use Rattle.block.specs.Message.{within}
 use Rattle.replay_parse.specs.declared.Call.{Call}
 use Rattle.replay_parse.specs.declared.Number.{Number}
 use Rattle.replay_parse.specs.declared.Number.the-variants.{Is, Missing}
+use Rattle.replay_parse.specs.declared.Shape.{Shape}
 use Rattle.replay_parse.specs.declared.Value.{Value}
 use Rattle.replay_parse.specs.declared.Value.the-variants.{Is as Value·Is, Missing as Value·Missing}
 
@@ -62,16 +64,40 @@ unfoldable pub readValue : List ℕ → Field ℤ
 readValue [] = none
 readValue (b ∷ text) = cond (eqb b 32) (readSigned text) none
 
--- what the program has of a field of the line
+abbrev pub numberUpTo : ℕ → ℕ → ℕ → Number
+numberUpTo most n end = cond (leb n most) (Is n end) Missing
+
+-- what the program has of a field of the line, and the place behind it, 0 where there is none
 abbrev pub numberField : Number → List ℕ → Field ℕ
 numberField (Is n end) line = found n (drop end line)
 numberField Missing line = none
+
+abbrev pub numberEnd : Number → ℕ
+numberEnd (Is n end) = end
+numberEnd Missing = 0
 
 abbrev pub valueField : Value → List ℕ → Field ℤ
 valueField (Value·Is v end) line = found v (drop end line)
 valueField Value·Missing line = none
 
+abbrev pub valueEnd : Value → ℕ
+valueEnd (Value·Is v end) = end
+valueEnd Value·Missing = 0
+
+-- of the line that field, and no other: a place within the line has one text behind it
+pub record ReadsNumber (r : Number) (line : List ℕ) (f : Field ℕ) : Type 0 where
+  pub field : numberField r line ≡ f
+  pub end : numberEnd r ≤ length line
+
+pub record ReadsValue (r : Value) (line : List ℕ) (f : Field ℤ) : Type 0 where
+  pub field : valueField r line ≡ f
+  pub end : valueEnd r ≤ length line
+
 -- ---- calls
+
+abbrev pub oneOf : ℕ → List ℕ → Bool
+oneOf letter [] = false
+oneOf letter (l ∷ ls) = eqb letter l || oneOf letter ls
 
 -- with no bytes
 abbrev pub callWith : ℕ → ℕ → ℕ → ℤ → Call
@@ -92,47 +118,51 @@ abbrev pub nothingBehind : Call → List ℕ → Call
 nothingBehind c [] = c
 nothingBehind c (b ∷ text) = noCall
 
--- H, P and Y end in bytes, any other call in nothing
-unfoldable pub atEnd : Call → List ℕ → Call
-atEnd c text = cond (eqb (c .letter) 72 || (eqb (c .letter) 80 || eqb (c .letter) 89)) (bytesBehind c text) (nothingBehind c text)
+unfoldable pub atEnd : Bool → Call → List ℕ → Call
+atEnd bytes c text = cond bytes (bytesBehind c text) (nothingBehind c text)
+
+-- a number or a value, where there is one
+unfoldable pub numberIf : Bool → List ℕ → Field ℕ
+numberIf has text = cond has (readNumber text) (found 0 text)
+
+unfoldable pub valueIf : Bool → List ℕ → Field ℤ
+valueIf has text = cond has (readValue text) (found (pos 0) text)
+
+-- so many numbers, at most two, then a value or none, then bytes or none
+abbrev pub fields : ℕ → Bool → Bool → Shape
+fields numbers value bytes = record { known = true; numbers = numbers; value = value; bytes = bytes }
+
+abbrev pub noShape : Shape
+noShape = record { known = false; numbers = 0; value = false; bytes = false }
+
+-- by its letter, how a line goes on behind its place
+unfoldable pub shapeOf : ℕ → Shape
+shapeOf letter =
+    cond (oneOf letter (66 ∷ (75 ∷ (81 ∷ (83 ∷ (86 ∷ [])))))) {- B, K, Q, S, V -} (fields 0 false false)
+    (cond (oneOf letter (72 ∷ (80 ∷ []))) {- H, P -} (fields 0 false true)
+    (cond (oneOf letter (67 ∷ (68 ∷ (74 ∷ (88 ∷ []))))) {- C, D, J, X -} (fields 1 false false)
+    (cond (oneOf letter (65 ∷ (90 ∷ []))) {- A, Z -} (fields 1 true false)
+    (cond (oneOf letter (70 ∷ (82 ∷ []))) {- F, R -} (fields 2 false false)
+    (cond (oneOf letter (77 ∷ (87 ∷ []))) {- M, W -} (fields 2 true false)
+    (cond (oneOf letter (89 ∷ [])) {- Y -} (fields 2 true true)
+    noShape))))))
 
 abbrev pub then : {A : Type 0} → Field A → (A → List ℕ → Call) → Call
 then none f = noCall
 then (found x text) f = f x text
 
-unfoldable pub oneNumber : ℕ → List ℕ → Call
-oneNumber letter text = then (readNumber text) (λ (a : ℕ) (end : List ℕ). atEnd (callWith letter a 0 (pos 0)) end)
+-- the call of that letter and shape, with the text behind its place
+unfoldable pub callAs : Shape → ℕ → List ℕ → Call
+callAs s letter text =
+    then (numberIf (ltb 0 (s .numbers)) text) (λ (a : ℕ) (rest : List ℕ).
+    then (numberIf (ltb 1 (s .numbers)) rest) (λ (b : ℕ) (more : List ℕ).
+    then (valueIf (s .value) more) (λ (v : ℤ) (end : List ℕ). atEnd (s .bytes) (callWith letter a b v) end)))
 
-unfoldable pub twoNumbers : ℕ → List ℕ → Call
-twoNumbers letter text =
-    then (readNumber text) (λ (a : ℕ) (rest : List ℕ). then (readNumber rest) (λ (b : ℕ) (end : List ℕ). atEnd (callWith letter a b (pos 0)) end))
-
-unfoldable pub numberAndValue : ℕ → List ℕ → Call
-numberAndValue letter text =
-    then (readNumber text) (λ (a : ℕ) (rest : List ℕ). then (readValue rest) (λ (v : ℤ) (end : List ℕ). atEnd (callWith letter a 0 v) end))
-
-unfoldable pub numbersAndValue : ℕ → List ℕ → Call
-numbersAndValue letter text =
-    then (readNumber text) (λ (a : ℕ) (rest : List ℕ).
-    then (readNumber rest) (λ (b : ℕ) (more : List ℕ).
-    then (readValue more) (λ (v : ℤ) (end : List ℕ). atEnd (callWith letter a b v) end)))
-
--- B, H, K, P, Q, S, V: no number
-abbrev pub isBare : ℕ → Bool
-isBare letter = eqb letter 66 || (eqb letter 72 || (eqb letter 75 || (eqb letter 80 || (eqb letter 81 || (eqb letter 83 || eqb letter 86)))))
-
--- the call by its letter, with the text behind its place
-unfoldable pub callBehind : ℕ → List ℕ → Call
-callBehind letter text =
-    cond (eqb letter 77 || (eqb letter 87 || eqb letter 89)) {- M, W, Y -} (numbersAndValue letter text)
-    (cond (eqb letter 82 || eqb letter 70) {- R, F -} (twoNumbers letter text)
-    (cond (eqb letter 67 || (eqb letter 68 || (eqb letter 74 || eqb letter 88))) {- C, D, J, X -} (oneNumber letter text)
-    (cond (eqb letter 65 || eqb letter 90) {- A, Z -} (numberAndValue letter text)
-    (cond (isBare letter) (atEnd (callWith letter 0 0 (pos 0)) text)
-    noCall))))
+abbrev pub callBehind : Shape → ℕ → List ℕ → Call
+callBehind s letter text = cond (s .known) (callAs s letter text) noCall
 
 unfoldable pub callOf : List ℕ → Call
-callOf line = cond (ltb (length line) 3) noCall (callBehind (getD line 0 0) (drop 3 line))
+callOf line = cond (ltb (length line) 3) noCall (callBehind (shapeOf (getD line 0 0)) (getD line 0 0) (drop 3 line))
 
 -- the place that the line names, 0 to 7; 8 where it names none
 unfoldable pub placeNamed : List ℕ → ℕ

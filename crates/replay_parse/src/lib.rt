@@ -1,10 +1,9 @@
 // A line as a call. A number is read only as the program would print it.
-ghost use Prim.Native.Nat.{ℕ, _≤_};
+ghost use Prim.Native.Nat.{_≤_};
 ghost use mathlib.Core.Path.{_≡_};
-ghost use mathlib.Core.List.{List};
-ghost use lib.ListN.{drop};
-ghost use Rattle.replay_parse.specs.Lines.{digitNumber, upTo, readDigits, readNumber, negative, readSigned, readValue, callWith, noCall, withDigits, bytesBehind, atEnd, oneNumber, twoNumbers, numberAndValue, numbersAndValue, callOf, placeNamed};
-ghost use Rattle.replay_parse.specs.Lines.{numberField, valueField};
+ghost use lib.ListN.{length, drop};
+ghost use Rattle.replay_parse.specs.Lines.{digitNumber, numberUpTo, readDigits, readNumber, negative, readSigned, readValue, callWith, noCall, bytesBehind, atEnd, numberIf, valueIf, fields, shapeOf, callAs, callOf, placeNamed};
+ghost use Rattle.replay_parse.specs.Lines.{ReadsNumber, ReadsValue};
 
 // A call: its letter and its numbers, 0 where it has none, and how many digits of bytes end its line. Letter 0 is no call.
 pub struct Call {
@@ -24,6 +23,14 @@ pub enum Number {
 pub enum Value {
     Is(i32, usize),
     Missing,
+}
+
+// How a line goes on behind its place: so many numbers, at most two, then a value or none, then bytes or none. Not `known` where it is no call.
+struct Shape {
+    known: bool,
+    numbers: u8,
+    value: bool,
+    bytes: bool,
 }
 
 fn made(letter: u8, first: u32, second: u32, value: i32) -> Call
@@ -58,20 +65,18 @@ fn digit(byte: u8) -> u64
 }
 
 // The number, where it is not above `most`.
-fn up_to(most: u64, n: u64, end: usize) -> Number
-    requires { ⌜ most ≤ 4294967295 ⌝ }
-    ensures { λ r. ⌜ ((line : List ℕ) → numberField r line ≡ upTo most n (drop end line)) ⌝ }
+fn up_to(most: u32, n: u64, end: usize) -> Number
+    ensures { λ r. ⌜ r ≡ numberUpTo most n end ⌝ }
 {
-    if most < n {
+    if (most as u64) < n {
         return Number::Missing;
     }
     Number::Is(n as u32, end)
 }
 
 // The number whose digits begin at `from`. A 0 in front stands alone: a digit behind it is then no separator.
-fn take_digits(line: &[u8], from: usize, most: u64) -> Number
-    requires { ⌜ most ≤ 4294967295 ⌝ }
-    ensures { λ r. ⌜ numberField r (now (line .entry)) ≡ readDigits most (drop from (now (line .entry))) ⌝ }
+pub fn take_digits(line: &[u8], from: usize, most: u32) -> Number
+    ensures { λ r. ⌜ ReadsNumber r (now (line .entry)) (readDigits most (drop from (now (line .entry)))) ⌝ }
 {
     if line.len() <= from {
         return Number::Missing;
@@ -99,8 +104,8 @@ fn take_digits(line: &[u8], from: usize, most: u64) -> Number
 }
 
 // A field that is an unsigned number.
-fn take_number(line: &[u8], at: usize) -> Number
-    ensures { λ r. ⌜ numberField r (now (line .entry)) ≡ readNumber (drop at (now (line .entry))) ⌝ }
+pub fn take_number(line: &[u8], at: usize) -> Number
+    ensures { λ r. ⌜ ReadsNumber r (now (line .entry)) (readNumber (drop at (now (line .entry)))) ⌝ }
 {
     if line.len() <= at {
         return Number::Missing;
@@ -113,7 +118,7 @@ fn take_number(line: &[u8], at: usize) -> Number
 
 // The number below zero whose digits begin at `from`; `-0` is none.
 fn take_negative(line: &[u8], from: usize) -> Value
-    ensures { λ r. ⌜ valueField r (now (line .entry)) ≡ negative (readDigits 2147483648 (drop from (now (line .entry)))) ⌝ }
+    ensures { λ r. ⌜ ReadsValue r (now (line .entry)) (negative (readDigits 2147483648 (drop from (now (line .entry))))) ⌝ }
 {
     let Number::Is(n, end) = take_digits(line, from, 2147483648) else {
         return Value::Missing;
@@ -125,8 +130,8 @@ fn take_negative(line: &[u8], from: usize) -> Value
 }
 
 // A signed number.
-fn take_signed(line: &[u8], from: usize) -> Value
-    ensures { λ r. ⌜ valueField r (now (line .entry)) ≡ readSigned (drop from (now (line .entry))) ⌝ }
+pub fn take_signed(line: &[u8], from: usize) -> Value
+    ensures { λ r. ⌜ ReadsValue r (now (line .entry)) (readSigned (drop from (now (line .entry)))) ⌝ }
 {
     if line.len() <= from {
         return Value::Missing;
@@ -141,8 +146,8 @@ fn take_signed(line: &[u8], from: usize) -> Value
 }
 
 // A field that is a signed number.
-fn take_value(line: &[u8], at: usize) -> Value
-    ensures { λ r. ⌜ valueField r (now (line .entry)) ≡ readValue (drop at (now (line .entry))) ⌝ }
+pub fn take_value(line: &[u8], at: usize) -> Value
+    ensures { λ r. ⌜ ReadsValue r (now (line .entry)) (readValue (drop at (now (line .entry)))) ⌝ }
 {
     if line.len() <= at {
         return Value::Missing;
@@ -168,68 +173,88 @@ fn with_bytes(line: &[u8], at: usize, call: Call) -> Call
     with
 }
 
-// The call, where nothing stands behind it but the bytes of those that have bytes.
-fn at_end(line: &[u8], end: usize, call: Call) -> Call
-    ensures { λ r. ⌜ r ≡ atEnd call (drop end (now (line .entry))) ⌝ }
+// The call, where nothing stands behind it but the bytes, if it has any.
+fn at_end(bytes: bool, line: &[u8], end: usize, call: Call) -> Call
+    ensures { λ r. ⌜ r ≡ atEnd bytes call (drop end (now (line .entry))) ⌝ }
 {
-    let letter = call.letter;
-    match letter {
-        b'H' | b'P' | b'Y' => with_bytes(line, end, call),
-        _ => {
-            if end < line.len() {
-                return no_call();
-            }
-            call
-        }
+    if bytes {
+        return with_bytes(line, end, call);
+    }
+    if end < line.len() {
+        return no_call();
+    }
+    call
+}
+
+// A number, where the line has one there, else 0.
+fn number_if(has: bool, line: &[u8], at: usize) -> Number
+    requires { ⌜ at ≤ length (now line) ⌝ }
+    ensures { λ r. ⌜ ReadsNumber r (now (line .entry)) (numberIf has (drop at (now (line .entry)))) ⌝ }
+{
+    if has {
+        return take_number(line, at);
+    }
+    Number::Is(0, at)
+}
+
+fn value_if(has: bool, line: &[u8], at: usize) -> Value
+    requires { ⌜ at ≤ length (now line) ⌝ }
+    ensures { λ r. ⌜ ReadsValue r (now (line .entry)) (valueIf has (drop at (now (line .entry)))) ⌝ }
+{
+    if has {
+        return take_value(line, at);
+    }
+    Value::Is(0, at)
+}
+
+fn fields(numbers: u8, value: bool, bytes: bool) -> Shape
+    ensures { λ r. ⌜ r ≡ fields numbers value bytes ⌝ }
+{
+    Shape {
+        known: true,
+        numbers: numbers,
+        value: value,
+        bytes: bytes,
     }
 }
 
-fn with_one(line: &[u8], letter: u8) -> Call
-    ensures { λ r. ⌜ r ≡ oneNumber letter (drop 3 (now (line .entry))) ⌝ }
+// How the lines of a letter go on.
+fn shape_of(letter: u8) -> Shape
+    ensures { λ r. ⌜ r ≡ shapeOf letter ⌝ }
 {
-    let Number::Is(first, end) = take_number(line, 3) else {
-        return no_call();
-    };
-    at_end(line, end, made(letter, first, 0, 0))
+    match letter {
+        b'B' | b'K' | b'Q' | b'S' | b'V' => fields(0, false, false),
+        b'H' | b'P' => fields(0, false, true),
+        b'C' | b'J' | b'X' => fields(1, false, false),
+        b'D' => fields(1, false, false),
+        b'A' | b'Z' => fields(1, true, false),
+        b'F' | b'R' => fields(2, false, false),
+        b'M' | b'W' => fields(2, true, false),
+        b'Y' => fields(2, true, true),
+        _ => Shape {
+            known: false,
+            numbers: 0,
+            value: false,
+            bytes: false,
+        },
+    }
 }
 
-fn with_two(line: &[u8], letter: u8) -> Call
-    ensures { λ r. ⌜ r ≡ twoNumbers letter (drop 3 (now (line .entry))) ⌝ }
+// The call of a line that goes on so.
+fn shaped(line: &[u8], letter: u8, shape: Shape) -> Call
+    requires { ⌜ 3 ≤ length (now line) ⌝ }
+    ensures { λ r. ⌜ r ≡ callAs shape letter (drop 3 (now (line .entry))) ⌝ }
 {
-    let Number::Is(first, at) = take_number(line, 3) else {
+    let Number::Is(first, at) = number_if(0 < shape.numbers, line, 3) else {
         return no_call();
     };
-    let Number::Is(second, end) = take_number(line, at) else {
+    let Number::Is(second, next) = number_if(1 < shape.numbers, line, at) else {
         return no_call();
     };
-    at_end(line, end, made(letter, first, second, 0))
-}
-
-fn with_one_value(line: &[u8], letter: u8) -> Call
-    ensures { λ r. ⌜ r ≡ numberAndValue letter (drop 3 (now (line .entry))) ⌝ }
-{
-    let Number::Is(first, at) = take_number(line, 3) else {
+    let Value::Is(v, end) = value_if(shape.value, line, next) else {
         return no_call();
     };
-    let Value::Is(v, end) = take_value(line, at) else {
-        return no_call();
-    };
-    at_end(line, end, made(letter, first, 0, v))
-}
-
-fn with_two_value(line: &[u8], letter: u8) -> Call
-    ensures { λ r. ⌜ r ≡ numbersAndValue letter (drop 3 (now (line .entry))) ⌝ }
-{
-    let Number::Is(first, at) = take_number(line, 3) else {
-        return no_call();
-    };
-    let Number::Is(second, next) = take_number(line, at) else {
-        return no_call();
-    };
-    let Value::Is(v, end) = take_value(line, next) else {
-        return no_call();
-    };
-    at_end(line, end, made(letter, first, second, v))
+    at_end(shape.bytes, line, end, made(letter, first, second, v))
 }
 
 // The place that the line names, 8 where it names none.
@@ -260,14 +285,9 @@ pub fn call_of(line: &[u8]) -> Call
         return no_call();
     }
     let letter = line[0];
-    match letter {
-        b'M' | b'W' | b'Y' => with_two_value(line, letter),
-        b'R' | b'F' => with_two(line, letter),
-        b'C' | b'J' | b'X' => with_one(line, letter),
-        b'D' => with_one(line, letter),
-        b'A' | b'Z' => with_one_value(line, letter),
-        b'B' | b'H' | b'K' | b'Q' | b'S' | b'V' => at_end(line, 3, made(letter, 0, 0, 0)),
-        b'P' => at_end(line, 3, made(letter, 0, 0, 0)),
-        _ => no_call(),
+    let shape = shape_of(letter);
+    if !shape.known {
+        return no_call();
     }
+    shaped(line, letter, shape)
 }

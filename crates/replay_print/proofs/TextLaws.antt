@@ -1,7 +1,6 @@
 -- Texts in buffers, and numbers as texts. Assumes nothing.
-use Prim.Native.Nat.{ℕ, zero, suc, _+_, _-_, _*_, _/_, _%_, _^_, _≤_, _<_, min}
+use Prim.Native.Nat.{ℕ, zero, suc, _+_, _-_, _*_, _/_, _%_, _^_, _≤_, _<_}
 use mathlib.Core.Path.{_≡_, refl, sym, ap, _∙_}
-use mathlib.Core.Bool.{cond}
 use mathlib.Core.List.{List, [], _∷_, _++_, append-assoc, append-nil}
 use native.Mathlib.Nat.{pow-suc, one-le-pow, pow-le-pow-right, div-lt-iff-lt-mul, le-div-iff-mul-le}
 use native.Mathlib.Decide.{decLe}
@@ -13,7 +12,7 @@ use lib.ListN.{length, getD, take, drop, set, length-append, length-take, length
 use lib.Seq.{take-nil, take-all, take-append-le, drop-cons, set-at, take-suc}
 use mir.Syntax.{w32}
 use mir.Val.{SFits, ofZ}
-use Rattle.io.specs.Digits.{glyph, digits, Fewest}
+use Rattle.io.specs.Digits.{digits, Fewest}
 use Rattle.replay_print.specs.Text.{decimalWithin, decimal, signed, each, over, Holds, Appends}
 
 -- ---- buffers
@@ -23,37 +22,51 @@ length-over text b = simp (length-append, length-take, length-drop) (omega arith
 
 -- one byte more, where there is room
 pub append-one : (old : List ℕ) (at byte : ℕ) → at < length old → Appends (byte ∷ []) old at (set old at byte) (at + 1)
-append-one old at byte h b text w =
-    let l : length old ≡ length b = rw (w .bytes) (length-over text b) in
-    let e : at ≡ length text = omega (arith, w .count) in
-    let r : length text < length b = omega arith in
-    record {
-      bytes = rw (w .bytes, e, take-all (length b) text (omega arith), drop-cons b (length text) 0 r, set-at text (getD b (length text) 0) (drop (suc (length text)) b) byte (length text) refl)
-          (rw (take-all (length b) (text ++ (byte ∷ [])) (simp length-append (omega arith)), length-append, append-assoc, add-one));
-      count = simp length-append (omega arith);
-    }
+append-one old at byte h = record { behind = one; beyond = λ k. absurd (omega (arith, h, k)) }
+  where
+    one : (b text : List ℕ) → Holds b text old at → Holds b (text ++ (byte ∷ [])) (set old at byte) (at + 1)
+    one b text w =
+        let l : length old ≡ length b = rw (w .bytes) (length-over text b) in
+        let e : at ≡ length text = omega (arith, w .count) in
+        let r : length text < length b = omega arith in
+        record {
+          bytes = rw (w .bytes, e, take-all (length b) text (omega arith), drop-cons b (length text) 0 r, set-at text (getD b (length text) 0) (drop (suc (length text)) b) byte (length text) refl)
+              (rw (take-all (length b) (text ++ (byte ∷ [])) (simp length-append (omega arith)), length-append, append-assoc, add-one));
+          count = simp length-append (omega arith);
+        }
 
 -- and where there is none
 pub append-out : (old : List ℕ) (at byte : ℕ) → length old ≤ at → Appends (byte ∷ []) old at old at
-append-out old at byte h b text w =
-    let l : length old ≡ length b = rw (w .bytes) (length-over text b) in
-    let r : length b ≤ length text = omega (arith, w .count) in
-    let s : length b ≤ length text + 1 = omega arith in
-    record {
-      bytes = w .bytes ∙ rw (take-append-le (length b) text (byte ∷ []) r, length-append text (byte ∷ []), drop-of-length-le b r, drop-of-length-le b s);
-      count = simp length-append (omega arith);
-    }
+append-out old at byte h = record { behind = out; beyond = λ k. (refl, refl) }
+  where
+    out : (b text : List ℕ) → Holds b text old at → Holds b (text ++ (byte ∷ [])) old at
+    out b text w =
+        let l : length old ≡ length b = rw (w .bytes) (length-over text b) in
+        let r : length b ≤ length text = omega (arith, w .count) in
+        let s : length b ≤ length text + 1 = omega arith in
+        record {
+          bytes = w .bytes ∙ rw (take-append-le (length b) text (byte ∷ []) r, length-append text (byte ∷ []), drop-of-length-le b r, drop-of-length-le b s);
+          count = simp length-append (omega arith);
+        }
 
 pub appends-none : (old : List ℕ) (at : ℕ) → Appends [] old at old at
-appends-none old at b text w = rw append-nil w
+appends-none old at = record { behind = λ b text w. rw append-nil w; beyond = λ k. (refl, refl) }
 
 -- one text after the other
 pub appends-then : {a b : List ℕ} {old mid left : List ℕ} {at i end : ℕ} → Appends a old at mid i → Appends b mid i left end → Appends (a ++ b) old at left end
-appends-then {a} {b} f g buffer text w = rw append-assoc at (g buffer (text ++ a) (f buffer text w))
+appends-then {a} {b} {old} {mid} {left} {at} {i} {end} f g = record {
+  behind = λ buffer text w. rw append-assoc at (g .behind buffer (text ++ a) (f .behind buffer text w));
+  beyond = λ k. then-beyond (f .beyond k) (g .beyond) k;
+}
+  where
+    then-beyond : (mid ≡ old) × (i ≡ at) → (length mid < i → (left ≡ mid) × (end ≡ i)) → length old < at → (left ≡ old) × (end ≡ at)
+    then-beyond (p, q) h k =
+        let e = h (rw (p, q) k) in
+        (e .0 ∙ p, e .1 ∙ q)
 
 -- a text over the whole buffer
 pub held : {more old left : List ℕ} {end : ℕ} → Appends more old 0 left end → Holds old more left end
-held {more} {old} f = f old [] (record { bytes = rw (take-nil (length old)); count = omega arith })
+held {more} {old} f = f .behind old [] (record { bytes = rw (take-nil (length old)); count = omega arith })
 
 -- ---- numbers
 

@@ -1,5 +1,5 @@
 -- What is printed of an answer, as bytes, and what a buffer is left with.
-use Prim.Native.Nat.{ℕ, zero, suc, _+_, _/_, _%_, min}
+use Prim.Native.Nat.{ℕ, zero, suc, _+_, _/_, _%_, _<_, min}
 use mathlib.Core.Path.{_≡_}
 use mathlib.Core.Bool.{cond}
 use mathlib.Core.List.{List, [], _∷_, _++_}
@@ -63,6 +63,7 @@ pub record Holds (buffer text left : List ℕ) (n : ℕ) : Type 0 where
   pub bytes : left ≡ over text buffer
   pub count : n ≡ min (length text) (length buffer)
 
--- whatever text the buffer held at its first `at` bytes, it now holds that and then `more`
-abbrev pub Appends : List ℕ → List ℕ → ℕ → List ℕ → ℕ → Type 0
-Appends more old at left end = (buffer text : List ℕ) → Holds buffer text old at → Holds buffer (text ++ more) left end
+-- whatever text the buffer held at its first `at` bytes, it now holds that and then `more`; where it has not so many bytes, all is left
+pub record Appends (more old : List ℕ) (at : ℕ) (left : List ℕ) (end : ℕ) : Type 0 where
+  pub behind : (buffer text : List ℕ) → Holds buffer text old at → Holds buffer (text ++ more) left end
+  pub beyond : length old < at → (left ≡ old) × (end ≡ at)

@@ -4,7 +4,7 @@ ghost use mathlib.Core.List.{[], _∷_};
 ghost use Prim.Native.Nat.{_<_};
 ghost use Rattle.replay_print.specs.Text.{decimal, signed, hexDigit, hexByte, each, field, blockText, answerText, unknownText, Holds, Appends};
 
-fn put(out: &mut [u8], at: usize, byte: u8) -> usize
+pub fn put(out: &mut [u8], at: usize, byte: u8) -> usize
     ensures { λ r. ⌜ Appends (byte ∷ []) (now (out .entry)) at (now (out .exit)) r ⌝ }
 {
     if at < out.len() {
@@ -14,7 +14,7 @@ fn put(out: &mut [u8], at: usize, byte: u8) -> usize
     at
 }
 
-fn put_bytes(out: &mut [u8], at: usize, bytes: &[u8]) -> usize
+pub fn put_bytes(out: &mut [u8], at: usize, bytes: &[u8]) -> usize
     ensures { λ r. ⌜ Appends (now (bytes .entry)) (now (out .entry)) at (now (out .exit)) r ⌝ }
 {
     let mut end = at;
@@ -26,7 +26,7 @@ fn put_bytes(out: &mut [u8], at: usize, bytes: &[u8]) -> usize
     end
 }
 
-fn put_decimal(out: &mut [u8], at: usize, n: u64) -> usize
+pub fn put_decimal(out: &mut [u8], at: usize, n: u64) -> usize
     ensures { λ r. ⌜ Appends (decimal n) (now (out .entry)) at (now (out .exit)) r ⌝ }
 {
     let mut digits = [0u8; 20];
@@ -34,7 +34,7 @@ fn put_decimal(out: &mut [u8], at: usize, n: u64) -> usize
     put_bytes(&mut *out, at, &digits[..count])
 }
 
-fn put_signed(out: &mut [u8], at: usize, value: i32) -> usize
+pub fn put_signed(out: &mut [u8], at: usize, value: i32) -> usize
     ensures { λ r. ⌜ Appends (signed value) (now (out .entry)) at (now (out .exit)) r ⌝ }
 {
     let bits = block::to_bits(value) as u64;
@@ -46,7 +46,7 @@ fn put_signed(out: &mut [u8], at: usize, value: i32) -> usize
 }
 
 // A space and the number; so for a value.
-fn put_number(out: &mut [u8], at: usize, n: u32) -> usize
+pub fn put_number(out: &mut [u8], at: usize, n: u32) -> usize
     ensures { λ r. ⌜ Appends (field decimal n) (now (out .entry)) at (now (out .exit)) r ⌝ }
 {
     let end = put(&mut *out, at, b' ');
@@ -65,7 +65,7 @@ fn put_numbers(out: &mut [u8], at: usize, numbers: &[u32]) -> usize
     end
 }
 
-fn put_value(out: &mut [u8], at: usize, value: i32) -> usize
+pub fn put_value(out: &mut [u8], at: usize, value: i32) -> usize
     ensures { λ r. ⌜ Appends (field signed value) (now (out .entry)) at (now (out .exit)) r ⌝ }
 {
     let end = put(&mut *out, at, b' ');

@@ -15,7 +15,7 @@ array-share-prefix-line : tie.Need-array-share-prefix-line
 array-share-prefix-line c = search needs
 
 slice-aggregate-request-of : tie.Need-slice-aggregate-request-of
-slice-aggregate-request-of c = sym (length-take-le (c .before .before .before .before .before .next-line .result .length) (c .before .before .before .before .before .next-line .last .1 .1 .0) (c .before .before .before .before .before .next-line .ensures .1))
+slice-aggregate-request-of c = sym (length-take-le (c .before .before .before .before .before .next-line .result .length) (c .before .before .before .before .before .next-line .last .1 .1 .0) (c .before .before .before .before .before .next-line .ensures))
 
 request-of-requires : tie.Need-request-of-requires
 request-of-requires c κs = search needs

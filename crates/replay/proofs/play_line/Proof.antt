@@ -11,7 +11,7 @@ use Rattle.replay.proofs.play_line.Tie as tie
 bytes-there : (c : tie.Start) → c .args .request .count ≤ length (c .args .request .bytes)
 bytes-there c =
     let l : length (c .args .request .bytes) ≡ 2100 = search needs in
-    omega (arith, l, c .pre .0)
+    omega (arith, l, c .pre)
 
 array-share-prefix-bytes : tie.Need-array-share-prefix-bytes
 array-share-prefix-bytes c = bytes-there (c .before .before .before .before .before)
@@ -23,10 +23,7 @@ slice-aggregate-run-2 : tie.Need-slice-aggregate-run-2
 slice-aggregate-run-2 c = search needs
 
 run-requires : tie.Need-run-requires
-run-requires c κs =
-    let s = c .before .before .before .before .before .before .before .before in
-    let l = length-take-le (s .args .request .count) (s .args .request .bytes) (bytes-there s) in
-    (omega (arith, l, s .pre .0), omega (arith, s .pre .1))
+run-requires c κs = search needs
 
 slice-aggregate-put-answer : tie.Need-slice-aggregate-put-answer
 slice-aggregate-put-answer c = search needs

@@ -23,7 +23,7 @@ returns c =
     let a = c .before .before .before .before .before .before .before .before .before .args in
     let named = a .named .now in
     let whole = take-all (length named) named (omega arith) in
-    (c .before .before .lend .ensures .0, c .before .before .lend .ensures .1 ∙ whole ∙ given-named (a .call) (a .page .now) named (a .held) (sym (c .before .before .before .before .before .is-part .ensures) ∙ not-true (c .before .before .before .before .before .is-part .result) (c .before .before .before .before .if1 .taken)))
+    rw (whole ∙ given-named (a .call) (a .page .now) named (a .held) (sym (c .before .before .before .before .before .is-part .ensures) ∙ not-true (c .before .before .before .before .before .is-part .result) (c .before .before .before .before .if1 .taken))) at (c .before .before .lend .ensures)
 
 enum-known-held : tie.Need-enum-known-held
 enum-known-held c = search needs
@@ -42,7 +42,7 @@ returns-2 c =
     let a = c .before .before .before .before .before .before .before .before .before .before .before .args in
     let named = a .named .now in
     let whole = take-all (length named) named (omega arith) in
-    (c .before .before .lend2 .ensures .0, c .before .before .lend2 .ensures .1 ∙ whole ∙ given-outgrown (a .call) (a .page .now) named (c .before .before .before .before .enum-told .given .1))
+    rw (whole ∙ given-outgrown (a .call) (a .page .now) named (c .before .before .before .before .enum-told .given .1)) at (c .before .before .lend2 .ensures)
 
 part-start-requires : tie.Need-part-start-requires
 part-start-requires c κs = search needs
@@ -63,7 +63,7 @@ returns-3 : tie.Need-returns-3
 returns-3 c =
     let a = c .before .before .before .before .before .before .before .before .before .before .before .before .before .before .before .args in
     let part = given-part (a .call) (a .page .now) (a .named .now) (c .before .before .before .before .before .before .before .before .held .given .1) (sym (c .before .before .before .before .before .before .before .before .before .before .before .is-part .ensures) ∙ not-false (c .before .before .before .before .before .before .before .before .before .before .before .is-part .result) (c .before .before .before .before .before .before .before .before .before .before .if1 .left)) in
-    (c .before .before .lend3 .ensures .0, rw (c .before .before .before .before .before .before .part-start .ensures, c .before .before .before .before .lesser .ensures, c .before .before .before .before .before .part-end .ensures) at (c .before .before .lend3 .ensures .1) ∙ part)
+    rw (c .before .before .before .before .before .before .part-start .ensures, c .before .before .before .before .lesser .ensures, c .before .before .before .before .before .part-end .ensures, part) at (c .before .before .lend3 .ensures)
 
 pub give-spec : {M : Type 1} → statement M
 give-spec =

@@ -2,7 +2,6 @@
 use mathlib.Core.Path.{sym}
 use native.Mathlib.Omega.{arith}
 use borrow.Author.Needs.{needs}
-use lib.ListN.{length}
 use lib.Seq.{length-take-le}
 use Rattle.replay_journal.proofs.JournalLaws.{keep-stays, keep-grows, keep-begins}
 use Rattle.replay_journal.proofs.keep.Statement.{statement}
@@ -38,7 +37,7 @@ append-requires-2 c κs = search needs
 returns : tie.Need-returns
 returns c =
     let a = c .before .before .before .before .before .args in
-    keep-stays (length (a .page .now)) (a .given .now) (a .block .now) (a .page .now) (a .held) (c .enum-told .given .1)
+    keep-stays (a .given .now) (a .block .now) (a .page .now) (a .held) (c .enum-told .given .1)
 
 same-length : tie.Need-same-length
 same-length c = search needs
@@ -46,7 +45,7 @@ same-length c = search needs
 returns-2 : tie.Need-returns-2
 returns-2 c =
     let a = c .before .before .before .before .before .before .before .before .before .args in
-    keep-grows (length (a .page .now)) (a .given .now) (a .block .now) (a .page .now) (a .held) (c .before .before .before .before .enum-told2 .given .1) (c .before .before .append .ensures)
+    keep-grows (a .given .now) (a .block .now) (a .page .now) (a .held) (c .before .before .before .before .enum-told2 .given .1) (c .before .before .append .ensures)
 
 same-length-2 : tie.Need-same-length-2
 same-length-2 c = search needs
@@ -54,7 +53,7 @@ same-length-2 c = search needs
 returns-3 : tie.Need-returns-3
 returns-3 c =
     let a = c .before .before .before .before .before .before .before .before .before .before .before .before .args in
-    keep-begins (length (a .page .now)) (a .given .now) (a .block .now) (a .page .now) (a .held) (c .before .before .before .before .before .before .before .change .given .1) (c .before .before .before .before .before .lesser .ensures) (c .before .before .append2 .ensures)
+    keep-begins (a .given .now) (a .block .now) (a .page .now) (a .held) (c .before .before .before .before .before .before .before .change .given .1) (c .before .before .before .before .before .lesser .ensures) (c .before .before .append2 .ensures)
 
 pub keep-spec : {M : Type 1} → statement M
 keep-spec =

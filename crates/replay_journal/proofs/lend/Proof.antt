@@ -10,6 +10,12 @@ lesser-requires c κs = search needs
 lesser-requires-2 : tie.Need-lesser-requires-2
 lesser-requires-2 c κs = search needs
 
+sub-lesser : tie.Need-sub-lesser
+sub-lesser c = search needs
+
+lesser-requires-3 : tie.Need-lesser-requires-3
+lesser-requires-3 c κs = search needs
+
 sub-copy-bytes : tie.Need-sub-copy-bytes
 sub-copy-bytes c = search needs
 
@@ -22,14 +28,15 @@ part-copy-bytes-end c = search needs
 copy-bytes-requires : tie.Need-copy-bytes-requires
 copy-bytes-requires c κs = search needs
 
-sub-result : tie.Need-sub-result
-sub-result c = search needs
-
 same-length : tie.Need-same-length
 same-length c = search needs
 
 returns : tie.Need-returns
-returns c = lend-is (c .before .before .before .before .before .before .before .before .before .args .page .now) (c .before .before .before .before .before .before .before .before .before .args .given .now) (c .before .before .before .before .before .before .before .before .before .args .from) (c .before .before .before .before .before .before .before .before .before .args .to) (c .before .before .before .before .before .lesser2 .result) (c .before .before .before .before .before .before .lesser .result) (c .before .before .before .before .before .before .lesser .ensures) (c .before .before .before .before .before .lesser2 .ensures) (c .before .before .before .before .before .before .before .before .before .pre) (c .before .before .copy-bytes .ensures)
+returns c =
+    let a = c .before .before .before .before .before .before .before .before .before .before .args in
+    let start = c .before .before .before .before .before .before .lesser2 in
+    let end = c .before .before .before .before .before .before .before .lesser in
+    lend-is (a .page .now) (a .given .now) (a .from) (a .to) (start .result) (end .result) (end .ensures) (start .ensures) (c .before .before .copy-bytes .ensures) (c .before .before .before .before .before .lesser3 .ensures)
 
 pub lend-spec : {M : Type 1} → statement M
 lend-spec =
@@ -37,10 +44,11 @@ lend-spec =
     (tie.spec
     lesser-requires
     lesser-requires-2
+    sub-lesser
+    lesser-requires-3
     sub-copy-bytes
     part-copy-bytes-start
     part-copy-bytes-end
     copy-bytes-requires
-    sub-result
     same-length
     returns)

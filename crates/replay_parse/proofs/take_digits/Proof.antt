@@ -1,11 +1,11 @@
 -- `take_digits` meets its contract. The loop's invariant: the digits from i on, on from n, give the number.
 use Prim.Native.Nat.{_+_, _*_, _-_, _≤_, _<_}
-use mathlib.Core.Path.{_≡_, sym, _∙_}
+use mathlib.Core.Path.{_≡_, refl, sym, _∙_}
 use native.Mathlib.Omega.{arith}
 use borrow.Author.Needs.{needs}
 use lib.ListN.{length, getD, drop}
 use Rattle.replay_parse.specs.Lines.{digitNumber, digitsFrom, readDigits}
-use Rattle.replay_parse.proofs.LineLaws.{digits-over, digits-end, digits-stop, digits-next, digits-none, digits-other, digits-zero, digits-first}
+use Rattle.replay_parse.proofs.LineLaws.{no-number, reads-up-to, digits-over, digits-end, digits-stop, digits-next, digits-none, digits-other, digits-zero, digits-first}
 use Rattle.replay_parse.proofs.take_digits.Statement.{statement}
 use Rattle.replay_parse.proofs.take_digits.Tie as tie
 
@@ -16,7 +16,7 @@ abbrev μ-loop : tie.MeasureT-loop
 μ-loop line from most n₀ i₀ n i = length line - i
 
 returns : tie.Need-returns Inv-loop μ-loop
-returns c = digits-none (c .before .before .args .most) (c .before .before .args .line .now) (c .before .before .args .from) (c .if1 .taken)
+returns c = no-number refl (digits-none (c .before .before .args .most) (c .before .before .args .line .now) (c .before .before .args .from) (c .if1 .taken))
 
 shared-slice-read-digit : tie.Need-shared-slice-read-digit Inv-loop μ-loop
 shared-slice-read-digit c = search needs
@@ -25,13 +25,16 @@ digit-requires : tie.Need-digit-requires Inv-loop μ-loop
 digit-requires c κs = search needs
 
 returns-2 : tie.Need-returns-2 Inv-loop μ-loop
-returns-2 c = digits-other (c .before .before .before .before .before .args .most) (c .before .before .before .before .before .args .line .now) (c .before .before .before .before .before .args .from) (c .before .before .before .if1 .left) (rw (c .before .digit .ensures) at (c .if2 .taken))
+returns-2 c = no-number refl (digits-other (c .before .before .before .before .before .args .most) (c .before .before .before .before .before .args .line .now) (c .before .before .before .before .before .args .from) (c .before .before .before .if1 .left) (rw (c .before .digit .ensures) at (c .if2 .taken)))
 
 add-i : tie.Need-add-i Inv-loop μ-loop
 add-i c = search needs
 
 returns-3 : tie.Need-returns-3 Inv-loop μ-loop
-returns-3 c = digits-zero (c .before .before .before .before .before .before .args .most) (c .before .before .before .before .before .before .args .line .now) (c .before .before .before .before .before .before .args .from) (c .before .before .before .before .if1 .left) (rw (c .before .before .digit .ensures) at (c .if3 .taken))
+returns-3 c = record {
+  field = digits-zero (c .before .before .before .before .before .before .args .most) (c .before .before .before .before .before .before .args .line .now) (c .before .before .before .before .before .before .args .from) (c .before .before .before .before .if1 .left) (rw (c .before .before .digit .ensures) at (c .if3 .taken));
+  end = omega (arith, c .before .before .before .before .if1 .left);
+}
 
 loop-holds : tie.Need-loop-holds Inv-loop μ-loop
 loop-holds c =
@@ -51,14 +54,14 @@ returns-4 : tie.Need-returns-4 Inv-loop μ-loop
 returns-4 c =
     let b = c .before .before .before .before .before .loop in
     let s = c .before .before .before .before .before .before .before .before .before .before .before .before .args in
-    c .up-to .ensures (s .line .now) ∙ digits-stop (s .most) (b .n) (s .line .now) (b .i) (c .before .before .before .before .loop-test .taken) (rw (c .before .before .digit2 .ensures) at (c .before .if4 .taken)) ∙ sym (b .inv .2)
+    reads-up-to (s .most) (b .n) (b .i) (s .line .now) (b .inv .0) (c .up-to .ensures) (digits-stop (s .most) (b .n) (s .line .now) (b .i) (c .before .before .before .before .loop-test .taken) (rw (c .before .before .digit2 .ensures) at (c .before .if4 .taken)) ∙ sym (b .inv .2))
 
 returns-5 : tie.Need-returns-5 Inv-loop μ-loop
 returns-5 c =
     let b = c .before .before .before .before .before .loop in
     let s = c .before .before .before .before .before .before .before .before .before .before .before .before .args in
     let d : digitNumber (getD (s .line .now) (b .i) 0) ≤ 9 = rw (c .before .before .digit2 .ensures) at (c .before .if4 .left) in
-    sym (b .inv .2 ∙ digits-next (s .most) (b .n) (s .line .now) (b .i) (c .before .before .before .before .loop-test .taken) d ∙ digits-over (s .most) (10 * b .n + digitNumber (getD (s .line .now) (b .i) 0)) (drop (b .i + 1) (s .line .now)) (omega (arith, c .before .before .before .before .before .before .before .before .before .before .before .before .pre)))
+    no-number refl (sym (b .inv .2 ∙ digits-next (s .most) (b .n) (s .line .now) (b .i) (c .before .before .before .before .loop-test .taken) d ∙ digits-over (s .most) (10 * b .n + digitNumber (getD (s .line .now) (b .i) 0)) (drop (b .i + 1) (s .line .now)) (omega (arith, c .before .before .before .before .before .before .before .before .before .before .before .before .fits .most .fits))))
 
 mul-n : tie.Need-mul-n Inv-loop μ-loop
 mul-n c = search needs
@@ -86,7 +89,7 @@ returns-6 : tie.Need-returns-6 Inv-loop μ-loop
 returns-6 c =
     let b = c .before .before .loop in
     let s = c .before .before .before .before .before .before .before .before .before .args in
-    c .up-to2 .ensures (s .line .now) ∙ digits-end (s .most) (b .n) (s .line .now) (b .i) (c .before .loop-test .left) ∙ sym (b .inv .2)
+    reads-up-to (s .most) (b .n) (b .i) (s .line .now) (b .inv .0) (c .up-to2 .ensures) (digits-end (s .most) (b .n) (s .line .now) (b .i) (c .before .loop-test .left) ∙ sym (b .inv .2))
 
 pub take-digits-spec : {M : Type 1} → statement M
 take-digits-spec =

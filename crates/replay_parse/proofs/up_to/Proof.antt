@@ -5,13 +5,13 @@ use Rattle.replay_parse.proofs.up_to.Statement.{statement}
 use Rattle.replay_parse.proofs.up_to.Tie as tie
 
 returns : tie.Need-returns
-returns c = λ line. rw (lt-leb (c .before .args .n) (c .before .args .most) (c .if1 .taken))
+returns c = rw (lt-leb (c .before .args .n) (c .before .args .most) (c .if1 .taken))
 
-cast-t5 : tie.Need-cast-t5
-cast-t5 c = search needs
+cast-t6 : tie.Need-cast-t6
+cast-t6 c = search needs
 
 returns-2 : tie.Need-returns-2
-returns-2 c = λ line. rw (le-leb (c .before .args .n) (c .before .args .most) (c .if1 .left))
+returns-2 c = rw (le-leb (c .before .args .n) (c .before .args .most) (c .if1 .left))
 
 pub up-to-spec : {M : Type 1} → statement M
-up-to-spec = tie.close (tie.spec returns cast-t5 returns-2)
+up-to-spec = tie.close (tie.spec returns cast-t6 returns-2)

@@ -14,21 +14,18 @@ returns : tie.Need-returns
 unfolding placeStart
 returns c = rw (c .if1 .taken, mod-zero)
 
-cast-result : tie.Need-cast-result
-cast-result c = search needs
-
 rem-result : tie.Need-rem-result
 rem-result c = search needs
 
-cast-result-2 : tie.Need-cast-result-2
-cast-result-2 c = omega (arith, mod-le (c .before .before .before .args .slot) (c .before .before .before .args .group .replicas))
+cast-result : tie.Need-cast-result
+cast-result c = omega (arith, mod-le (c .before .args .slot) (c .before .args .span))
 
 mul-result-2 : tie.Need-mul-result-2
-mul-result-2 c = omega (arith, mod-le (c .before .before .before .args .slot) (c .before .before .before .args .group .replicas))
+mul-result-2 c = omega (arith, mod-le (c .before .args .slot) (c .before .args .span))
 
 returns-2 : tie.Need-returns-2
 unfolding placeStart
 returns-2 c = refl
 
 pub place-start-spec : {M : Type 1} → statement M
-place-start-spec = tie.close (tie.spec mul-result returns cast-result rem-result cast-result-2 mul-result-2 returns-2)
+place-start-spec = tie.close (tie.spec mul-result returns rem-result cast-result mul-result-2 returns-2)

@@ -1,7 +1,8 @@
--- `input::keep` is safe, and what it gives lies within the line.
+-- `input::keep` meets its contract.
+use mathlib.Core.Path.{refl, sym}
 use native.Mathlib.Omega.{arith}
 use borrow.Author.Needs.{needs}
-use lib.ListN.{length-set}
+use lib.Seq.{set-out}
 use Rattle.replay.proofs.input.keep.Statement.{statement}
 use Rattle.replay.proofs.input.keep.Tie as tie
 
@@ -15,10 +16,12 @@ same-length : tie.Need-same-length
 same-length c = search needs
 
 returns : tie.Need-returns
-returns c = simp length-set (omega arith)
+returns c = (omega (arith, c .if1 .taken), refl)
 
 returns-2 : tie.Need-returns-2
-returns-2 c = search needs
+returns-2 c =
+    let a = c .before .args in
+    (omega (arith, c .if1 .left), sym (set-out (a .line .now) (a .n) (a .byte) (c .if1 .left)))
 
 pub keep-spec : {M : Type 1} → statement M
 keep-spec = tie.close (tie.spec slice-write-line add-result same-length returns returns-2)

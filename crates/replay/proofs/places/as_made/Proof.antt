@@ -1,6 +1,5 @@
 -- `places::as_made` meets its contract.
 use borrow.Author.Needs.{needs}
-use mir.Facts.{toZ-ofZ}
 use Rattle.replay.proofs.PlaceLaws.{made-other, made-again}
 use Rattle.replay.proofs.places.as_made.Statement.{statement}
 use Rattle.replay.proofs.places.as_made.Tie as tie

@@ -1,0 +1,2 @@
+-- The replica that a client's call leaves.
+pub mod Rows

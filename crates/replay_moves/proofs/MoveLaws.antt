@@ -1,0 +1,203 @@
+-- What the calls that make a replica, restart it and move its turn show, by the reply that each gives. Assumes nothing.
+use Prim.Native.Nat.{ℕ, suc, _+_, _-_, _≤_}
+use mathlib.Core.Path.{_≡_, refl, ap}
+use mathlib.Core.Bool.{Bool, true, false, cond, not}
+use mathlib.Core.List.{List, [], _∷_}
+use native.Mathlib.Omega.{arith}
+use borrow.Author.Tests.{eq-eqb, ne-eqb}
+use lib.Dec.{eqb}
+use lib.IntN.{ℤ}
+use lib.ListN.{length, getD, take, replicate, length-append, length-replicate}
+use lib.Seq.{take-append-seam}
+use Rattle.memory.specs.Memory.{Memory, numberless}
+use Rattle.engine.specs.Calls.{Step, Outcome, outcome}
+use Rattle.engine.specs.Calls.Answer.{refused, made, worked, restarted}
+use Rattle.engine.specs.Make.{makeRefusal, makeStep}
+use Rattle.engine.specs.Step.{step}
+use Rattle.engine.specs.Step.Call.{send}
+use Rattle.engine.specs.Moves.{deliverRefusal, deliverNow, deliverStep, sendRefusal, sendNow, sendStep, blockAtTurn, workRefusal, writesetAt, passNext, commitWriteset, workStep}
+use Rattle.engine.specs.Restart.{restartRefusal, restartStep}
+use Rattle.engine.proofs.Restarts.{restarts}
+use Rattle.call_reply.specs.declared.Restarted.{Restarted}
+use Rattle.call_reply.specs.declared.RestartReply.{RestartReply}
+use Rattle.call_reply.specs.declared.WorkReply.{WorkReply}
+use Rattle.call_reply.specs.Called.{withBlock}
+use Rattle.call_reply.specs.Replies.{stepIn, countIn, number, sixOf, workReply, restartReply, Gives, blockLeft, GivesWith, GivesBlock}
+use Rattle.replay_journal.specs.declared.Change.{Change}
+use Rattle.replay_journal.specs.declared.Change.the-variants.{Stays, Grows, Begins}
+use Rattle.replay_replica.specs.declared.Played.{Played}
+use Rattle.replay_replica.specs.declared.Replica.{Replica}
+use Rattle.replay_replica.specs.Effects.{memoryOf, Effect, effect, Plays}
+use Rattle.replay_moves.specs.Makes.{withMade}
+use Rattle.replay_replica.proofs.EffectLaws.{Bare, bare-refused, by-number, unless-by, plays-bare, station-refuses, replica-does}
+
+-- ---- restart
+
+pub made-kept : (replica : Replica) (r : Restarted) → (r .reply .number ≡ 0 → ⊥) → replica ≡ withMade replica r
+made-kept replica r h = rw (ne-eqb (r .reply .number) 0 h)
+
+module _ (m : Memory) (n own : ℕ) (values : List ℤ) (journal lent zeros : List ℕ) where
+  restart-shows : (o : Outcome) → Type 0
+  restart-shows o = record {
+    number = number o;
+    numbers = take (cond (eqb (number o) 0) 1 0) (countIn (o .answer) ∷ zeros);
+    values = [];
+    block = blockLeft (o .answer) lent;
+    memory = o .memory;
+    change = cond (eqb (number o) 0) (Begins (countIn (o .answer))) Stays;
+  } ≡ effect lent o
+
+  pub restart-effect : {r : RestartReply} {left : Memory} {block : List ℕ} → GivesWith restartReply (restartStep m n own values journal lent) lent r left block
+      → record {
+        number = r .number;
+        numbers = take (cond (eqb (r .number) 0) 1 0) (r .count ∷ zeros);
+        values = [];
+        block = block;
+        memory = left;
+        change = cond (eqb (r .number) 0) (Begins (r .count)) Stays;
+      } ≡ effect lent (restartStep m n own values journal lent)
+  unfolding restartStep restart-shows
+  restart-effect g = rw (g .0 .0, g .0 .1, g .1) (unless-by restart-shows (restartRefusal m n own values lent) m _ refl (λ e. rw e))
+
+-- ---- make: a restart from no journal, with no block given back
+
+bare-made : Outcome → List ℕ → Effect
+bare-made o lent = record { number = number o; numbers = []; values = []; block = lent; memory = o .memory; change = cond (eqb (number o) 0) (Begins 0) Stays }
+
+-- by whether the refusal is 0
+made-shows : (b : Bool) (refusal count : ℕ) (block lent : List ℕ) (m left : Memory) → eqb refusal 0 ≡ b
+    → bare-made (cond b (outcome (restarted count block) left) (outcome (refused refusal) m)) lent
+    ≡ effect lent (cond b (outcome made left) (outcome (refused refusal) m))
+unfolding bare-made
+made-shows true refusal count block lent m left e = refl
+made-shows false refusal count block lent m left e = rw e
+
+module _ (m : Memory) (n own : ℕ) (values : List ℤ) (block : List ℕ) (long : length block ≡ 512) where
+  same-refusal : restartRefusal m n own values block ≡ makeRefusal m n own values
+  unfolding restartRefusal makeRefusal
+  same-refusal = rw (eq-eqb (length block) 512 long)
+
+  make-effect : (lent : List ℕ) → bare-made (restartStep m n own values [] block) lent ≡ effect lent (makeStep m n own values)
+  unfolding restartStep makeStep
+  make-effect lent = rw (same-refusal, restarts .empty n own values) (made-shows (eqb (makeRefusal m n own values) 0) _ _ _ lent m _ refl)
+
+module _ (size : ℕ) (replica : Replica) (n own : ℕ) (values : List ℤ) (block : List ℕ) {p q : Played} {left : List ℕ} where
+  pub plays-make : length block ≡ 512 → Plays size replica p left (effect block (restartStep (memoryOf size replica) n own values [] block))
+      → q ≡ record {
+        replica = p .replica;
+        number = p .number;
+        count = 0;
+        numbers = q .numbers;
+        shown = 0;
+        values = q .values;
+        change = cond (eqb (p .number) 0) (Begins 0) Stays;
+      }
+      → (lent : List ℕ) → Plays size replica q lent (effect lent (makeStep (memoryOf size replica) n own values))
+  unfolding bare-made
+  plays-make long h is lent =
+      plays-bare is
+      (rw (ap (λ (e : Effect). e .number) (h .is), ap (λ (e : Effect). e .memory) (h .is)) (make-effect (memoryOf size replica) n own values block long lent))
+      (h .rest)
+
+-- ---- send: its block is in the bytes lent
+
+module _ (m : Memory) (lent : List ℕ) where
+  send-shows : (o : Outcome) → Type 0
+  send-shows o = record {
+    number = number o;
+    numbers = [];
+    values = [];
+    block = blockLeft (o .answer) lent;
+    memory = o .memory;
+    change = cond (eqb (number o) 0) Grows Stays;
+  } ≡ effect lent o
+
+  pub send-effect : {r : ℕ} {left : Memory} {block : List ℕ} → GivesBlock (sendStep m lent) lent r left block
+      → record { number = r; numbers = []; values = []; block = block; memory = left; change = cond (eqb r 0) Grows Stays } ≡ effect lent (sendStep m lent)
+  unfolding sendStep sendNow send-shows
+  send-effect g = rw (g .0 .0, g .0 .1, g .1) (unless-by send-shows (sendRefusal m lent) m _ refl (λ e. rw e))
+
+-- a station refuses it
+module _ (size : ℕ) (replica : Replica) {p : Played} (lent : List ℕ) where
+  pub send-refused : numberless (replica .group) ≡ true
+      → p ≡ record { replica = replica; number = 25; count = 0; numbers = p .numbers; shown = 0; values = p .values; change = Stays }
+      → Plays size replica p lent (effect lent (step (memoryOf size replica) (send lent)))
+  unfolding step
+  send-refused e is = station-refuses size replica lent (sendStep (memoryOf size replica) lent) e is
+
+  pub send-does : {left : List ℕ} → numberless (replica .group) ≡ false → Plays size replica p left (effect lent (sendStep (memoryOf size replica) lent))
+      → Plays size replica p left (effect lent (step (memoryOf size replica) (send lent)))
+  unfolding step
+  send-does e h = replica-does size replica lent (sendStep (memoryOf size replica) lent) e h
+
+-- ---- deliver
+
+module _ (lent : List ℕ) where
+  pub bare-deliver : (m : Memory) (bytes : List ℕ) → Bare lent (deliverStep m bytes)
+  unfolding deliverStep deliverNow
+  bare-deliver m bytes = unless-by (Bare lent) (deliverRefusal m bytes) m _ (record { numbers = refl; values = refl; block = refl; change = refl }) (λ e. bare-refused lent _ m)
+
+-- ---- work
+
+-- six numbers, one by one
+pub six-is : (l : List ℕ) → length l ≡ 6 → getD l 0 0 ∷ (getD l 1 0 ∷ (getD l 2 0 ∷ (getD l 3 0 ∷ (getD l 4 0 ∷ (getD l 5 0 ∷ []))))) ≡ l
+six-is [] h = absurd (omega (arith, h))
+six-is (a ∷ []) h = absurd (omega (arith, h))
+six-is (a ∷ (b ∷ [])) h = absurd (omega (arith, h))
+six-is (a ∷ (b ∷ (c ∷ []))) h = absurd (omega (arith, h))
+six-is (a ∷ (b ∷ (c ∷ (d ∷ [])))) h = absurd (omega (arith, h))
+six-is (a ∷ (b ∷ (c ∷ (d ∷ (e ∷ []))))) h = absurd (omega (arith, h))
+six-is (a ∷ (b ∷ (c ∷ (d ∷ (e ∷ (f ∷ [])))))) h = refl
+six-is (a ∷ (b ∷ (c ∷ (d ∷ (e ∷ (f ∷ (g ∷ l))))))) h = absurd (omega (arith, h))
+
+either-way : (b : Bool) (x y : Change) → cond (not b) x y ≡ cond b y x
+either-way true x y = refl
+either-way false x y = refl
+
+module _ (m : Memory) (lent : List ℕ) where
+  work-shows : (o : Outcome) → Type 0
+  work-shows o =
+      let s = stepIn (o .answer) in
+      record {
+        number = number o;
+        numbers = take (cond (eqb (number o) 0) (4 + length (s .aborted)) 0) (s .sender ∷ (s .ticket ∷ (cond (s .moved) 1 0 ∷ (length (s .aborted) ∷ sixOf (s .aborted)))));
+        values = [];
+        block = blockLeft (o .answer) lent;
+        memory = o .memory;
+        change = cond (not (eqb (length (s .append)) 0)) Grows Stays;
+      } ≡ effect lent o
+
+  worked-shows : (s : Step) (left : Memory) → work-shows (outcome (worked s) left)
+  unfolding work-shows
+  worked-shows s left =
+      let l = s .aborted in
+      let e : 4 + length l ≡ suc (suc (suc (suc (length l)))) = omega arith in
+      rw (e, take-append-seam l (replicate (6 - length l) 0), either-way (eqb (length (s .append)) 0) Grows Stays)
+
+  step-shows : work-shows (workStep m)
+  unfolding workStep passNext commitWriteset work-shows
+  step-shows =
+      let next = passNext m in
+      let commit = commitWriteset m (eqb (getD (blockAtTurn m) 1 0) (m .group .own)) (writesetAt (blockAtTurn m) (m .counts .done)) in
+      unless-by work-shows (workRefusal m) m _
+      (by-number work-shows (eqb (getD (blockAtTurn m) 0 0) 1) (λ e. worked-shows (stepIn (next .answer)) (next .memory)) (λ e. worked-shows (stepIn (commit .answer)) (commit .memory)))
+      (λ e. rw e)
+
+  pub work-effect : {r : WorkReply} {left : Memory} {block : List ℕ} → GivesWith workReply (withBlock lent workStep m) lent r left block
+      → record {
+        number = r .number;
+        numbers = take (cond (eqb (r .number) 0) (4 + r .count) 0) (r .sender ∷ (r .ticket ∷ (cond (r .moved) 1 0 ∷ (r .count ∷ r .aborted))));
+        values = [];
+        block = block;
+        memory = left;
+        change = cond (r .append) Grows Stays;
+      } ≡ effect lent (withBlock lent workStep m)
+  unfolding withBlock work-shows
+  work-effect g = rw (g .0 .0, g .0 .1, g .1) (by-number work-shows (eqb (length lent) 512) (λ e. step-shows) (λ e. refl))
+
+-- six tickets at most
+pub work-few : (o : Outcome) {r : WorkReply} {left : Memory} → Gives workReply o r left → length (r .aborted) ≡ 6 → r .count ≤ 6
+work-few o g h =
+    let l = stepIn (o .answer) .aborted in
+    let k : length (sixOf l) ≡ 6 = rw (g .0) at h in
+    rw (g .0) (omega (arith, k, length-append l (replicate (6 - length l) 0), length-replicate {A = ℕ} (6 - length l) 0))

@@ -1,0 +1,2 @@
+-- The replica that a make or a restart leaves.
+pub mod Makes
