@@ -1,4 +1,6 @@
 -- Another's writeset: the open transactions that it hits, their tickets, and the queue left, in memory and in the model. Assumes nothing.
+-- modules are checked in the order of their names, this one first: so what is computed comes before the proofs, and a wrong definition is refused there
+use Rattle.agreement.proofs.Worked.{right-group}
 use Prim.Native.Nat.{ℕ, suc, _+_, _*_, _≤_, _<_}
 use mathlib.Core.Path.{_≡_, refl, sym, ap, _∙_}
 use mathlib.Core.Bool.{Bool, true, false, cond, not, _&&_, _||_}

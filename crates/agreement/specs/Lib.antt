@@ -7,3 +7,5 @@ pub mod Tickets
 -- what holds with no premise
 pub mod Handed
 pub mod SixRows
+-- a small run
+pub mod Worked

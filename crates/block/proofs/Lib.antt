@@ -1,3 +1,5 @@
+-- what is computed from the definitions
+pub mod Worked
 -- What belongs to no one function. Laws, each over plain lists and numbers: of tests, lists, numbers in bytes, the check, messages, the bytes written,
 -- the bytes read, and of each answer of the code. Then the theorems.
 pub mod BoolLaws
@@ -16,4 +18,3 @@ pub mod Reading
 pub mod TwoWords
 pub mod OneBit
 pub mod Theorems
-pub mod Worked

@@ -10,4 +10,4 @@ use Rattle.block.specs.Worked.{WorkedBlocks}
 
 pub worked-blocks : WorkedBlocks
 unfolding bytesOf numberFrom valueBytes valueOf word sumTo weightedTo firstCheck secondCheck checkBytes checkMatches ownerOf within kindFits entriesFit recordFits recordsFit ticketAbsent ticketsDiffer valid entryBytes entriesBytes recordBytes recordsBytes headerFor headerBytes bodyBytes blockOf entryOf entriesOf recordOf recordsOf messageOf allZero entriesPadded recordPadded recordsPadded padded wellFormed firstOf blockRefusal
-worked-blocks = record { next-check = refl; next-taken = refl; commit-check = refl; commit-taken = refl }
+worked-blocks = record { next-check = refl; next-taken = refl; commit-check = refl; commit-taken = refl; unpadded-refused = refl; doubly-refused = refl }

@@ -1,3 +1,5 @@
+-- what is computed from the definitions
+pub mod Worked
 -- What belongs to no one function. Laws over plain lists and numbers: tests and refusals, what a list has, its parts, the rows, the rows hit, the
 -- queue, the places, a block that the reader takes.
 pub mod Tests
@@ -45,7 +47,6 @@ pub mod Sent
 pub mod Reports
 pub mod Queues
 pub mod Histories
-pub mod Worked
 pub mod Restarts
 pub mod Tickets
 -- with restarts among the calls: own writesets that a work meets

@@ -1,4 +1,4 @@
--- What the wrong replicas of documents 01 and 02 get wrong, but for restarts and invented counts, as what lists of calls answer at a replica or a station just made. Few lists, each for several of them: every edit computes them anew.
+-- What the wrong replicas of documents 01 and 02 get wrong, as what lists of calls answer at a replica or a station just made, and a restart. Few lists, each for several of them: every edit computes them anew.
 -- Document 01's marked cases stand in `engine_runs`.
 use Prim.Native.Nat.{ℕ}
 use mathlib.Core.Path.{_≡_}
@@ -9,9 +9,10 @@ use lib.ListN.{replicate, drop, set}
 use Rattle.block.specs.Message.{Message}
 use Rattle.block.specs.Bytes.{blockOf}
 use Rattle.memory.specs.Memory.{Memory, withBlocks}
-use Rattle.engine.specs.Calls.{Answer, numberOf}
-use Rattle.engine.specs.Calls.Answer.{refused, began, got, wrote, queued, reported, sent, kept, worked}
+use Rattle.engine.specs.Calls.{Answer, Outcome, numberOf}
+use Rattle.engine.specs.Calls.Answer.{refused, began, got, wrote, queued, reported, sent, kept, worked, restarted}
 use Rattle.engine.specs.Make.{madeMemory}
+use Rattle.engine.specs.Restart.{restartStep}
 use Rattle.engine.specs.Station.{stationMemory, stationStep}
 use Rattle.engine.specs.Step.{Call, step}
 use Rattle.engine.specs.Step.Call.{begin, read, write, ask, report, send, deliver, work, load}
@@ -110,6 +111,10 @@ sendTwo =
     ∷ send (replicate 512 0)
     ∷ []
 
+-- replica 0 of 2 restarts from its own block and the *next* behind it
+abbrev pub restartOfTwo : Outcome
+restartOfTwo = restartStep (fresh 2 0) 2 0 zeros (twoThenOne ++ nextBlock 2 1 1) (replicate 512 0)
+
 pub record RightAnswers : Type 0 where
   -- another's block: the asked transaction that wrote an item of its second writeset is aborted by that one, another is not, and meets 9 at the item
   pub remote : drop 4 (answers (fresh 2 1) (begin ∷ write 1 5 (pos 9) ∷ ask 1 ∷ begin ∷ deliver twoThenOne ∷ work ∷ work ∷ write 2 5 (pos 9) ∷ write 2 5 (pos 9) ∷ send (replicate 512 0) ∷ []))
@@ -160,3 +165,9 @@ pub record RightAnswers : Type 0 where
   -- document 02's Req 05: a station is made in a group of 2 to 6; a write of no item and a send lent no bytes give 25, and it takes replica 0's block
   pub station : map (λ (n : ℕ). numberOf (stationStep (fresh 6 0) n zeros .answer)) (1 ∷ 6 ∷ 7 ∷ []) ≡ 2 ∷ 0 ∷ 2 ∷ []
   pub station-calls : numbers (stationMemory 2 zeros) (write 1 128 (pos 1) ∷ send [] ∷ deliver (nextBlock 2 0 0) ∷ work ∷ []) ≡ 25 ∷ 25 ∷ 0 ∷ 0 ∷ []
+  -- document 02's Req 01: both slots are read, and the tickets go on behind the highest in the own block
+  pub restart : restartOfTwo .answer ∷ answers (restartOfTwo .memory) (begin ∷ report ∷ [])
+      ≡ restarted 2 twoThenOne
+      ∷ began 3
+      ∷ reported (record { turn = 2; commits = 2; tickets = 3; «open_count» = 1; committed = 2; «read_only» = 0; aborted = 0; withdrawn = 0 })
+      ∷ []

@@ -1,4 +1,7 @@
 -- The proof of agreement, in the order of use. Assumes nothing.
+-- what is computed from the definitions
+pub mod Worked
+-- the laws and the theorems
 pub mod ListLaws
 pub mod WriteLaws
 pub mod SequenceLaws

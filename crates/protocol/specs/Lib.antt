@@ -11,3 +11,4 @@ pub mod Observer
 pub mod System
 pub mod Statement
 pub mod Machine
+pub mod Worked

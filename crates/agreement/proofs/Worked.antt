@@ -1,0 +1,41 @@
+-- The run of `specs/Worked.antt`, computed from the definitions. Assumes nothing.
+use mathlib.Core.Path.{refl}
+use mathlib.Core.List.{[], List·Memᴰ·head, List·Memᴰ·not-nil}
+use borrow.Author.Tests.{leb-true, le-leb}
+use Rattle.block.specs.Numbers.{bytesOf, numberFrom, valueBytes, valueOf}
+use Rattle.block.specs.Check.{word, sumTo, weightedTo, firstCheck, secondCheck, checkBytes, checkMatches}
+use Rattle.block.specs.Message.{ownerOf, within, kindFits, entriesFit, recordFits, recordsFit, ticketAbsent, ticketsDiffer, valid, signed32}
+use Rattle.block.specs.Bytes.{entryBytes, entriesBytes, recordBytes, recordsBytes, headerFor, headerBytes, bodyBytes, blockOf}
+use Rattle.block.specs.Form.{entryOf, entriesOf, recordOf, recordsOf, messageOf, allZero, entriesPadded, recordPadded, recordsPadded, padded, wellFormed}
+use Rattle.block.specs.Answers.{firstOf, blockRefusal, headerOf, recordAt, entryAt}
+use Rattle.block.specs.Writing.{entriesFrom}
+use Rattle.memory.specs.Memory.{bump}
+use Rattle.memory.specs.Rows.{openCount, rowFrom, rowOf, freeRow, indexFrom, has, holderFrom, countBelow}
+use Rattle.memory.specs.Turns.{placeStart}
+use Rattle.engine.specs.Make.{madeMemory, placesFit, partsFit}
+use Rattle.engine.specs.Classes.{hasClass, classFrom, classToCome, mustWait}
+use Rattle.engine.specs.Client.{beginRefusal, beginAt, beginRow, writeRefusal, rewriteAt, insertWrite, staleAt, writeRow, askRefusal, readOnlyAt, queueAt, askRow, reportOf, reportStep}
+use Rattle.engine.specs.Moves.{waiting, writesetOf, messageFor, sendRefusal, sendNow, sendStep, sameBytes, deliverRefusal, deliverNow, deliverStep, entriesFor, applied, stamped, shares, afterAborts, insertRising, hitTickets, without, workRefusal, passNext, commitWriteset, workStep}
+use Rattle.engine.specs.Step.{step}
+use Rattle.engine.specs.Step.Call.{report}
+use Rattle.engine.specs.Restart.{isGood, blocksFrom, writesetsFrom, commitAll, commitBlocks, highestTicket, highestOwn, ownWritesets, lastOwn, restartedMemory, restartRefusal, restartStep}
+use Rattle.engine.proofs.Tests.{clash}
+use Rattle.protocol.specs.Lists.{keep, any}
+use Rattle.protocol.specs.Writesets.{put}
+use Rattle.protocol.specs.Observer.{addPending, txnIds, observedAfter, handoutsAfter}
+use Rattle.agreement.specs.Group.{messageIn, heard, run}
+use Rattle.agreement.specs.Worked.{RightGroup}
+
+pub right-group : RightGroup
+unfolding bytesOf numberFrom valueBytes valueOf word sumTo weightedTo firstCheck secondCheck checkBytes checkMatches ownerOf within kindFits entriesFit recordFits recordsFit ticketAbsent ticketsDiffer valid signed32 entryBytes entriesBytes recordBytes recordsBytes headerFor headerBytes bodyBytes blockOf entryOf entriesOf recordOf recordsOf messageOf allZero entriesPadded recordPadded recordsPadded padded wellFormed firstOf blockRefusal headerOf recordAt entryAt entriesFrom bump openCount rowFrom rowOf freeRow indexFrom has holderFrom countBelow placeStart madeMemory placesFit partsFit hasClass classFrom classToCome mustWait beginRefusal beginAt beginRow writeRefusal rewriteAt insertWrite staleAt writeRow askRefusal readOnlyAt queueAt askRow reportOf reportStep waiting writesetOf messageFor sendRefusal sendNow sendStep sameBytes deliverRefusal deliverNow deliverStep entriesFor applied stamped shares afterAborts insertRising hitTickets without workRefusal passNext commitWriteset workStep step isGood blocksFrom writesetsFrom commitAll commitBlocks highestTicket highestOwn ownWritesets lastOwn restartedMemory restartRefusal restartStep keep any put addPending txnIds observedAfter handoutsAfter messageIn heard run
+right-group = record {
+  run-kept = refl;
+  restart-kept = refl;
+  floor = refl;
+  at-floor = record { ended = report; value = refl; count = 512; part = refl; enough = leb-true _ _ refl };
+  below-floor = λ h. clash (le-leb _ _ (h .enough)) refl;
+  station = refl;
+  station-values = refl;
+  forged = λ p. List·Memᴰ·not-nil (p .delivered [] 1 _ ([], refl) refl);
+  too-large = λ f. clash (f _ (List·Memᴰ·head refl) .1) refl;
+}
