@@ -4,6 +4,7 @@
  *     cc -std=c99 -I host/include host/examples/story.c \
  *         target/staticlib/libreplica.a -o story && ./story
  */
+#include <errno.h>
 #include <stdio.h>
 #include <stdlib.h>
 #include <string.h>
@@ -17,7 +18,7 @@ static stemline_replica replicas[REPLICAS];
 /* The story has no call that may be refused. */
 static void must(uint8_t number) {
     if (number != STEMLINE_ACCEPTED) {
-        fprintf(stderr, "Error: %s (%d)\n", stemline_words(number), number);
+        fprintf(stderr, "story: %s (%d)\n", stemline_words(number), number);
         exit(1);
     }
 }
@@ -27,9 +28,8 @@ static void show(int printed) {
     static const int shown[] = {5, 10, 20};
     printf("%*s", 64 - printed, "");
     for (int i = 0; i < 3; i++) {
-        printf("  item %d:", shown[i]);
         for (int k = 0; k < REPLICAS; k++) {
-            printf(" %2d", (int)replicas[k].values[shown[i]]);
+            printf("%s%2d", k == 0 ? "  " : " ", (int)replicas[k].values[shown[i]]);
         }
     }
     printf("\n");
@@ -79,6 +79,7 @@ int main(void) {
         must(stemline_replica_make(&replicas[k], REPLICAS, k, start));
     }
     printf("Behind each step: three measures, each at replicas 0, 1, 2.\n");
+    printf("%66sitem 5    item 10   item 20\n", "");
     printf("Two stems on different letters.\n");
     set(0, 10, 80);
     set(1, 20, 70);
@@ -114,5 +115,10 @@ int main(void) {
         equal &= memcmp(replicas[k].values, replicas[0].values, sizeof replicas[0].values) == 0;
     }
     printf("All three replicas hold the same measures: %s\n", equal ? "yes" : "no");
+    /* what was printed may wait to be written, for a disk that is full */
+    if (fflush(stdout) != 0 || ferror(stdout)) {
+        fprintf(stderr, "story: cannot print: %s\n", strerror(errno));
+        return 1;
+    }
     return 0;
 }

@@ -118,9 +118,9 @@ typedef struct stemline_replica {
 typedef struct stemline_take_reply {
     uint8_t number;  /* the deliver's: a take is refused where its deliver is */
     uint8_t count;   /* how many of steps count */
-    stemline_work_reply steps[STEMLINE_STEPS]; /* zeros behind */
+    stemline_work_reply steps[STEMLINE_STEPS];
     uint8_t append_count; /* how many blocks of append count */
-    uint8_t append[STEMLINE_REPLICAS][STEMLINE_BLOCK]; /* for the journal, in order, zeros behind */
+    uint8_t append[STEMLINE_REPLICAS][STEMLINE_BLOCK]; /* for the journal, in order */
 } stemline_take_reply;
 
 /* Whose slot it is in a group of n: the number of the replica that sends for it. */
@@ -133,6 +133,11 @@ static inline uint32_t stemline_owner(uint32_t slot, uint32_t n) {
  *
  * r is not null; an array that is given beside it does not lie in it. */
 
+/* So that a program is linked with the archive of this version, or not at all. */
+static inline void stemline_same_version(void) {
+    (void)*(const volatile char *)stemline_linked_version();
+}
+
 /* The bytes of the places that a call is lent for a group of n. For an n above 6
  * they are all that there are, and make and restart are refused by 2, write, deliver
  * and work by 1. */
@@ -144,6 +149,7 @@ static inline size_t stemline_lent_places(uint32_t n) {
  * before is no matter, and stays where the make is refused. Refused by 2. */
 static inline uint8_t stemline_replica_make(
     stemline_replica *r, uint32_t n, uint32_t own, const int32_t start[STEMLINE_ITEMS]) {
+    stemline_same_version();
     return stemline_make(
         r->table, STEMLINE_TABLE, &r->group, &r->turn, &r->counts, n, own, start, STEMLINE_ITEMS,
         r->queue, STEMLINE_QUEUE, r->items, STEMLINE_WRITTEN, r->writes, STEMLINE_WRITTEN,
@@ -161,6 +167,7 @@ static inline uint8_t stemline_replica_make(
  * matter, and stays where this is refused. Refused by 2. */
 static inline uint8_t stemline_replica_make_station(
     stemline_replica *r, uint32_t n, const int32_t start[STEMLINE_ITEMS]) {
+    stemline_same_version();
     return stemline_make_station(
         r->table, STEMLINE_TABLE, &r->group, &r->turn, &r->counts, n, start, STEMLINE_ITEMS,
         r->queue, STEMLINE_QUEUE, r->items, STEMLINE_WRITTEN, r->writes, STEMLINE_WRITTEN,
@@ -178,6 +185,7 @@ static inline uint8_t stemline_replica_make_station(
 static inline stemline_restart_reply stemline_replica_restart(
     stemline_replica *r, uint32_t n, uint32_t own, const int32_t start[STEMLINE_ITEMS],
     const uint8_t *journal, size_t length, uint8_t block[STEMLINE_BLOCK]) {
+    stemline_same_version();
     return stemline_restart(
         r->table, STEMLINE_TABLE, &r->group, &r->turn, &r->counts, n, own, start, STEMLINE_ITEMS,
         r->queue, STEMLINE_QUEUE, r->items, STEMLINE_WRITTEN, r->writes, STEMLINE_WRITTEN,
@@ -302,23 +310,33 @@ static inline bool stemline_replica_waits(const stemline_replica *r) {
  * and what waits already goes on waiting. So it is with a block that comes a
  * second time (17 or 20), which a host may pass over.
  * Only altered memory leads to more than STEMLINE_STEPS steps, of which the rest is
- * left to the next take. */
+ * left to the next take.
+ * The reply is written into the lent one; behind count and append_count it stays as
+ * it is. It does not lie in r. */
+static inline void stemline_replica_take_into(
+    stemline_replica *r, const uint8_t *bytes, size_t length, stemline_take_reply *reply) {
+    reply->number = stemline_replica_deliver(r, bytes, length);
+    reply->count = 0;
+    reply->append_count = 0;
+    /* each block that is left leaves its place empty, so there are at most 6 to append */
+    bool waits = reply->number == STEMLINE_ACCEPTED && stemline_replica_waits(r);
+    while (waits && reply->count < STEMLINE_STEPS && reply->append_count < STEMLINE_REPLICAS) {
+        stemline_work_reply work = stemline_replica_work(r, reply->append[reply->append_count]);
+        if (work.number != STEMLINE_ACCEPTED) {
+            break; /* 21: behind a deliver no work of this struct is refused by another */
+        }
+        reply->steps[reply->count++] = work;
+        reply->append_count = (uint8_t)(reply->append_count + work.append);
+        waits = !work.moved || stemline_replica_waits(r);
+    }
+}
+
+/* As stemline_replica_take_into, with the reply given back, and zeros behind its counts. */
 static inline stemline_take_reply stemline_replica_take(
     stemline_replica *r, const uint8_t *bytes, size_t length) {
     stemline_take_reply reply;
     memset(&reply, 0, sizeof reply);
-    reply.number = stemline_replica_deliver(r, bytes, length);
-    /* each block that is left leaves its place empty, so there are at most 6 to append */
-    bool waits = reply.number == STEMLINE_ACCEPTED && stemline_replica_waits(r);
-    while (waits && reply.count < STEMLINE_STEPS && reply.append_count < STEMLINE_REPLICAS) {
-        stemline_work_reply work = stemline_replica_work(r, reply.append[reply.append_count]);
-        if (work.number != STEMLINE_ACCEPTED) {
-            break; /* 21: behind a deliver no work of this struct is refused by another */
-        }
-        reply.steps[reply.count++] = work;
-        reply.append_count = (uint8_t)(reply.append_count + work.append);
-        waits = !work.moved || stemline_replica_waits(r);
-    }
+    stemline_replica_take_into(r, bytes, length, &reply);
     return reply;
 }
 

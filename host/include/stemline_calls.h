@@ -24,6 +24,20 @@ extern "C" {
 #define STEMLINE_VERSION_PATCH 0
 #define STEMLINE_VERSION "0.1.0"
 
+/* The archive has a symbol by the name of its version's first two numbers, so that headers and
+ * archive of two versions that do not go together do not link: the makes and the restart of
+ * stemline.h look at it. Who uses the calls over lent parts alone calls stemline_linked_version
+ * once. */
+#define STEMLINE_VERSION_OF_(major, minor) stemline_version_##major##_##minor
+#define STEMLINE_VERSION_OF(major, minor) STEMLINE_VERSION_OF_(major, minor)
+#define STEMLINE_VERSION_SYMBOL STEMLINE_VERSION_OF(STEMLINE_VERSION_MAJOR, STEMLINE_VERSION_MINOR)
+extern const char STEMLINE_VERSION_SYMBOL[];
+
+/* The version of the archive that is linked, as STEMLINE_VERSION is written. */
+static inline const char *stemline_linked_version(void) {
+    return STEMLINE_VERSION_SYMBOL;
+}
+
 /* ---- The limits */
 
 #define STEMLINE_REPLICAS 6      /* the most replicas of a group; the fewest are 2 */

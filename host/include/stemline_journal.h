@@ -32,7 +32,8 @@
  * a process by SIGXFSZ, ignore that signal: the write is then an error.
  *
  * Tickets above the highest in own blocks are given again after an open: what was
- * begun or asked before is gone. */
+ * begun or asked before is gone. Who has noted tickets of before asks for their
+ * outcomes before the first begin. */
 #ifndef STEMLINE_JOURNAL_H
 #define STEMLINE_JOURNAL_H
 
@@ -54,6 +55,23 @@ typedef struct stemline_digest {
     uint32_t turn, commits;
     uint64_t digest; /* of the group, its start and all blocks with writesets */
 } stemline_digest;
+
+enum stemline_outcome_kind {
+    /* No own block has it: it ended otherwise, a cut of the power lost it, or it is not given
+     * yet. Of a ticket that was given before the last open: it never was committed, and never
+     * will be. */
+    STEMLINE_NOT_COMMITTED,
+    STEMLINE_IS_OPEN,     /* and not asked yet */
+    STEMLINE_IS_ASKED,    /* it waits for the next own block; a cut of the power loses it */
+    STEMLINE_IS_SENT,     /* in an own block that is durable: it will be committed, whatever happens */
+    STEMLINE_IS_COMMITTED
+};
+
+/* What became of a transaction. */
+typedef struct stemline_outcome {
+    int kind;
+    uint32_t place; /* of a committed one: which of all writesets of the group, from 1 on */
+} stemline_outcome;
 
 typedef struct stemline_journal {
     int file; /* -1 where it is not open */
@@ -92,6 +110,12 @@ int stemline_journal_send(stemline_journal *j, const uint8_t block[STEMLINE_BLOC
 
 /* Whether the digest of a turn is known, and that. */
 bool stemline_journal_digest(const stemline_journal *j, uint32_t turn, stemline_digest *digest);
+
+/* What became of a ticket of r, by its table and by the file, which is read up to the
+ * block that has the ticket. How a transaction ended that did not commit, the calls
+ * answered: a withdraw, an ask of nothing written, a 9, an abort that a work named. */
+int stemline_journal_outcome(
+    stemline_journal *j, const stemline_replica *r, uint32_t ticket, stemline_outcome *outcome);
 
 void stemline_journal_close(stemline_journal *j);
 

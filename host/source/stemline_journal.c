@@ -1,5 +1,5 @@
 /* A replica's journal in a file: see stemline_journal.h. Compile it with the program;
- * it includes journal_head.h, beside it. The steps are those of
+ * it includes journal_head.h and journal_disk.h, beside it. The steps are those of
  * host/stemline/src/journal.rs. */
 #define _DEFAULT_SOURCE /* flock */
 #define _DARWIN_C_SOURCE
@@ -18,6 +18,7 @@
 #include <unistd.h>
 
 #include "journal_head.h"
+#include "journal_disk.h"
 
 /* What the good blocks of a file amount to. */
 typedef struct tally {
@@ -29,136 +30,6 @@ typedef struct tally {
     const uint8_t *mended_with[2 * STEMLINE_REPLICAS];
     char stop[128];                                       /* why they stop */
 } tally;
-
-/* Says what went wrong; gives -1. */
-static int fails(stemline_journal *j, const char *doing, const char *words, ...) {
-    va_list more;
-    int at = snprintf(j->why, sizeof j->why, "cannot %s the journal %s: ", doing, j->path);
-    if (at > 0 && (size_t)at < sizeof j->why) {
-        va_start(more, words);
-        vsnprintf(j->why + at, sizeof j->why - (size_t)at, words, more);
-        va_end(more);
-    }
-    return -1;
-}
-
-/* ---- The steps at the disk */
-
-static off_t place(uint32_t slot) {
-    return HEAD + (off_t)STEMLINE_BLOCK * slot;
-}
-
-/* Reads all of that, or fails; a shorter file is an error. */
-static bool read_at(int file, void *bytes, size_t length, off_t at) {
-    uint8_t *to = (uint8_t *)bytes;
-    while (length > 0) {
-        ssize_t count = pread(file, to, length, at);
-        if (count < 0 && errno == EINTR) {
-            continue;
-        }
-        if (count <= 0) {
-            errno = count < 0 ? errno : EIO;
-            return false;
-        }
-        to += count;
-        at += count;
-        length -= (size_t)count;
-    }
-    return true;
-}
-
-/* Writes all of that. A write may take a part; the next one then says why. */
-static bool write_at(int file, const void *bytes, size_t length, off_t at) {
-    const uint8_t *from = (const uint8_t *)bytes;
-    while (length > 0) {
-        ssize_t count = pwrite(file, from, length, at);
-        if (count < 0 && errno == EINTR) {
-            continue;
-        }
-        if (count <= 0) {
-            errno = count < 0 ? errno : EIO;
-            return false;
-        }
-        from += count;
-        at += count;
-        length -= (size_t)count;
-    }
-    return true;
-}
-
-/* The end of a journal's use: without what was appended since the last good fsync the
- * file is as a cut leaves it, and a copy of that is none. Where this fails too, there
- * is nothing more to do, and the error is told all the same. */
-static int failed(stemline_journal *j, const char *doing) {
-    int why = errno;
-    if (ftruncate(j->file, place(j->kept)) == 0 && j->copied > 0 && j->kept < j->blocks) {
-        (void)write_at(j->file, zeros, FRONT, j->copied);
-    }
-    stemline_journal_close(j);
-    return fails(j, doing, "%s", strerror(why));
-}
-
-static int make_durable(stemline_journal *j) {
-    if (fsync(j->file) != 0) {
-        return failed(j, "sync");
-    }
-    j->kept = j->blocks;
-    j->copied = 0;
-    return 0;
-}
-
-/* Opens a file or makes it, and locks it. A new one is durable once its folder is. */
-static int open_file(stemline_journal *j, struct stat *is) {
-    j->file = open(j->path, O_RDWR | O_CREAT | O_CLOEXEC, 0666);
-    if (j->file < 0) {
-        return fails(j, "open", "%s", strerror(errno));
-    }
-    if (flock(j->file, LOCK_EX | LOCK_NB) != 0) {
-        return fails(j, "open", "%s", errno == EWOULDBLOCK ? "it is open already" : strerror(errno));
-    }
-    if (fstat(j->file, is) != 0) {
-        return fails(j, "open", "%s", strerror(errno));
-    }
-    if (!S_ISREG(is->st_mode)) {
-        return fails(j, "open", "it is no file on a disk");
-    }
-    char folder[sizeof j->path];
-    strcpy(folder, j->path);
-    char *slash = strrchr(folder, '/');
-    if (slash == NULL) {
-        strcpy(folder, ".");
-    } else {
-        slash[slash == folder] = '\0';
-    }
-    int dir = open(folder, O_RDONLY | O_CLOEXEC);
-    bool synced = dir >= 0 && fsync(dir) == 0;
-    int why = errno;
-    if (dir >= 0) {
-        close(dir);
-    }
-    return synced ? 0 : fails(j, "open", "its folder cannot be made durable: %s", strerror(why));
-}
-
-/* Makes a file with this head and no blocks: first its length, then the head, each
- * durable before the next. */
-static int make(stemline_journal *j, const uint8_t *head) {
-    bool made = ftruncate(j->file, HEAD) == 0 && fsync(j->file) == 0
-                && write_at(j->file, head, END, 0) && fsync(j->file) == 0;
-    return made ? 0 : fails(j, "make", "%s", strerror(errno));
-}
-
-/* Writes the copy of a round that ends with an own block. */
-static bool write_copy(
-    stemline_journal *j, uint32_t first, uint32_t count, uint8_t (*blocks)[STEMLINE_BLOCK]) {
-    uint8_t page[PAGE];
-    size_t length = FRONT + STEMLINE_BLOCK * (size_t)count;
-    put(page + 8, first, 4);
-    put(page + 12, count, 4);
-    memcpy(page + FRONT, blocks, length - FRONT);
-    put(page, digest(DIGEST_START, page + 8, length - 8), 8);
-    j->copied = copy_place(j->n, first + count - 1);
-    return write_at(j->file, page, length, j->copied);
-}
 
 /* ---- The blocks of a file */
 
@@ -425,6 +296,62 @@ int stemline_journal_send(stemline_journal *j, const uint8_t block[STEMLINE_BLOC
 bool stemline_journal_digest(const stemline_journal *j, uint32_t turn, stemline_digest *digest) {
     *digest = j->digests[turn % STEMLINE_DIGESTS];
     return digest->turn == turn && turn <= j->blocks;
+}
+
+/* The place of the ticket in a writeset of these blocks, the first of a slot, behind so many commits; 0 where
+ * no own block of them has it. Counts the commits on. Gives false at a block that is not as it was. */
+static bool find_place(
+    const stemline_journal *j, const uint8_t *blocks, uint32_t slot, uint32_t count, uint32_t ticket,
+    uint32_t *commits, uint32_t *place) {
+    for (uint32_t k = 0; k < count; k++) {
+        const uint8_t *block = blocks + STEMLINE_BLOCK * (size_t)k;
+        uint32_t records = block[3];
+        if (!good_block(block, j->n, slot + k)) {
+            return false;
+        }
+        for (uint32_t i = 0; (slot + k) % j->n == j->own && i < records; i++) {
+            if (stemline_block_record(block, STEMLINE_BLOCK, i).ticket == ticket) {
+                *place = *commits + i + 1;
+            }
+        }
+        *commits += records;
+    }
+    return true;
+}
+
+int stemline_journal_outcome(
+    stemline_journal *j, const stemline_replica *r, uint32_t ticket, stemline_outcome *outcome) {
+    static const uint32_t most = 128;
+    outcome->kind = STEMLINE_NOT_COMMITTED;
+    outcome->place = 0;
+    if (j->file < 0) {
+        return fails(j, "go on with", "it failed before; open it anew");
+    }
+    for (int row = 0; ticket != 0 && row < STEMLINE_TABLE; row++) {
+        if (r->table[row].ticket == ticket) {
+            const int kinds[] = {STEMLINE_IS_OPEN, STEMLINE_IS_ASKED, STEMLINE_IS_SENT};
+            outcome->kind = kinds[r->table[row].stage % 3];
+            return 0;
+        }
+    }
+    uint8_t *bytes = (uint8_t *)malloc(most * (size_t)STEMLINE_BLOCK);
+    bool good = bytes != NULL;
+    uint32_t commits = 0;
+    for (uint32_t slot = 0; good && outcome->place == 0 && slot < j->blocks; slot += most) {
+        uint32_t count = j->blocks - slot < most ? j->blocks - slot : most;
+        good = read_at(j->file, bytes, STEMLINE_BLOCK * (size_t)count, place(slot));
+        if (good && !find_place(j, bytes, slot, count, ticket, &commits, &outcome->place)) {
+            free(bytes);
+            return fails(j, "read", "a block of it is not as it was");
+        }
+    }
+    int why = errno;
+    free(bytes);
+    if (!good) {
+        return fails(j, "read", "%s", strerror(why));
+    }
+    outcome->kind = outcome->place > 0 ? STEMLINE_IS_COMMITTED : STEMLINE_NOT_COMMITTED;
+    return 0;
 }
 
 void stemline_journal_close(stemline_journal *j) {

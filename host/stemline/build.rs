@@ -1,9 +1,10 @@
 //! Links the static library: the archive that `STEMLINE_ARCHIVE` names, that of the repository's top folder
-//! (`scripts/library`), or the installed one that `pkg-config` finds (`scripts/install`).
+//! (`scripts/library`), or the installed one that `pkg-config` finds (`scripts/install`). One of another version
+//! than the crate's is refused.
 
 use std::path::{Path, PathBuf};
 use std::process::{exit, Command};
-use std::{env, str};
+use std::{env, fs, str};
 
 const ASKED: &str = "STEMLINE_ARCHIVE";
 
@@ -48,9 +49,29 @@ fn found(file: &Path) -> Option<Result<(PathBuf, String), String>> {
         let name = file.file_name().and_then(|name| name.to_str());
         let name = name.and_then(|name| name.strip_prefix("lib")?.strip_suffix(".a"));
         let name = name.ok_or_else(|| format!("{} is not named lib..a", file.display()))?;
+        same_version(file)?;
         let folder = file.parent().unwrap_or(Path::new("."));
         Ok((folder.to_path_buf(), name.to_string()))
     })
+}
+
+/// Whether an archive has the symbol by whose name it is of the crate's version: the first two numbers.
+fn same_version(file: &Path) -> Result<(), String> {
+    let number = |name: &str| env::var(name).map_err(|_| format!("cargo sets {name}"));
+    let major = number("CARGO_PKG_VERSION_MAJOR")?;
+    let minor = number("CARGO_PKG_VERSION_MINOR")?;
+    // In an archive's table of symbols each name ends with a zero byte.
+    let symbol = format!("stemline_version_{major}_{minor}\0");
+    let bytes = fs::read(file).map_err(|error| format!("{}: {error}", file.display()))?;
+    let mut places = bytes.windows(symbol.len());
+    match places.any(|found| found == symbol.as_bytes()) {
+        true => Ok(()),
+        false => Err(format!(
+            "{} is not of version {major}.{minor}, as this crate is; `scripts/library`, run in the repository's top \
+             folder, makes one that is",
+            file.display()
+        )),
+    }
 }
 
 /// Where the installed library is, by pkg-config.

@@ -3,4 +3,5 @@
 #![warn(missing_docs)]
 
 pub mod plain;
+pub mod plain_c;
 pub mod timing;

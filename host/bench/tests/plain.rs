@@ -1,126 +1,147 @@
-//! The plain replica of the benchmark and the second model give the same.
+//! The plain replicas of the benchmark, in Rust and in C, beside the library and the second model: all four give
+//! the same answers, blocks and values.
 
-use bench::plain;
+use bench::{plain, plain_c};
 use model::block::{BLOCK, MAX_TICKET};
 use model::drive::{start_values, Group, Peers, Powered, Seen, Style, Subject, STYLES};
-use model::replica::{Replica, Report, Restarted, Work, ITEMS, SLOTS};
+use model::replica::{Report, Restarted, Work, ITEMS, SLOTS};
 use model::samples::Random;
 use model::trace::{Answer, Call, Restart};
+use soak::both::Both;
 
-struct Both {
-    plain: plain::Replica,
-    model: Replica,
-    /// The journal, and what of it a cut leaves at least.
-    disk: Vec<u8>,
-    floor: usize,
+struct All {
+    rust: plain::Replica,
+    c: plain_c::Replica,
+    /// Library and model, which are compared there.
+    both: Both,
 }
 
-impl Both {
-    /// Both after so many slots and tickets.
-    fn late(n: u32, own: u32, slots: u32, tickets: u32) -> Both {
+impl All {
+    /// All after so many slots and tickets.
+    fn late(n: u32, own: u32, slots: u32, tickets: u32) -> All {
         let values = start_values();
-        let plain = plain::Replica::make(n, own, &values).unwrap();
-        Both::of(
-            plain,
-            Replica::make(n, own, &values).unwrap(),
-            slots,
-            tickets,
-        )
+        All {
+            rust: plain::Replica::make(n, own, &values).unwrap(),
+            c: plain_c::Replica::make(n, own, &values).unwrap(),
+            both: Both::new(n, own, &values),
+        }
+        .after(slots, tickets)
     }
 
     /// The same of a station.
-    fn late_station(n: u32, slots: u32, tickets: u32) -> Both {
+    fn late_station(n: u32, slots: u32, tickets: u32) -> All {
         let values = start_values();
-        let plain = plain::Replica::station(n, &values).unwrap();
-        Both::of(plain, Replica::station(n, &values).unwrap(), slots, tickets)
+        All {
+            rust: plain::Replica::station(n, &values).unwrap(),
+            c: plain_c::Replica::station(n, &values).unwrap(),
+            both: Both::station(n, &values),
+        }
+        .after(slots, tickets)
     }
 
-    fn of(plain: plain::Replica, model: Replica, slots: u32, tickets: u32) -> Both {
-        Both {
-            plain: plain.fast_forward(slots, tickets),
-            model: model.fast_forward(slots, tickets),
-            disk: Vec::new(),
-            floor: 0,
+    fn after(self, slots: u32, tickets: u32) -> All {
+        All {
+            rust: self.rust.fast_forward(slots, tickets),
+            c: self.c.fast_forward(slots, tickets),
+            both: self.both.late(slots, tickets),
         }
+    }
+
+    /// Stops where reports or values differ.
+    fn same(&self, call: &str) {
+        let (report, values) = (self.both.report(), self.both.values());
+        assert_eq!(self.rust.report(), report, "{call}: plain Rust");
+        assert_eq!(self.c.report(), report, "{call}: plain C");
+        assert!(*self.rust.values() == values, "{call}: plain Rust's values");
+        assert!(*self.c.values() == values, "{call}: plain C's values");
     }
 }
 
-impl Subject for Both {
+impl Subject for All {
     fn call(&mut self, call: &Call) -> Result<Answer, u8> {
-        let waiting = self.model.waiting();
-        let (mut appended, mut due) = (Vec::new(), Vec::new());
-        let answer = play(&mut self.plain, call, &mut appended);
-        let model = self.model.call_journaled(call, &mut due);
-        assert_eq!(answer, model, "{call:?}: plain, model");
-        if self.model.is_station() {
-            assert!(due.is_empty(), "{call:?}: a station has no journal");
+        let waiting = self.both.model.waiting();
+        let before = self.both.disk().len();
+        let (mut by_rust, mut by_c) = (Vec::new(), Vec::new());
+        let rust = play_rust(&mut self.rust, call, &mut by_rust);
+        let c = play_c(&mut self.c, call, &mut by_c);
+        let due = self.both.call(call);
+        assert_eq!(rust, due, "{call:?}: plain Rust");
+        assert_eq!(c, due, "{call:?}: plain C");
+        assert!(by_rust == by_c, "{call:?}: what is appended");
+        if self.both.model.is_station() {
             // Whoever sent it, the block whose slot the turn leaves is given for one.
-            let left = matches!(&answer, Ok(Answer::Work(work)) if work.moved);
+            let left = matches!(&due, Ok(Answer::Work(work)) if work.moved);
             let given = waiting.filter(|_| left).map_or(Vec::new(), Vec::from);
-            assert!(appended == given, "{call:?}: what is given at a station");
+            assert!(by_c == given, "{call:?}: what is given at a station");
         } else {
-            assert!(appended == due, "{call:?}: what is appended");
+            let due = &self.both.disk()[before..];
+            assert!(by_c == due, "{call:?}: what is appended");
         }
-        self.disk.append(&mut due);
-        if let Ok(Answer::Block(_)) = answer {
-            self.floor = self.disk.len();
-        }
-        assert_eq!(self.plain.report(), self.model.report(), "{call:?}");
-        assert!(self.plain.values() == self.model.values(), "{call:?}");
-        answer
+        self.same("a call");
+        due
     }
     fn report(&self) -> Report {
-        self.plain.report()
+        self.both.report()
     }
     fn values(&self) -> [i32; ITEMS] {
-        *self.plain.values()
+        self.both.values()
     }
 }
 
-impl Powered for Both {
+impl Powered for All {
     fn disk(&self) -> &[u8] {
-        &self.disk
+        self.both.disk()
     }
     fn floor(&self) -> usize {
-        self.floor
+        self.both.floor()
     }
     fn restart(&mut self, restart: &Restart) -> Result<Restarted, u8> {
-        let answer = restart.run(&mut self.model);
+        let due = self.both.restart(restart);
+        let (n, own) = (restart.n, restart.own);
         let values = restart.values[..].try_into().unwrap();
-        let plain = plain::Replica::restart(restart.n, restart.own, values, &restart.journal);
-        let (Ok(restarted), Ok((plain, given))) = (&answer, plain) else {
-            panic!("refused: {answer:?}");
-        };
-        assert_eq!(given.blocks, restarted.count);
-        assert!(given.last.unwrap_or([0; BLOCK]) == *restarted.block);
-        self.plain = plain;
-        self.disk = restart.journal[..BLOCK * given.blocks as usize].to_vec();
-        self.floor = given.last.map_or(0, |_| self.disk.len());
-        assert_eq!(self.plain.report(), self.model.report());
-        assert!(self.plain.values() == self.model.values());
-        answer
+        let (rust, given) = plain::Replica::restart(n, own, values, &restart.journal).unwrap();
+        let (c, by_c) = plain_c::Replica::restart(n, own, values, &restart.journal).unwrap();
+        let block = Box::new(given.last.unwrap_or([0; BLOCK]));
+        let count = given.blocks;
+        assert_eq!(Ok(Restarted { count, block }), due, "plain Rust");
+        assert_eq!(Ok(by_c), due, "plain C");
+        (self.rust, self.c) = (rust, c);
+        self.same("a restart");
+        due
     }
 }
 
-/// One call, its answer as the model's. Appends what the journal is to get.
-fn play(replica: &mut plain::Replica, call: &Call, journal: &mut Vec<u8>) -> Result<Answer, u8> {
-    match *call {
-        Call::Begin => replica.begin().map(Answer::Ticket),
-        Call::Read { ticket, item } => replica.read(ticket, item).map(Answer::Value),
-        Call::Write {
-            ticket,
-            item,
-            value,
-        } => replica.write(ticket, item, value).map(|()| Answer::Done),
-        Call::Ask { ticket } => replica.ask(ticket).map(Answer::ReadOnly),
-        Call::Withdraw { ticket } => replica.withdraw(ticket).map(|()| Answer::Done),
-        Call::Report => Ok(Answer::Report(replica.report())),
-        Call::Send => replica.send().map(|block| {
-            journal.extend(block);
-            Answer::Block(Box::new(block))
-        }),
-        Call::Deliver { ref bytes } => replica.deliver(bytes).map(|()| Answer::Done),
-        Call::Work => replica.work().map(|work| {
+/// One call at a replica, but for a work; its answer as the model's. Appends what the journal is to get.
+macro_rules! played {
+    ($replica:expr, $call:expr, $journal:expr, $work:expr) => {
+        match *$call {
+            Call::Begin => $replica.begin().map(Answer::Ticket),
+            Call::Read { ticket, item } => $replica.read(ticket, item).map(Answer::Value),
+            Call::Write {
+                ticket,
+                item,
+                value,
+            } => $replica.write(ticket, item, value).map(|()| Answer::Done),
+            Call::Ask { ticket } => $replica.ask(ticket).map(Answer::ReadOnly),
+            Call::Withdraw { ticket } => $replica.withdraw(ticket).map(|()| Answer::Done),
+            Call::Report => Ok(Answer::Report($replica.report())),
+            Call::Send => $replica.send().map(|block| {
+                $journal.extend(block);
+                Answer::Block(Box::new(block))
+            }),
+            Call::Deliver { ref bytes } => $replica.deliver(bytes).map(|()| Answer::Done),
+            Call::Work => $work,
+            Call::Load { ref classes } => $replica.load(classes).map(|()| Answer::Done),
+        }
+    };
+}
+
+fn play_rust(r: &mut plain::Replica, call: &Call, journal: &mut Vec<u8>) -> Result<Answer, u8> {
+    played!(
+        r,
+        call,
+        journal,
+        r.work().map(|work| {
             journal.extend(work.append.iter().flat_map(|block| **block));
             Answer::Work(Work {
                 sender: work.sender,
@@ -128,18 +149,29 @@ fn play(replica: &mut plain::Replica, call: &Call, journal: &mut Vec<u8>) -> Res
                 moved: work.moved,
                 aborted: work.aborted[..work.count].to_vec(),
             })
-        }),
-        Call::Load { ref classes } => replica.load(classes).map(|()| Answer::Done),
-    }
+        })
+    )
+}
+
+fn play_c(r: &mut plain_c::Replica, call: &Call, journal: &mut Vec<u8>) -> Result<Answer, u8> {
+    played!(
+        r,
+        call,
+        journal,
+        r.work().map(|(work, append)| {
+            journal.extend(append.into_iter().flatten());
+            Answer::Work(work)
+        })
+    )
 }
 
 /// A group with a station that only gets blocks of its own, and a single replica and a station that take
 /// forged ones.
 fn run(seed: u64, style: Style, slots: u32, tickets: u32, seen: &mut Seen) {
     let n = 2 + seed as u32 % 5;
-    let member = |own| Both::late(n, own, slots, tickets);
+    let member = |own| All::late(n, own, slots, tickets);
     let mut random = Random::new(seed);
-    let station = || Both::late_station(n, slots, tickets);
+    let station = || All::late_station(n, slots, tickets);
     let mut group = Group::new((0..n).map(member).collect(), style);
     group.add_station(station());
     let mut singles = [member(0), station()];
@@ -161,7 +193,7 @@ fn run(seed: u64, style: Style, slots: u32, tickets: u32, seen: &mut Seen) {
 }
 
 #[test]
-fn plain_and_model_give_the_same() {
+fn all_give_the_same() {
     let mut seen = Seen::default();
     for seed in 0..40 {
         let style = STYLES[seed as usize / 5 % 4];

@@ -79,7 +79,7 @@ impl Subject for Both {
     fn call(&mut self, call: &Call) -> Result<Answer, u8> {
         self.before.clone_from(self.library.memory());
         let _named = Named::of(&self.model, call);
-        let is_turn = self.library.is_turn();
+        let (is_turn, waits) = (self.library.is_turn(), self.library.waits());
         let waiting = self.model.waiting();
         let (mut appended, mut due_appended) = (Vec::new(), Vec::new());
         let answer = play(&mut self.library, call, &mut appended);
@@ -100,6 +100,7 @@ impl Subject for Both {
         }
         same(&self.model, self.library.memory());
         assert!(*call != Call::Send || is_turn == answer.is_ok(), "is_turn");
+        assert!(*call != Call::Work || waits == answer.is_ok(), "waits");
         // The interface shows more than the model has: what is left in free rows, and the like.
         if answer.is_err() && answer != Err(9) || matches!(call, Call::Read { .. } | Call::Report) {
             let after = self.library.memory();

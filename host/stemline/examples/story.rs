@@ -3,11 +3,26 @@
 //!
 //!     cargo run --offline --release -p stemline --example story
 
+use std::io::{self, Write};
+use std::process::ExitCode;
+
 use stemline::{Refusal, Replica, BLOCK, ITEMS};
 
-pub fn main() -> Result<(), Refusal> {
-    print!("{}", story()?);
-    Ok(())
+pub fn main() -> ExitCode {
+    match tell(&mut io::stdout().lock()) {
+        Ok(()) => ExitCode::SUCCESS,
+        Err(words) => {
+            let _ = writeln!(io::stderr(), "story: {words}");
+            ExitCode::FAILURE
+        }
+    }
+}
+
+/// Plays the story and writes it out; or why not, in words.
+pub fn tell(out: &mut impl Write) -> Result<(), String> {
+    let text = story().map_err(|refusal| refusal.to_string())?;
+    let written = out.write_all(text.as_bytes()).and_then(|()| out.flush());
+    written.map_err(|error| format!("cannot print: {error}"))
 }
 
 /// The replicas, and what is printed of them.
@@ -26,6 +41,7 @@ pub fn story() -> Result<String, Refusal> {
     };
 
     s.say("Behind each step: three measures, each at replicas 0, 1, 2.");
+    s.say(&format!("{:66}item 5    item 10   item 20", ""));
     s.say("Two stems on different letters.");
     s.set(0, 10, 80)?;
     s.set(1, 20, 70)?;
@@ -101,10 +117,8 @@ impl Story {
     fn show(&mut self, step: String) {
         let mut line = format!("  {step:<62}");
         for item in [5, 10, 20] {
-            line += &format!("  item {item}:");
-            for replica in &self.replicas {
-                line += &format!(" {:2}", replica.values()[item]);
-            }
+            let at = |k: usize| self.replicas[k].values()[item];
+            line += &format!("  {:2} {:2} {:2}", at(0), at(1), at(2));
         }
         self.say(&line);
     }

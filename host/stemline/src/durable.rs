@@ -127,8 +127,8 @@ impl<C: Write, A: Write> Durable<Recorder<C, A>> {
     ///     replica.take(&block)?;
     ///     assert_eq!(replica.stopped(), None);
     ///     drop(replica);
-    ///     // The restart, the send, the deliver and two works, of which the second finds nothing.
-    ///     assert_eq!(answers.split(|&byte| byte == b'\n').count(), 5 + 1);
+    ///     // The restart, the send, the deliver and a work.
+    ///     assert_eq!(answers.split(|&byte| byte == b'\n').count(), 4 + 1);
     /// #   let _ = std::fs::remove_file(path);
     ///     Ok(())
     /// }

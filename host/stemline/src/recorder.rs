@@ -253,7 +253,8 @@ impl<C: Write, A: Write> Recorder<C, A> {
     /// As [`Replica::take`]; it is recorded as its deliver and its works.
     pub fn take(&mut self, bytes: &[u8]) -> Result<Taken, Refusal> {
         self.deliver(bytes)?;
-        Ok(works(|| self.work()))
+        let waits = |recorder: &Self| recorder.replica.waits();
+        Ok(works(self, waits, Recorder::work))
     }
 }
 

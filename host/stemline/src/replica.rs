@@ -232,6 +232,19 @@ impl Replica {
         )
     }
 
+    /// Whether a block waits for the turn: where none does, and only there, a [`Replica::work`] is refused
+    /// by 21.
+    #[inline]
+    pub fn waits(&self) -> bool {
+        let m = &*self.memory;
+        let n = m.group.replicas;
+        // Only in altered memory have the places another length, and is n 0.
+        let refused_by_1 = m.places.len() != BLOCK * usize::from(n);
+        let place = m.turn.slot.checked_rem(n.into());
+        let first = place.and_then(|place| m.places.get(BLOCK * place as usize));
+        refused_by_1 || first.is_some_and(|&kind| kind != 0)
+    }
+
     /// Gives each of the 128 items a conflict class, 1 to [`crate::CLASSES`], in the place of the ones that it
     /// had. While a block of another is applied, writeset by writeset, only items wait (7) whose class
     /// holds an item of a writeset still to be applied. After [`Replica::new`] and after
@@ -254,16 +267,20 @@ impl Replica {
     /// Only altered memory leads to more than [`STEPS`] steps, of which the rest is left to the next take.
     pub fn take(&mut self, bytes: &[u8]) -> Result<Taken, Refusal> {
         self.deliver(bytes)?;
-        Ok(works(|| self.work()))
+        Ok(works(self, Replica::waits, Replica::work))
     }
 }
 
-/// The works behind the deliver of a take.
-pub(crate) fn works<W>(mut work: impl FnMut() -> Result<W, Refusal>) -> Taken<W> {
+/// The works behind the deliver of a take: as long as a block waits for the turn.
+pub(crate) fn works<R, W>(
+    replica: &mut R,
+    waits: impl Fn(&R) -> bool,
+    mut work: impl FnMut(&mut R) -> Result<W, Refusal>,
+) -> Taken<W> {
     let mut steps = Vec::new();
-    while steps.len() < STEPS {
-        // Behind a deliver a work is refused by 21 or not at all.
-        let Ok(step) = work() else { break };
+    while steps.len() < STEPS && waits(replica) {
+        // Only at altered memory is it refused.
+        let Ok(step) = work(replica) else { break };
         steps.push(step);
     }
     Taken { steps }

@@ -163,6 +163,12 @@ impl Station {
         Step::of(&self.replica.step(&mut [0; BLOCK]))
     }
 
+    /// As [`Replica::waits`].
+    #[inline]
+    pub fn waits(&self) -> bool {
+        self.replica.waits()
+    }
+
     /// What a station does with a block that arrives, as [`Replica::take`]: delivers it, then works until
     /// nothing waits for the turn.
     ///
@@ -171,6 +177,6 @@ impl Station {
     /// sender will not hand it out for ever.
     pub fn take(&mut self, bytes: &[u8]) -> Result<Taken<Step>, Refusal> {
         self.deliver(bytes)?;
-        Ok(works(|| self.work()))
+        Ok(works(self, Station::waits, Station::work))
     }
 }

@@ -2,7 +2,9 @@
 
 use super::*;
 use crate::block::{self, Header, TO_COMMIT};
-use crate::refusal::{APPLYING, LOAD_WHILE_APPLYING, LOCKED, NOTHING_WAITS};
+use crate::refusal::{
+    APPLYING, LOAD_WHILE_APPLYING, LOCKED, NOTHING_WAITS, NOT_SENT, PAST_SLOT, SLOT_TAKEN,
+};
 use crate::samples::block_of;
 
 /// A replica 0 of 2 with its own block of two writesets back in its inbox.
@@ -38,6 +40,30 @@ fn own_writeset_that_is_not_sent() {
         // Without a message the number is 21, whatever is open.
         replica.inbox[0] = None;
         assert_eq!(replica.work(), Err(NOTHING_WAITS));
+    }
+}
+
+/// Nor here: the own block is at the turn, and the mark that it was sent is off. It is worked as any; until then
+/// another block may be sent for the slot, for which there is no place.
+#[test]
+fn own_block_that_was_not_sent() {
+    let mut replica = with_own_block();
+    let block = replica.outbox.take().unwrap();
+    assert_eq!(replica.deliver(&block), Err(NOT_SENT));
+    let mut sends = replica.clone();
+    let other = sends.send().unwrap();
+    assert_eq!(block::decode(&other).unwrap().records, []);
+    assert_eq!(sends.deliver(&other), Err(SLOT_TAKEN));
+    assert_eq!(sends.deliver(&block), Err(NOT_SENT));
+    for mut replica in [replica, sends] {
+        let works = [replica.work(), replica.work()].map(|work| {
+            let work = work.unwrap();
+            (work.ticket, work.moved, work.aborted.len())
+        });
+        assert_eq!(works, [(1, false, 0), (2, true, 0)]);
+        let report = replica.report();
+        assert_eq!((report.turn, report.committed, report.open), (1, 2, 0));
+        assert_eq!(replica.deliver(&block), Err(PAST_SLOT));
     }
 }
 

@@ -128,6 +128,7 @@ impl<C: Write, A: Write> StationRecorder<C, A> {
     /// As [`Station::take`]; it is recorded as its deliver and its works.
     pub fn take(&mut self, bytes: &[u8]) -> Result<Taken<Step>, Refusal> {
         self.deliver(bytes)?;
-        Ok(works(|| self.work()))
+        let waits = |station: &Self| station.recorder.replica.waits();
+        Ok(works(self, waits, StationRecorder::work))
     }
 }

@@ -99,6 +99,32 @@ static inline void deliver_and_work(
     }
 }
 
+/* A take into a lent reply gives as much, leaves such a replica, and what is behind its counts as it was. */
+static inline void hold_take_into(
+    const stemline_replica *r, const uint8_t *bytes, size_t length, const stemline_take_reply *due,
+    const stemline_replica *left) {
+    static stemline_replica taking;
+    static stemline_take_reply taken, dirt;
+    memcpy(&taking, r, sizeof taking);
+    memset(&taken, 0xa5, sizeof taken);
+    memset(&dirt, 0xa5, sizeof dirt);
+    stemline_replica_take_into(&taking, bytes, length, &taken);
+    hold(taken.number == due->number && taken.count == due->count
+             && taken.append_count == due->append_count,
+         "take_into: another number or count");
+    for (int i = 0; i < STEMLINE_STEPS; i++) {
+        hold(i < due->count ? same_work(&taken.steps[i], &due->steps[i])
+                            : memcmp(&taken.steps[i], &dirt.steps[i], sizeof dirt.steps[i]) == 0,
+             "take_into: another step, or one behind the last");
+    }
+    size_t used = STEMLINE_BLOCK * (size_t)due->append_count;
+    hold(memcmp(taken.append, due->append, used) == 0, "take_into: another block");
+    hold(memcmp((const uint8_t *)taken.append + used, (const uint8_t *)dirt.append + used,
+                sizeof dirt.append - used) == 0,
+         "take_into: a block behind the last");
+    hold(same(&taking, left), "take_into: another memory");
+}
+
 /* A take gives what a deliver and its works give, zeros behind, and leaves the same. It is tried on
  * copies. */
 static inline void hold_take(const stemline_replica *r, const uint8_t *bytes, size_t length) {
@@ -116,6 +142,7 @@ static inline void hold_take(const stemline_replica *r, const uint8_t *bytes, si
     }
     hold(memcmp(taken.append, due.append, sizeof due.append) == 0, "take: another block, or none of zeros");
     hold(same(&taking, &calling), "take: another memory");
+    hold_take_into(r, bytes, length, &due, &calling);
 }
 
 #endif

@@ -228,7 +228,11 @@ fn every_call_returns() {
                     assert_eq!(is_turn, answer.0 == 0, "{place}: is_turn");
                 }
                 "deliver" => same_take(&before),
-                "work" => same_append(&before, &memory, &answer.1),
+                "work" => {
+                    same_append(&before, &memory, &answer.1);
+                    let waits = Replica::from_memory(before.memory()).waits();
+                    assert_eq!(waits, answer.0 != 21, "{place}: waits");
+                }
                 _ => (),
             }
             numbers[usize::from(answer.0)] += 1;

@@ -98,6 +98,21 @@ fn object(room: &Path, compiler: &str, standard: &str, file: &str) -> PathBuf {
 
 /// Makes a program of files, each by a compiler and a standard: name, compiler, standard, text.
 pub fn build(name: &str, files: &[(&str, &str, &str, &str)]) -> PathBuf {
+    let (program, made) = link(name, files);
+    let said = String::from_utf8_lossy(&made.stderr);
+    assert!(made.status.success(), "{name}: {said}");
+    program
+}
+
+/// What is said of a C file that compiles and does not link.
+pub fn unlinked(name: &str, source: &str) -> String {
+    let (_, made) = link(name, &[("program.c", "cc", "-std=c99", source)]);
+    assert!(!made.status.success(), "{name}: it links");
+    String::from_utf8_lossy(&made.stderr).into_owned()
+}
+
+/// Compiles the files, links them with the library, and gives the program and how that went.
+fn link(name: &str, files: &[(&str, &str, &str, &str)]) -> (PathBuf, Output) {
     let room = room(name);
     let mut objects = Vec::new();
     let mut linker = "cc";
@@ -116,9 +131,7 @@ pub fn build(name: &str, files: &[(&str, &str, &str, &str)]) -> PathBuf {
     command.args(objects);
     command.arg(host().join("../target/staticlib/libreplica.a"));
     let made = command.arg("-o").arg(&program).output().unwrap();
-    let said = String::from_utf8_lossy(&made.stderr);
-    assert!(made.status.success(), "{linker}: {said}");
-    program
+    (program, made)
 }
 
 /// Runs a program on an input.

@@ -10,7 +10,7 @@ use stemline::ffi::{
 };
 use stemline::{Refusal, Replica, ITEMS, REPLICAS};
 
-use crate::c::{build, has_cpp, printed, run, run_c};
+use crate::c::{build, has_cpp, printed, run, run_c, unlinked};
 
 const HEADERS: &str = concat!(
     include_str!("../../../include/stemline_calls.h"),
@@ -132,6 +132,44 @@ fn version_of_cargo() {
     // And it is told what changed in it.
     let changes = include_str!("../../../../CHANGELOG.md");
     assert!(changes.contains(&format!("\n## {version}")), "{version}");
+}
+
+/// The archive says its version, and by the symbol's name only headers of that version link with it.
+#[test]
+fn headers_of_another_version() {
+    let lines = "static stemline_replica r; static int32_t start[STEMLINE_ITEMS];\n\
+                 printf(\"%s %d\\n\", stemline_linked_version(), stemline_replica_make(&r, 2, 0, start));\n";
+    let due = format!("{} 0\n", env!("CARGO_PKG_VERSION"));
+    assert_eq!(run_c("linked", &program(lines), b""), due);
+    // The same with the second number one higher: it compiles, and does not link.
+    let calls = include_str!("../../../include/stemline_calls.h");
+    let minor = env!("CARGO_PKG_VERSION_MINOR");
+    let next = minor.parse::<u32>().unwrap() + 1;
+    let other = calls.replace(
+        &format!("#define STEMLINE_VERSION_MINOR {minor}\n"),
+        &format!("#define STEMLINE_VERSION_MINOR {next}\n"),
+    );
+    assert!(other != calls);
+    for call in [
+        "stemline_replica_make(&r, 2, 0, start)",
+        "stemline_replica_make_station(&r, 2, start)",
+        "stemline_replica_restart(&r, 2, 0, start, NULL, 0, block).number",
+        "stemline_linked_version()[0]",
+    ] {
+        let lines = format!(
+            "static stemline_replica r; static int32_t start[STEMLINE_ITEMS];\n\
+             static uint8_t block[STEMLINE_BLOCK]; (void)r, (void)start, (void)block;\n\
+             printf(\"%d\\n\", (int){call});\n"
+        );
+        let source = program(&lines).replace("#include \"stemline.h\"\n", "");
+        let source = format!("{other}\n#include \"stemline.h\"\n{source}");
+        let said = unlinked("other_version", &source);
+        let symbol = format!(
+            "stemline_version_{}_{next}",
+            env!("CARGO_PKG_VERSION_MAJOR")
+        );
+        assert!(said.contains(&symbol), "{said}");
+    }
 }
 
 /// STEMLINE_NOT_OPEN in C is Refusal::NotOpen in Rust, by the same number.

@@ -26,6 +26,8 @@ fn room(name: &str, rt: Option<&str>) -> PathBuf {
         "target/bin",
         "target/rlib",
         "target/stamp",
+        "host/include",
+        "host/source",
     ] {
         fs::create_dir_all(room.join(folder)).unwrap();
     }
@@ -36,11 +38,13 @@ fn room(name: &str, rt: Option<&str>) -> PathBuf {
         "examples/story.calls",
         "crates.txt",
         "target/bin/replay",
+        "host/include/stemline_calls.h",
+        "host/source/stemline_version.c",
     ] {
         fs::copy(top().join(file), room.join(file)).unwrap();
     }
     let tools =
-        "bash dirname readlink mkdir sed tr sort awk grep tail tee cat rm ln cp ar sh seq touch";
+        "bash dirname readlink mkdir sed tr sort awk grep tail tee cat rm ln cp ar sh seq touch cc as";
     for tool in tools.split(' ') {
         let paths = env::var_os("PATH").unwrap();
         let found = env::split_paths(&paths).map(|folder| folder.join(tool));
@@ -81,6 +85,18 @@ fn no_prover() {
     }
 }
 
+/// Without a C compiler nothing is proved first.
+#[test]
+fn no_compiler() {
+    let room = room("no-compiler", Some("echo proving; exit 1"));
+    fs::remove_file(room.join("bin/cc")).unwrap();
+    let words = "library: 'cc' is not on the PATH; it is any C compiler\n";
+    assert_eq!(
+        said(run(&room, "library")),
+        (String::new(), words.to_string(), Some(1))
+    );
+}
+
 /// Of a library that is written one line; of one that is not what failed.
 #[test]
 fn library() {
@@ -93,7 +109,21 @@ fn library() {
         said(run(&written, "library")),
         (line.to_string(), String::new(), Some(0))
     );
-    assert!(written.join("target/staticlib/libreplica.a").is_file());
+    let archive = fs::read(written.join("target/staticlib/libreplica.a")).unwrap();
+    let symbol = concat!(
+        "stemline_version_",
+        env!("CARGO_PKG_VERSION_MAJOR"),
+        "_",
+        env!("CARGO_PKG_VERSION_MINOR"),
+        "\0"
+    );
+    assert!(archive
+        .windows(symbol.len())
+        .any(|found| found == symbol.as_bytes()));
+    let left = fs::read_dir(written.join("target/staticlib"))
+        .unwrap()
+        .count();
+    assert_eq!(left, 1, "files beside the archive");
 
     let wrong = "echo 'rt: memory NOT PROVED (3 s)'";
     let last = "library: not written; target/library.log says why\n";

@@ -4,7 +4,7 @@ use model::drive::{start_values, Group, Peers, Powered, Subject, STYLES};
 use model::replica::{self as second, Report, ITEMS};
 use model::samples::{block_of, Random};
 use model::trace::{Answer, Call};
-use stemline::{Refusal, Replica, Work, REPLICAS, STEPS};
+use stemline::{Recorder, Refusal, Replica, StationRecorder, Work, REPLICAS, STEPS};
 
 use crate::both::{stepped, worked, Both};
 use crate::seeds::Seeds;
@@ -172,6 +172,45 @@ fn the_most_steps() {
     assert_eq!(replica.report().turn, 6);
     assert_eq!(replica.work(), Err(Refusal::NothingWaits));
     assert_eq!(replica.take(&own), Err(Refusal::PastSlot));
+}
+
+/// A take asks for no work that has nothing to do: of a block at its turn one work is recorded, of an early one
+/// none.
+#[test]
+fn no_work_is_refused() {
+    let values = [0; ITEMS];
+    let mut first = Recorder::new(2, 0, &values, Vec::new(), Vec::new()).unwrap();
+    let mut second = Replica::new(2, 1, &values).unwrap();
+    let mut station = StationRecorder::new(2, 7, &values, Vec::new(), Vec::new()).unwrap();
+    let blocks = [first.send().unwrap(), {
+        second.take(&first.replica().memory().outbox).unwrap();
+        second.send().unwrap()
+    }];
+    assert!(!first.replica().waits());
+    first.deliver(&blocks[0]).unwrap();
+    assert!(first.replica().waits(), "the own block");
+    first.work().unwrap();
+    assert!(!first.replica().waits());
+    first.take(&blocks[1]).unwrap();
+    station.take(&blocks[1]).unwrap();
+    station.take(&blocks[0]).unwrap();
+    let (_, _, answers) = first.into_parts();
+    let (_, _, of_station) = station.into_parts();
+    let numbers = |answers: Vec<u8>| {
+        let text = String::from_utf8(answers).unwrap();
+        let works = text.lines().map(|line| match line.split(' ').count() {
+            1 => "0".to_string(),
+            5 => "work".to_string(),
+            _ => "block".to_string(),
+        });
+        (!text.contains("21\n")).then(|| works.collect::<Vec<_>>())
+    };
+    let due = ["0", "block", "0", "work", "0", "work"];
+    assert_eq!(numbers(answers).unwrap(), due);
+    assert_eq!(
+        numbers(of_station).unwrap(),
+        ["0", "0", "0", "work", "work"]
+    );
 }
 
 /// Altered memory: the writeset of an own transaction that is gone is committed and ends nobody, as the steps

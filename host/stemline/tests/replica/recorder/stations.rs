@@ -101,7 +101,7 @@ fn beside_a_replica() {
     assert_eq!((station.begin(), station.withdraw(2)), (Ok(2), Ok(())));
     let (calls, answers) = text(station);
     let letters: String = calls.lines().map(|line| &line[..1]).collect();
-    assert_eq!(letters, "MHKKKAHHKKKBRCBX");
+    assert_eq!(letters, "MHKKAHHKKBRCBX");
     assert_eq!(differs(&calls, &answers), None);
 }
 
