@@ -298,8 +298,8 @@ static inline uint8_t stemline_replica_load(
 /* Whether a block waits for the turn: where none does, a work is refused by 21. */
 static inline bool stemline_replica_waits(const stemline_replica *r) {
     uint32_t n = r->group.replicas;
-    /* only in altered memory is n out of range; the work says then what is wrong */
-    return n - 1 >= STEMLINE_REPLICAS || r->places[STEMLINE_BLOCK * stemline_owner(r->turn.slot, n)] != 0;
+    /* slot s waits at place s mod n; only in altered memory is n out of range, and the work says then what is wrong */
+    return n - 1 >= STEMLINE_REPLICAS || r->places[STEMLINE_BLOCK * (r->turn.slot % n)] != 0;
 }
 
 /* What a replica does with a block that arrives: delivers it, then works until

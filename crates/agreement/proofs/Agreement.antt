@@ -1,5 +1,5 @@
 -- Agreement: the statement's proof, from what each call owes. Assumes nothing.
-use Prim.Native.Nat.{ℕ, suc, _-_, _<_, _≤_}
+use Prim.Native.Nat.{ℕ, suc, _-_, _<_}
 use mathlib.Core.Path.{_≡_, sym, ap, _∙_, subst}
 use mathlib.Core.List.{List, List·Memᴰ·not-nil, Memᴰ·append-left, [], _∷_}
 use native.Mathlib.Omega.{arith}
@@ -8,6 +8,7 @@ use lib.ListN.{length, length-map, getD, take}
 use lib.Seq.{length-take-le}
 use borrow.Author.Tests.{ne-eqb}
 use Rattle.memory.specs.Memory.{Memory}
+use Rattle.engine.specs.Make.{Setting}
 use Rattle.engine.specs.Calls.{Answer, Step, Outcome}
 use Rattle.engine.specs.Calls.Answer.{refused, made, began, got, wrote, queued, readOnly, withdrew, reported, sent, kept, worked, loaded, restarted}
 use Rattle.engine.specs.Client.{reportOf}
@@ -91,10 +92,10 @@ none-named n m s t =
 
 -- ---- the theorem
 
-module _ (n : ℕ) (start : List ℤ) (least : 2 ≤ n) (most : n ≤ 6) (long : length start ≡ 128)
+module _ (n : ℕ) (start : List ℤ) (setting : Setting n start)
     (owes : (m : Memory) → Sound n m → (c : Call) → Owed n start m c (step m c))
     (cs : List CallAt) (f : Calls n cs)
-    (p : CommandPremise (setup n start) (machine n start least most long owes) (machineOf n start least most long owes (λ k. journal [] 0) (fresh n start)) (commands n start least most long owes cs f)) where
+    (p : CommandPremise (setup n start) (machine n start setting owes) (machineOf n start setting owes (λ k. journal [] 0) (fresh n start)) (commands n start setting owes cs f)) where
   abbrev g : Group
   g = run (fresh n start) cs
 
@@ -104,27 +105,27 @@ module _ (n : ℕ) (start : List ℤ) (least : 2 ≤ n) (most : n ≤ 6) (long :
   abbrev F : List (Placed ℤ)
   F = sequence (run (fresh n start) cs .handouts)
 
-  whole : MachineAgreement (setup n start) (machine n start least most long owes) (commands n start least most long owes cs f)
-  whole = machine-agreement (setup n start) (places-apart n start) (machine n start least most long owes) (commands n start least most long owes cs f)
+  whole : MachineAgreement (setup n start) (machine n start setting owes) (commands n start setting owes cs f)
+  whole = machine-agreement (setup n start) (places-apart n start) (machine n start setting owes) (commands n start setting owes cs f)
       p
 
-  group : Agreed (setup n start) (systemOf (setup n start) (machine n start least most long owes) (machineOf n start least most long owes (journalsRun n start least most long owes noJournals (fresh n start) cs) g))
-  group = subst (λ (s : MachineSystem (setup n start) (machine n start least most long owes)). Agreed (setup n start) (systemOf (setup n start) (machine n start least most long owes) s))
-      (runs n start least most long owes cs f noJournals (fresh n start)) (whole .group)
+  group : Agreed (setup n start) (systemOf (setup n start) (machine n start setting owes) (machineOf n start setting owes (journalsRun n start setting owes noJournals (fresh n start) cs) g))
+  group = subst (λ (s : MachineSystem (setup n start) (machine n start setting owes)). Agreed (setup n start) (systemOf (setup n start) (machine n start setting owes) s))
+      (runs n start setting owes cs f noJournals (fresh n start)) (whole .group)
 
-  claims : CommandClaims (setup n start) (machine n start least most long owes) F (machineOf n start least most long owes noJournals (fresh n start)) (commands n start least most long owes cs f)
-  claims = subst (λ (s : MachineSystem (setup n start) (machine n start least most long owes)).
-      CommandClaims (setup n start) (machine n start least most long owes) (sequence (s .handouts)) (machineOf n start least most long owes noJournals (fresh n start)) (commands n start least most long owes cs f))
-      (runs n start least most long owes cs f noJournals (fresh n start)) (whole .calls)
+  claims : CommandClaims (setup n start) (machine n start setting owes) F (machineOf n start setting owes noJournals (fresh n start)) (commands n start setting owes cs f)
+  claims = subst (λ (s : MachineSystem (setup n start) (machine n start setting owes)).
+      CommandClaims (setup n start) (machine n start setting owes) (sequence (s .handouts)) (machineOf n start setting owes noJournals (fresh n start)) (commands n start setting owes cs f))
+      (runs n start setting owes cs f noJournals (fresh n start)) (whole .calls)
 
   -- what is claimed of the call c that has `before` in front of it
-  at-call : (before : List CallAt) (c : CallAt) → Comes cs before c → Said n start least most long owes F (run (fresh n start) before) c
-  at-call before c e = said n start least most long owes F cs f noJournals (fresh n start) claims before c e
+  at-call : (before : List CallAt) (c : CallAt) → Comes cs before c → Said n start setting owes F (run (fresh n start) before) c
+  at-call before c e = said n start setting owes F cs f noJournals (fresh n start) claims before c e
 
   -- the memory that a call of the list acts on is sound
   sound-at : (before : List CallAt) (c : CallAt) → Comes cs before c → Sound n (run (fresh n start) before .memories (c .at))
   sound-at before c e =
-      sound-run n before (λ d q. f d (subst (Mem d) (sym (e .1)) (Memᴰ·append-left (c ∷ e .0) q))) (fresh n start) (λ k. made-sound n start least most long owes k .sound) (c .at)
+      sound-run n before (λ d q. f d (subst (Mem d) (sym (e .1)) (Memᴰ·append-left (c ∷ e .0) q))) (fresh n start) (λ k. made-sound n start setting owes k .sound) (c .at)
 
   module _ (before : List CallAt) (k : ℕ) (s : Step) (e : Comes cs before (record { at = k; does = call work })) (a : step (groupAfter n start cs before .memories k) work .answer ≡ worked s) where
     abbrev seen : Observed ℤ

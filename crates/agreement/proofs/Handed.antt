@@ -1,18 +1,19 @@
 -- Blocks read back, and six rows: what holds with no premise. Assumes nothing.
-use Prim.Native.Nat.{ℕ, _≤_}
+use Prim.Native.Nat.{ℕ}
 use mathlib.Core.Path.{_≡_, refl, sym, subst}
 use mathlib.Core.Bool.{cond}
 use mathlib.Core.Logic.{_⊎_, inl, inr}
 use mathlib.Core.List.{List, List·Memᴰ·head, List·Memᴰ·tail, [], _∷_}
 use native.Mathlib.Omega.{arith}
 use lib.IntN.{ℤ}
-use lib.ListN.{length, replicate}
+use lib.ListN.{replicate}
 use Rattle.block.specs.Bytes.{blockOf}
 use Rattle.block.specs.Form.{messageOf}
 use Rattle.block.specs.Answers.{blockRefusal}
 use Rattle.block.specs.Theorems.{AreBytes}
 use Rattle.block.proofs.Theorems.{theorems}
 use Rattle.memory.specs.Memory.{Memory}
+use Rattle.engine.specs.Make.{Setting}
 use Rattle.engine.specs.Calls.{Outcome}
 use Rattle.engine.specs.Calls.Answer.{sent, kept, restarted}
 use Rattle.engine.specs.Moves.{messageFor, sendNow}
@@ -33,11 +34,11 @@ use Rattle.agreement.proofs.Runs.{sound-run}
 use Rattle.agreement.proofs.Theorem.{owes}
 
 -- the memory of each replica and station after any list of calls
-sound-after : (n : ℕ) (start : List ℤ) → 2 ≤ n → n ≤ 6 → length start ≡ 128 → (cs : List CallAt) → Calls n cs → (k : ℕ) → Sound n (run (fresh n start) cs .memories k)
-sound-after n start least most long cs f = sound-run n cs f (fresh n start) (λ k. made-sound n start least most long (owes n start) k .sound)
+sound-after : (n : ℕ) (start : List ℤ) → Setting n start → (cs : List CallAt) → Calls n cs → (k : ℕ) → Sound n (run (fresh n start) cs .memories k)
+sound-after n start setting cs f = sound-run n cs f (fresh n start) (λ k. made-sound n start setting (owes n start) k .sound)
 
 pub six-rows : SixRows
-six-rows = record { tables = λ n start least most long cs f k. sound-after n start least most long cs f k .shape .lengths .table }
+six-rows = record { tables = λ n start setting cs f k. sound-after n start setting cs f k .shape .lengths .table }
 
 -- ---- send
 
@@ -79,7 +80,7 @@ restart-given m n own values journal lent count block =
 
 pub reads-back : ReadsBack
 reads-back = record {
-  sends = λ n start least most long cs f k h. sent-back n _ (sound-after n start least most long cs f k);
+  sends = λ n start setting cs f k h. sent-back n _ (sound-after n start setting cs f k);
   restarts = restart-given;
   keeps = kept-only;
 }

@@ -1,5 +1,5 @@
 -- How many blocks a replica's journal has, with no premise: every call keeps it. Assumes nothing.
-use Prim.Native.Nat.{ℕ, suc, _*_, _/_, _≤_, _<_}
+use Prim.Native.Nat.{ℕ, suc, _*_, _/_, _<_}
 use mathlib.Core.Path.{_≡_, refl, sym, ap, _∙_}
 use mathlib.Core.Bool.{Bool, true, false, cond}
 use mathlib.Core.List.{List, List·Memᴰ·head, List·Memᴰ·tail, [], _∷_, _++_, append-nil}
@@ -17,7 +17,7 @@ use Rattle.memory.specs.declared.Turn.{Turn}
 use Rattle.memory.specs.Memory.{Memory, bump}
 use Rattle.memory.specs.Turns.{isOn, markApplying, advance}
 use Rattle.engine.specs.Calls.{Outcome}
-use Rattle.engine.specs.Make.{madeMemory}
+use Rattle.engine.specs.Make.{Setting, madeMemory}
 use Rattle.engine.specs.Client.{beginAt, readOnlyAt, queueAt, rewriteAt, insertWrite, staleAt, withdrawAt, reportStep}
 use Rattle.engine.specs.Moves.{messageFor, sentAlready, sendRefusal, sendNow, deliverNow, blockAtTurn, isLast, passNext, commitWriteset}
 use Rattle.engine.specs.Step.{Call, step}
@@ -140,9 +140,9 @@ module _ (n : ℕ) where
   filled-run (c ∷ cs) f g F = filled-run cs (λ d q. f d (List·Memᴰ·tail q)) (next g c) (group-next g c F (f c (List·Memᴰ·head refl) .1))
 
   -- each replica after a list of calls
-  pub filled-after : (start : List ℤ) → 2 ≤ n → n ≤ 6 → length start ≡ 128 → (cs : List CallAt) → Calls n cs
+  pub filled-after : (start : List ℤ) → Setting n start → (cs : List CallAt) → Calls n cs
       → let g = run (fresh n start) cs in (k : ℕ) → k < n → FilledAt (g .memories k) (g .disks k .journal)
-  filled-after start least most long cs f = filled-run cs f (fresh n start) (λ k h. rw (lt-ltb k n h) (record { sound = sound-made n k start least most h long; filled = unfold madeMemory in refl }))
+  filled-after start setting cs f = filled-run cs f (fresh n start) (λ k h. rw (lt-ltb k n h) (record { sound = sound-made n k start (record { group = setting; below = h }); filled = unfold madeMemory in refl }))
 
 pub journal-length : JournalLength
-journal-length n start least most long cs f k h = filled-after n start least most long cs f k h .filled
+journal-length n start setting cs f k h = filled-after n start setting cs f k h .filled

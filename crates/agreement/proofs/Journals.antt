@@ -70,11 +70,11 @@ in-order n start D k turn count l J H L Q w = record {
         ∙ read-all (setup n start) D L k (length (J .kept)) (Q .within) (λ s g o. let a = Q .own s g o in let b = Q .safe in omega arith)
 
 pub journals : JournalTheorem
-journals n start least most long cs f p k h =
+journals n start setting cs f p k h =
     in-order n start (run (fresh n start) cs .handouts) k (run (fresh n start) cs .memories k .turn .slot) (blocksAt (run (fresh n start) cs .memories k .turn))
-    (run (fresh n start) cs .disks k .journal) (journalsAfter n start least most long cs k)
-    (kept-run n start least most long (owes n start) cs f (λ j. journal [] 0) (fresh n start) p (fresh-kept n start least most long (owes n start)) .disks k h)
-    (I .inv .whole .inOrder) (I .inv .journals k) (journal-length n start least most long cs f k h)
+    (run (fresh n start) cs .disks k .journal) (journalsAfter n start setting cs k)
+    (kept-run n start setting (owes n start) cs f (λ j. journal [] 0) (fresh n start) p (fresh-kept n start setting (owes n start)) .disks k h)
+    (I .inv .whole .inOrder) (I .inv .journals k) (journal-length n start setting cs f k h)
   where
-    I : InvAfter n start least most long cs
-    I = inv-after n start least most long cs f p
+    I : InvAfter n start setting cs
+    I = inv-after n start setting cs f p

@@ -136,5 +136,5 @@ module _ (n : ℕ) (start : List ℤ) (most : n ≤ 6) (k : ℕ) (m : Memory) (s
       → OwedAt n start k m (restart size own values j b) (restartStep m size own values j b)
   station-restarts size own values j b =
       restart-by (λ (o : Outcome). ((x : ℕ) (y : List ℕ) → o .answer ≡ restarted x y → AsMade n start k size own values) → OwedAt n start k m (restart size own values j b) o) m size own values j b
-      (λ e f. let z = f _ _ refl in absurd (let w : ⊥ = omega (arith, restart-passed m size own values b e .among, z .0, z .1) in w))
+      (λ e f. let z = f _ _ refl in absurd (let w : ⊥ = omega (arith, restart-passed m size own values b e .below, z .0, z .1) in w))
       (λ e f. turned-away-at n start k m (restart size own values j b) (restartRefusal m size own values b) (not-nine m size own values b))

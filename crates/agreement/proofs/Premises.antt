@@ -12,6 +12,7 @@ use borrow.Author.Tests.{eqb-true}
 use Rattle.block.specs.Message.{signed32}
 use Rattle.block.proofs.AnswerLaws.{is-taken}
 use Rattle.memory.specs.Memory.{Memory}
+use Rattle.engine.specs.Make.{Setting}
 use Rattle.engine.specs.Calls.{Answer}
 use Rattle.engine.specs.Calls.Answer.{refused, made, began, got, wrote, queued, readOnly, withdrew, reported, sent, kept, worked, loaded, restarted}
 use Rattle.engine.specs.Step.{Call, step}
@@ -81,13 +82,13 @@ floor-by J floor l more c (restarted k b) h u = go (eqb (getD b 0 0) 0) u
 
 -- ---- a run
 
-module _ (n : ℕ) (start : List ℤ) (least : 2 ≤ n) (most : n ≤ 6) (long : length start ≡ 128)
+module _ (n : ℕ) (start : List ℤ) (setting : Setting n start)
     (owes : (m : Memory) → Sound n m → (c : Call) → Owed n start m c (step m c)) where
   abbrev Inv : (ℕ → Journal ℤ) → Group → Type 0
-  Inv J g = MachineInv (setup n start) (machine n start least most long owes) (places-apart n start) (machineOf n start least most long owes J g)
+  Inv J g = MachineInv (setup n start) (machine n start setting owes) (places-apart n start) (machineOf n start setting owes J g)
 
   abbrev Holds : (ℕ → Journal ℤ) → Group → Type 0
-  Holds J g = Kept n start least most long owes J g
+  Holds J g = Kept n start setting owes J g
 
   may : (g : Group) (c : CallAt) (cs : List CallAt) → PremiseFrom n start g (c ∷ cs) → Ours n start (c .at) (g .memories (c .at)) (c .does)
   may g c cs A = lent-ours n start (c .at) (g .memories (c .at)) (g .disks (c .at)) (c .does) (premise-first n start g c cs A)
@@ -95,38 +96,38 @@ module _ (n : ℕ) (start : List ℤ) (least : 2 ≤ n) (most : n ≤ 6) (long :
   -- the first call's premise, as the machine's
   first : (g : Group) (c : CallAt) (cs : List CallAt) → PremiseFrom n start g (c ∷ cs) → (J : ℕ → Journal ℤ) → Holds J g
       → ((k : ℕ) → k < n → 512 * J k .safe ≤ g .disks k .floor) → (h : signed32 (argumentsOf (c .does) .value) ≡ true)
-      → CommandPremise (setup n start) (machine n start least most long owes) (machineOf n start least most long owes J g) (command n start least most long owes c h ∷ [])
+      → CommandPremise (setup n start) (machine n start setting owes) (machineOf n start setting owes J g) (command n start setting owes c h ∷ [])
   unfolding run CommandPremise
   first g c cs A J K low h = (
     (
-      handed-at n start least most long owes (g .blocks) (g .memories (c .at)) (c .does) (λ b e q. A .delivered [] (c .at) b (cs, ap (λ (d : AnyCall). record { at = c .at; does = d } ∷ cs) e) q),
-      lent-at n start least most long owes (J (c .at)) (g .disks (c .at)) (c .at) (K .disks (c .at)) (low (c .at)) (g .memories (c .at)) (K .sound (c .at)) (c .does) h (premise-first n start g c cs A),
+      handed-at n start setting owes (g .blocks) (g .memories (c .at)) (c .does) (λ b e q. A .delivered [] (c .at) b (cs, ap (λ (d : AnyCall). record { at = c .at; does = d } ∷ cs) e) q),
+      lent-at n start setting owes (J (c .at)) (g .disks (c .at)) (c .at) (K .disks (c .at)) (low (c .at)) (g .memories (c .at)) (K .sound (c .at)) (c .does) h (premise-first n start g c cs A),
       may g c cs A,
     ),
     tt,
   )
 
   inv-next : (J : ℕ → Journal ℤ) (g : Group) (c : CallAt) (h : signed32 (argumentsOf (c .does) .value) ≡ true) → Inv J g
-      → CommandPremise (setup n start) (machine n start least most long owes) (machineOf n start least most long owes J g) (command n start least most long owes c h ∷ [])
-      → Inv (journalsNext n start least most long owes J g c) (next g c)
+      → CommandPremise (setup n start) (machine n start setting owes) (machineOf n start setting owes J g) (command n start setting owes c h ∷ [])
+      → Inv (journalsNext n start setting owes J g c) (next g c)
   unfolding runCommands
   inv-next J g c h I p =
-      subst (MachineInv (setup n start) (machine n start least most long owes) (places-apart n start)) (one n start least most long owes J g c h)
-      (inv-commands (setup n start) (machine n start least most long owes) (places-apart n start) (command n start least most long owes c h ∷ []) (machineOf n start least most long owes J g) I p)
+      subst (MachineInv (setup n start) (machine n start setting owes) (places-apart n start)) (one n start setting owes J g c h)
+      (inv-commands (setup n start) (machine n start setting owes) (places-apart n start) (command n start setting owes c h ∷ []) (machineOf n start setting owes J g) I p)
 
   floors-next : (J : ℕ → Journal ℤ) (g : Group) (c : CallAt) → Ours n start (c .at) (g .memories (c .at)) (c .does) → Holds J g
-      → Inv (journalsNext n start least most long owes J g c) (next g c) → ((k : ℕ) → k < n → 512 * J k .safe ≤ g .disks k .floor)
-      → (k : ℕ) → k < n → 512 * journalsNext n start least most long owes J g c k .safe ≤ next g c .disks k .floor
+      → Inv (journalsNext n start setting owes J g c) (next g c) → ((k : ℕ) → k < n → 512 * J k .safe ≤ g .disks k .floor)
+      → (k : ℕ) → k < n → 512 * journalsNext n start setting owes J g c k .safe ≤ next g c .disks k .floor
   floors-next J g c u K I low k below = by (eqb k (c .at)) refl
     where
       d′ : Disk
       d′ = diskAfter (g .disks (c .at)) (c .does) (did g c .answer)
 
       J′ : Journal ℤ
-      J′ = journalNext n start least most long owes (J (c .at)) (c .at) (g .memories (c .at)) (c .does)
+      J′ = journalNext n start setting owes (J (c .at)) (c .at) (g .memories (c .at)) (c .does)
 
       H′ : c .at < n → OnDisk n (d′ .journal) (J′ .kept)
-      H′ h = disk-next n start least most long owes (g .disks (c .at) .journal) (J (c .at)) (K .disks (c .at) h) (c .at) (g .memories (c .at)) (K .sound (c .at)) h (c .does) u
+      H′ h = disk-next n start setting owes (g .disks (c .at) .journal) (J (c .at)) (K .disks (c .at) h) (c .at) (g .memories (c .at)) (K .sound (c .at)) h (c .does) u
 
       s : J′ .safe ≤ length (J′ .kept)
       s = subst (λ (j : Journal ℤ). j .safe ≤ length (j .kept)) (update-same J (c .at) J′) (I .inv .journals (c .at) .safe)
@@ -138,17 +139,17 @@ module _ (n : ℕ) (start : List ℤ) (least : 2 ≤ n) (most : n ≤ 6) (long :
       by false e = low k below
 
   pub premise : (cs : List CallAt) (f : Calls n cs) (J : ℕ → Journal ℤ) (g : Group) → Holds J g → Inv J g → ((k : ℕ) → k < n → 512 * J k .safe ≤ g .disks k .floor) → PremiseFrom n start g cs
-      → CommandPremise (setup n start) (machine n start least most long owes) (machineOf n start least most long owes J g) (commands n start least most long owes cs f)
+      → CommandPremise (setup n start) (machine n start setting owes) (machineOf n start setting owes J g) (commands n start setting owes cs f)
   unfolding CommandPremise commands
   premise [] f J g K I low A = tt
   premise (c ∷ cs) f J g K I low A =
       let h = f c (List·Memᴰ·head refl) .1 in
       let p = first g c cs A J K low h in
       let u = may g c cs A in
-      let K′ = kept-next n start least most long owes J g K c h u in
+      let K′ = kept-next n start setting owes J g K c h u in
       let I′ = inv-next J g c h I p in (
         p .0,
-        subst (λ (s : MachineSystem (setup n start) (machine n start least most long owes)). CommandPremise (setup n start) (machine n start least most long owes) s (commands n start least most long owes cs (λ d q. f d (List·Memᴰ·tail q))))
-            (sym (one n start least most long owes J g c h))
-            (premise cs (λ d q. f d (List·Memᴰ·tail q)) (journalsNext n start least most long owes J g c) (next g c) K′ I′ (floors-next J g c u K I′ low) (premise-rest n start g c cs A)),
+        subst (λ (s : MachineSystem (setup n start) (machine n start setting owes)). CommandPremise (setup n start) (machine n start setting owes) s (commands n start setting owes cs (λ d q. f d (List·Memᴰ·tail q))))
+            (sym (one n start setting owes J g c h))
+            (premise cs (λ d q. f d (List·Memᴰ·tail q)) (journalsNext n start setting owes J g c) (next g c) K′ I′ (floors-next J g c u K I′ low) (premise-rest n start g c cs A)),
       )

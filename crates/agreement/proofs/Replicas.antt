@@ -7,13 +7,12 @@ use mathlib.Core.List.{List}
 use native.Mathlib.Omega.{arith}
 use lib.Dec.{ltb}
 use lib.IntN.{ℤ}
-use lib.ListN.{length}
 use borrow.Author.Tests.{ltb-true, ltb-false}
 use Rattle.block.specs.Message.{signed32}
 use Rattle.memory.specs.Memory.{Memory, noNumber}
 use Rattle.engine.specs.Calls.{Outcome}
 use Rattle.engine.specs.Calls.Answer.{restarted}
-use Rattle.engine.specs.Make.{madeMemory}
+use Rattle.engine.specs.Make.{Setting, madeMemory}
 use Rattle.engine.specs.Moves.{waiting}
 use Rattle.engine.specs.Step.{Call, step}
 use Rattle.engine.specs.Restart.{blocksIn, restartStep}
@@ -59,7 +58,7 @@ made-alike n k own start = record {
 pub places-apart : (n : ℕ) (start : List ℤ) → PlacesApart (setup n start)
 places-apart n start t s l h e = less-by t s (λ u. absurd (let z = next-round n t s (sym e) u in let w : ⊥ = omega arith in w)) (λ u. omega arith)
 
-module _ (n : ℕ) (start : List ℤ) (least : 2 ≤ n) (most : n ≤ 6) (long : length start ≡ 128)
+module _ (n : ℕ) (start : List ℤ) (setting : Setting n start)
     (owes : (m : Memory) → Sound n m → (c : Call) → Owed n start m c (step m c)) where
   abbrev pub perform : ℕ → Memory → TypedCall → Performed ℤ Memory
   perform k m a = record { memory = anyStep m (a .call) .memory; event = heard (a .call) (anyStep m (a .call) .answer) }
@@ -87,9 +86,9 @@ module _ (n : ℕ) (start : List ℤ) (least : 2 ≤ n) (most : n ≤ 6) (long :
     where
       go : (c : AnyCall) → Standing k m → Ours n start k m c → OwedAt n start k m c (anyStep m c)
       go (call c) (as-replica h q) f = replica-owes n start k m q c (step m c) (own-same m c ∙ q) (owes m (s .sound) c)
-      go (call c) (as-station h q) f = station-owes n start most k m (s .sound) h q c (owes m (s .sound) c)
+      go (call c) (as-station h q) f = station-owes n start (setting .most) k m (s .sound) h q c (owes m (s .sound) c)
       go (restart size own values j b) (as-replica h q) f = replica-restarts n start k m q size own values j b f
-      go (restart size own values j b) (as-station h q) f = station-restarts n start most k m (s .sound) h q size own values j b f
+      go (restart size own values j b) (as-station h q) f = station-restarts n start (setting .most) k m (s .sound) h q size own values j b f
 
   pub refines : (k : ℕ) (m : Memory) (a : TypedCall) → SoundAt k m → Ours n start k m (a .call) → Refines (setup n start) (perform k) meaning (viewAt k) m a
   refines k m a s f = go (owes-at k m s (a .call) f)
@@ -105,7 +104,7 @@ module _ (n : ℕ) (start : List ℤ) (least : 2 ≤ n) (most : n ≤ 6) (long :
       by : Ours n start k m (restart size own values j b) → Standing k (restartStep m size own values j b .memory)
       by =
           restart-by (λ (o : Outcome). ((x : ℕ) (y : List ℕ) → o .answer ≡ restarted x y → AsMade n start k size own values) → Standing k (o .memory)) m size own values j b
-          (λ e f. let z = f _ _ refl in as-replica (omega (arith, restart-passed m size own values b e .among, z .0, z .1)) (restarted-own size own values (blocksIn size j) ∙ z .1))
+          (λ e f. let z = f _ _ refl in as-replica (omega (arith, restart-passed m size own values b e .below, z .0, z .1)) (restarted-own size own values (blocksIn size j) ∙ z .1))
           (λ e f. s .stands)
 
   made-stands : (k : ℕ) → Standing k (madeMember n start k)
@@ -116,7 +115,7 @@ module _ (n : ℕ) (start : List ℤ) (least : 2 ≤ n) (most : n ≤ 6) (long :
 
   pub made-sound : (k : ℕ) → SoundAt k (madeMember n start k)
   made-sound k = record {
-    sound = cond-by (Sound n) (ltb k n) (λ e. sound-made n k start least most (ltb-true k n e) long) (λ e. sound-station n start least most long);
+    sound = cond-by (Sound n) (ltb k n) (λ e. sound-made n k start (record { group = setting; below = ltb-true k n e })) (λ e. sound-station n start setting);
     stands = made-stands k;
   }
 

@@ -1,5 +1,5 @@
 -- A restart does what the model's restart does, and what holds of a replica's memory holds after it. Assumes nothing.
-use Prim.Native.Nat.{ℕ, _*_, _/_, _≤_, _<_}
+use Prim.Native.Nat.{ℕ, _*_, _/_, _≤_}
 use mathlib.Core.Path.{_≡_, refl, _∙_, subst}
 use mathlib.Core.Bool.{true}
 use mathlib.Core.Option.{Option, none, some}
@@ -9,6 +9,7 @@ use lib.IntN.{ℤ}
 use lib.ListN.{length, replicate, length-map, length-replicate}
 use Rattle.block.specs.Message.{signed32}
 use Rattle.memory.specs.Memory.{Memory}
+use Rattle.engine.specs.Make.{SettingOf}
 use Rattle.engine.specs.Calls.{Outcome}
 use Rattle.engine.specs.Calls.Answer.{restarted}
 use Rattle.engine.specs.Moves.{waiting}
@@ -109,11 +110,11 @@ module _ (n : ℕ) (start : List ℤ) (m : Memory) (journal block : List ℕ) wh
 
 -- ---- what holds of the memory
 
-pub sound-restarted : (n k : ℕ) (start : List ℤ) → 2 ≤ n → n ≤ 6 → k < n → length start ≡ 128 → (journal : List ℕ) → Sound n (restartedMemory n k start (blocksIn n journal))
+pub sound-restarted : (n k : ℕ) (start : List ℤ) → SettingOf n k start → (journal : List ℕ) → Sound n (restartedMemory n k start (blocksIn n journal))
 unfolding restartedMemory
-sound-restarted n k start l h o v journal = record {
+sound-restarted n k start g journal = record {
   over = repeated k (blocksIn n journal);
-  shape = shape-restarted n k start l h o v journal;
+  shape = shape-restarted n k start g journal;
   sent = sent-shapes .restarted n k start journal;
   size = refl;
   fits = fits-zeros 48;
@@ -129,5 +130,5 @@ sound-any n m s (call c) v = sound-each n m s c v
 sound-any n m s (restart size own values journal block) v =
     restart-by (λ (o : Outcome). Sound n (o .memory)) m size own values journal block
     (λ e. let p = restart-passed m size own values block e in
-    subst (λ (i : ℕ). Sound i (restartedMemory size own values (blocksIn size journal))) (same-size n m s size own values block e) (sound-restarted size own values (p .least) (p .most) (p .among) (p .long) journal))
+    subst (λ (i : ℕ). Sound i (restartedMemory size own values (blocksIn size journal))) (same-size n m s size own values block e) (sound-restarted size own values p journal))
     (λ e. s)

@@ -7,11 +7,12 @@ use mathlib.Core.List.{List, List·Memᴰ·head, List·Memᴰ·tail, Memᴰ·app
 use native.Mathlib.Omega.{arith}
 use lib.Dec.{eqb}
 use lib.IntN.{ℤ}
-use lib.ListN.{length, getD}
+use lib.ListN.{getD}
 use borrow.Author.Tests.{eqb-true}
 use Rattle.block.specs.Message.{signed32}
 use Rattle.block.specs.Answers.{recordAt}
 use Rattle.memory.specs.Memory.{Memory}
+use Rattle.engine.specs.Make.{Setting}
 use Rattle.engine.specs.Calls.{Answer, Step, Outcome}
 use Rattle.engine.specs.Calls.Answer.{refused, made, began, got, wrote, queued, readOnly, withdrew, reported, sent, kept, worked, loaded, restarted}
 use Rattle.engine.specs.Client.{beginAt, readOnlyAt, queueAt, rewriteAt, insertWrite, staleAt, withdrawAt, reportStep}
@@ -154,13 +155,13 @@ sound-run n (c ∷ cs) f g S =
 
 -- ---- the machine
 
-module _ (n : ℕ) (start : List ℤ) (least : 2 ≤ n) (most : n ≤ 6) (long : length start ≡ 128)
+module _ (n : ℕ) (start : List ℤ) (setting : Setting n start)
     (owes : (m : Memory) → Sound n m → (c : Call) → Owed n start m c (step m c)) where
   abbrev pub machine : Machine (setup n start)
-  machine = replicas n start least most long owes
+  machine = replicas n start setting owes
 
   abbrev pub Good : ℕ → Memory → Type 0
-  Good = SoundAt n start least most long owes
+  Good = SoundAt n start setting owes
 
   abbrev pub machineOf : (ℕ → Journal ℤ) → Group → MachineSystem (setup n start) machine
   machineOf J g = record { memories = g .memories; journals = J; observed = g .observed; handouts = g .handouts; messages = map messageIn (g .blocks) }
@@ -204,13 +205,13 @@ module _ (n : ℕ) (start : List ℤ) (least : 2 ≤ n) (most : n ≤ 6) (long :
     pub disks : (k : ℕ) → k < n → OnDisk n (g .disks k .journal) (J k .kept)
 
   pub fresh-kept : Kept (λ k. journal [] 0) (fresh n start)
-  fresh-kept = record { sound = made-sound n start least most long owes; disks = λ k h. no-block n }
+  fresh-kept = record { sound = made-sound n start setting owes; disks = λ k h. no-block n }
 
   -- replica k's number is its own
   pub own-is : (k : ℕ) (m : Memory) → Good k m → k < n → m .group .own ≡ k
   own-is k m s below = go (s .stands)
     where
-      go : Standing n start least most long owes k m → m .group .own ≡ k
+      go : Standing n start setting owes k m → m .group .own ≡ k
       go (as-replica h q) = q
       go (as-station h q) = absurd (let w : ⊥ = omega arith in w)
 
@@ -223,7 +224,7 @@ module _ (n : ℕ) (start : List ℤ) (least : 2 ≤ n) (most : n ≤ 6) (long :
       → Kept (journalsNext J g c) (next g c)
   kept-next J g K c v f = record {
     sound = update-by Good (g .memories) (c .at) (did g c .memory)
-        (stays n start least most long owes (c .at) (g .memories (c .at)) (c .does) v (K .sound (c .at)) f) (λ j d. K .sound j);
+        (stays n start setting owes (c .at) (g .memories (c .at)) (c .does) v (K .sound (c .at)) f) (λ j d. K .sound j);
     disks = λ k h. by k h (eqb k (c .at)) refl;
   }
     where
@@ -264,7 +265,7 @@ module _ (n : ℕ) (start : List ℤ) (least : 2 ≤ n) (most : n ≤ 6) (long :
   -- the number of an accepted restart is below its N
   among : (m : Memory) (size own : ℕ) (values : List ℤ) (j l : List ℕ) (x : ℕ) (b : List ℕ) → restartStep m size own values j l .answer ≡ restarted x b → own < size
   among m size own values j l x b = restart-by (λ (o : Outcome). o .answer ≡ restarted x b → own < size) m size own values j l
-      (λ e q. restart-passed m size own values l e .among) (λ e q. absurd (let z : _≡_ {A = ℕ} 0 1 = cc in let w : ⊥ = omega arith in w))
+      (λ e q. restart-passed m size own values l e .below) (λ e q. absurd (let z : _≡_ {A = ℕ} 0 1 = cc in let w : ⊥ = omega arith in w))
 
   -- what is heard of a restart says that it was accepted
   accepted : (m : Memory) (size own : ℕ) (values : List ℤ) (j l : List ℕ) (held : List (Message ℤ)) (given : Option (Message ℤ))

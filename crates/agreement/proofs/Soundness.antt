@@ -1,5 +1,5 @@
 -- What holds of a replica's memory holds after every call: with the shape and what is sent, the size of its group and the values it wrote. Assumes nothing.
-use Prim.Native.Nat.{ℕ, zero, suc, _+_, _*_, _-_, _<_, _≤_}
+use Prim.Native.Nat.{ℕ, zero, suc, _+_, _*_, _-_, _<_}
 use mathlib.Core.Path.{_≡_, refl, sym, ap, _∙_}
 use mathlib.Core.Bool.{Bool, true, false, cond}
 use mathlib.Core.List.{List, [], _∷_}
@@ -13,7 +13,7 @@ use Rattle.memory.specs.Memory.{Memory, noNumber}
 use Rattle.memory.specs.Rows.{writeCount, itemsOf, countBelow, insertAt}
 use Rattle.memory.specs.Turns.{isOn, markApplying, advance}
 use Rattle.engine.specs.Calls.{Outcome}
-use Rattle.engine.specs.Make.{madeMemory}
+use Rattle.engine.specs.Make.{Setting, SettingOf, madeMemory}
 use Rattle.engine.specs.Station.{stationMemory}
 use Rattle.engine.specs.Client.{rowNo, rowIn, beginAt, rewriteAt, insertWrite, staleAt, readOnlyAt, queueAt, withdrawAt, reportStep}
 use Rattle.engine.specs.Moves.{sendRefusal, sendNow, deliverNow, passNext, isLast, commitWriteset}
@@ -137,10 +137,10 @@ sound-each n m s c e =
     let r = rest-each n m (record { size = s .size; fits = s .fits }) c e in
     record { over = s .over; shape = shapes .each m (s .shape) c; sent = sent-shapes .each m (s .shape) (s .sent) c; size = r .size; fits = r .fits }
 
-pub sound-made : (n k : ℕ) (start : List ℤ) → 2 ≤ n → n ≤ 6 → k < n → length start ≡ 128 → Sound n (madeMemory n k start)
+pub sound-made : (n k : ℕ) (start : List ℤ) → SettingOf n k start → Sound n (madeMemory n k start)
 unfolding madeMemory
-sound-made n k start l h o v = record { over = 0; shape = shapes .made n k start l h o v; sent = sent-shapes .made n k start; size = refl; fits = fits-zeros 48 }
+sound-made n k start g = record { over = 0; shape = shapes .made n k start g; sent = sent-shapes .made n k start; size = refl; fits = fits-zeros 48 }
 
-pub sound-station : (n : ℕ) (start : List ℤ) → 2 ≤ n → n ≤ 6 → length start ≡ 128 → Sound n (stationMemory n start)
+pub sound-station : (n : ℕ) (start : List ℤ) → Setting n start → Sound n (stationMemory n start)
 unfolding madeMemory
-sound-station n start l h v = record { over = 0; shape = shape-station n start l h v; sent = sent-shapes .made n noNumber start; size = refl; fits = fits-zeros 48 }
+sound-station n start g = record { over = 0; shape = shape-station n start g; sent = sent-shapes .made n noNumber start; size = refl; fits = fits-zeros 48 }

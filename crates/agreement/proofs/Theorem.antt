@@ -1,11 +1,11 @@
 -- Agreement, the theorem, and the invariant after a list of calls. Assumes nothing.
-use Prim.Native.Nat.{ℕ, _≤_}
-use mathlib.Core.Path.{_≡_, subst}
+use Prim.Native.Nat.{ℕ}
+use mathlib.Core.Path.{subst}
 use mathlib.Core.List.{List, []}
 use native.Mathlib.Omega.{arith}
 use lib.IntN.{ℤ}
-use lib.ListN.{length}
 use Rattle.memory.specs.Memory.{Memory}
+use Rattle.engine.specs.Make.{Setting}
 use Rattle.engine.specs.Step.{Call, step}
 use Rattle.engine.specs.Step.Call.{begin, read, write, ask, withdraw, report, send, deliver, work, load}
 use Rattle.protocol.specs.Journal.{Journal, journal}
@@ -40,28 +40,28 @@ owes n start m s work = work-owes n start m s
 owes n start m s (load l) = load-owes n start m s l
 
 pub agreement : AgreementTheorem
-agreement n start least most long cs f p =
-    agreement-from n start least most long (owes n start) cs f
-    (premise n start least most long (owes n start) cs f (λ k. journal [] 0) (fresh n start) (fresh-kept n start least most long (owes n start))
-    (fresh-inv (setup n start) (machine n start least most long (owes n start)) (places-apart n start)) (λ k h. omega arith) p)
+agreement n start setting cs f p =
+    agreement-from n start setting (owes n start) cs f
+    (premise n start setting (owes n start) cs f (λ k. journal [] 0) (fresh n start) (fresh-kept n start setting (owes n start))
+    (fresh-inv (setup n start) (machine n start setting (owes n start)) (places-apart n start)) (λ k h. omega arith) p)
 
 -- ---- the invariant after a list of calls
 
-module _ (n : ℕ) (start : List ℤ) (least : 2 ≤ n) (most : n ≤ 6) (long : length start ≡ 128) (cs : List CallAt) where
+module _ (n : ℕ) (start : List ℤ) (setting : Setting n start) (cs : List CallAt) where
   -- the model's journals
   abbrev pub journalsAfter : ℕ → Journal ℤ
-  journalsAfter = journalsRun n start least most long (owes n start) (λ j. journal [] 0) (fresh n start) cs
+  journalsAfter = journalsRun n start setting (owes n start) (λ j. journal [] 0) (fresh n start) cs
 
-  abbrev Inv : MachineSystem (setup n start) (machine n start least most long (owes n start)) → Type 0
-  Inv = MachineInv (setup n start) (machine n start least most long (owes n start)) (places-apart n start)
+  abbrev Inv : MachineSystem (setup n start) (machine n start setting (owes n start)) → Type 0
+  Inv = MachineInv (setup n start) (machine n start setting (owes n start)) (places-apart n start)
 
   abbrev pub InvAfter : Type 0
-  InvAfter = Inv (machineOf n start least most long (owes n start) journalsAfter (run (fresh n start) cs))
+  InvAfter = Inv (machineOf n start setting (owes n start) journalsAfter (run (fresh n start) cs))
 
   pub inv-after : Calls n cs → Premise n start cs → InvAfter
   inv-after f p =
-      let before = fresh-inv (setup n start) (machine n start least most long (owes n start)) (places-apart n start) in
-      subst Inv (runs n start least most long (owes n start) cs f (λ j. journal [] 0) (fresh n start))
-      (inv-commands (setup n start) (machine n start least most long (owes n start)) (places-apart n start) (commands n start least most long (owes n start) cs f)
-      (machineOf n start least most long (owes n start) (λ j. journal [] 0) (fresh n start)) before
-      (premise n start least most long (owes n start) cs f (λ j. journal [] 0) (fresh n start) (fresh-kept n start least most long (owes n start)) before (λ j h. omega arith) p))
+      let before = fresh-inv (setup n start) (machine n start setting (owes n start)) (places-apart n start) in
+      subst Inv (runs n start setting (owes n start) cs f (λ j. journal [] 0) (fresh n start))
+      (inv-commands (setup n start) (machine n start setting (owes n start)) (places-apart n start) (commands n start setting (owes n start) cs f)
+      (machineOf n start setting (owes n start) (λ j. journal [] 0) (fresh n start)) before
+      (premise n start setting (owes n start) cs f (λ j. journal [] 0) (fresh n start) (fresh-kept n start setting (owes n start)) before (λ j h. omega arith) p))

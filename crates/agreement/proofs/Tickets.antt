@@ -1,5 +1,5 @@
 -- No ticket of a replica is put down twice, nor stands twice in the own blocks of a journal that a restart is lent. Assumes nothing.
-use Prim.Native.Nat.{ℕ, _≤_}
+use Prim.Native.Nat.{ℕ}
 use mathlib.Core.Path.{_≡_, refl, sym, ap, _∙_, subst}
 use mathlib.Core.Logic.{_⊎_, inl, inr, _≢_, ∥∥₁-elim}
 use mathlib.Core.HLevel.{⊥-prop, ¬-prop}
@@ -7,9 +7,10 @@ use mathlib.Core.Bool.{Bool, true, false, cond}
 use mathlib.Core.List.{List, List·Mem, List·Memᴰ·append-cases, List·Memᴰ·cases-cons, List·Memᴰ·head, List·Memᴰ·not-nil, List·Memᴰ·tail, Memᴰ·append-left, Memᴰ·append-right, List·Nodup, Nodup·of-append-left, nodup-append, Pairwise·nil, Pairwise·map, Pairwise·of-map, [], _∷_, _++_, append-assoc, map}
 use native.Mathlib.Omega.{arith}
 use lib.IntN.{ℤ}
-use lib.ListN.{length, take, drop, take-append-drop}
+use lib.ListN.{take, drop, take-append-drop}
 use borrow.Author.Tests.{eqb-true}
 use Rattle.block.specs.Message.{Record}
+use Rattle.engine.specs.Make.{Setting}
 use Rattle.engine.specs.Calls.{Answer, Outcome}
 use Rattle.engine.specs.Calls.Answer.{restarted}
 use Rattle.engine.specs.Client.{reportOf}
@@ -113,17 +114,17 @@ module _ (n : ℕ) (start : List ℤ) where
 
 -- ---- the theorem
 
-once : (n : ℕ) (start : List ℤ) → 2 ≤ n → n ≤ 6 → length start ≡ 128 → (cs : List CallAt) → Calls n cs → Premise n start cs
+once : (n : ℕ) (start : List ℤ) → Setting n start → (cs : List CallAt) → Calls n cs → Premise n start cs
     → List·Nodup (map idOf (sequence (run (fresh n start) cs .handouts)))
-once n start least most long cs f p = inv-after n start least most long cs f p .inv .whole .once
+once n start setting cs f p = inv-after n start setting cs f p .inv .whole .once
 
 first-once : (c : ℕ) (F : List (Placed ℤ)) → List·Nodup (map idOf F) → List·Nodup (map idOf (take c F))
 first-once c F d = Nodup·of-append-left (map idOf (drop c F)) (subst List·Nodup (ap (map idOf) (sym (take-append-drop c F)) ∙ map-append idOf (take c F) (drop c F)) d)
 
-lent-once : (n : ℕ) (start : List ℤ) → 2 ≤ n → n ≤ 6 → length start ≡ 128 → (cs : List CallAt) → Calls n cs → Premise n start cs
+lent-once : (n : ℕ) (start : List ℤ) → Setting n start → (cs : List CallAt) → Calls n cs → Premise n start cs
     → (before : List CallAt) (k : ℕ) (journal block : List ℕ) (count : ℕ) (given : List ℕ) → Comes cs before (record { at = k; does = restart n k start journal block })
     → restartStep (run (fresh n start) before .memories k) n k start journal block .answer ≡ restarted count given → List·Nodup (ownTickets k (blocksIn n journal))
-lent-once n start least most long cs f p before k journal block count given q e =
+lent-once n start setting cs f p before k journal block count given q e =
     own-once n k (blocksIn n journal) (reads-good n 0 _ journal)
     (subst List·Nodup (sym (I .inv .each k .track .logged) ∙ seen) (first-once (G .memories k .counts .commits) (sequence (G .handouts)) (I .inv .whole .once)))
   where
@@ -133,10 +134,10 @@ lent-once n start least most long cs f p before k journal block count given q e 
     G : Group
     G = run (fresh n start) (before ++ (record { at = k; does = restart n k start journal block } ∷ []))
 
-    I : InvAfter n start least most long (before ++ (c ∷ []))
+    I : InvAfter n start setting (before ++ (c ∷ []))
     I =
         let e : cs ≡ (before ++ (c ∷ [])) ++ q .0 = q .1 ∙ sym (append-assoc before (c ∷ []) (q .0)) in
-        inv-after n start least most long (before ++ (c ∷ [])) (calls-part n start cs (before ++ (c ∷ [])) (q .0) e f) (premise-part n start cs (before ++ (c ∷ [])) (q .0) e (fresh n start) p)
+        inv-after n start setting (before ++ (c ∷ [])) (calls-part n start cs (before ++ (c ∷ [])) (q .0) e f) (premise-part n start cs (before ++ (c ∷ [])) (q .0) e (fresh n start) p)
 
     seen : run (fresh n start) (before ++ (c ∷ [])) .observed k .commits ≡ txnIds (map messageIn (blocksIn n journal))
     seen = ap (λ (g : Group). g .observed k .commits) (run-on before (fresh n start) c) ∙ commits-seen n start (run (fresh n start) before) k journal block count given e
@@ -144,8 +145,8 @@ lent-once n start least most long cs f p before k journal block count given q e 
 pub tickets : Tickets
 tickets = record {
   once = once;
-  restarts = λ n start least most long cs f p before k journal block count given q e.
-      let d = lent-once n start least most long cs f p before k journal block count given q e in (
+  restarts = λ n start setting cs f p before k journal block count given q e.
+      let d = lent-once n start setting cs f p before k journal block count given q e in (
         d,
         restart-by (λ (o : Outcome). o .answer ≡ restarted count given → CountsOf k (blocksIn n journal) (reportOf (o .memory))) (run (fresh n start) before .memories k) n k start journal block
             (λ z r. tickets-once .counts n k start journal d)

@@ -1,6 +1,11 @@
 -- The run of `specs/Worked.antt`, computed from the definitions. Assumes nothing.
-use mathlib.Core.Path.{refl}
-use mathlib.Core.List.{[], List·Memᴰ·head, List·Memᴰ·not-nil}
+use mathlib.Core.Path.{refl, ap}
+use mathlib.Core.Bool.{Bool, false}
+use mathlib.Core.List.{List, [], List·Memᴰ·head, List·Memᴰ·not-nil}
+use native.Mathlib.Omega.{arith}
+use lib.Dec.{eqb}
+use lib.IntN.{ℤ, pos, negsuc}
+use lib.ListN.{getD}
 use borrow.Author.Tests.{leb-true, le-leb}
 use Rattle.block.specs.Numbers.{bytesOf, numberFrom, valueBytes, valueOf}
 use Rattle.block.specs.Check.{word, sumTo, weightedTo, firstCheck, secondCheck, checkBytes, checkMatches}
@@ -19,12 +24,17 @@ use Rattle.engine.specs.Moves.{waiting, writesetOf, messageFor, sendRefusal, se
 use Rattle.engine.specs.Step.{step}
 use Rattle.engine.specs.Step.Call.{report}
 use Rattle.engine.specs.Restart.{isGood, blocksFrom, writesetsFrom, commitAll, commitBlocks, highestTicket, highestOwn, ownWritesets, lastOwn, restartedMemory, restartRefusal, restartStep}
+use Rattle.engine.specs.Worked.{zeros}
 use Rattle.engine.proofs.Tests.{clash}
 use Rattle.protocol.specs.Lists.{keep, any}
 use Rattle.protocol.specs.Writesets.{put}
 use Rattle.protocol.specs.Observer.{addPending, txnIds, observedAfter, handoutsAfter}
 use Rattle.agreement.specs.Group.{messageIn, heard, run}
-use Rattle.agreement.specs.Worked.{RightGroup}
+use Rattle.agreement.specs.Worked.{start, noBlock, RightGroup}
+
+abbrev isFour : ℤ → Bool
+isFour (pos n) = eqb n 4
+isFour (negsuc n) = false
 
 pub right-group : RightGroup
 unfolding bytesOf numberFrom valueBytes valueOf word sumTo weightedTo firstCheck secondCheck checkBytes checkMatches ownerOf within kindFits entriesFit recordFits recordsFit ticketAbsent ticketsDiffer valid signed32 entryBytes entriesBytes recordBytes recordsBytes headerFor headerBytes bodyBytes blockOf entryOf entriesOf recordOf recordsOf messageOf allZero entriesPadded recordPadded recordsPadded padded wellFormed firstOf blockRefusal headerOf recordAt entryAt entriesFrom bump openCount rowFrom rowOf freeRow indexFrom has holderFrom countBelow placeStart madeMemory placesFit partsFit hasClass classFrom classToCome mustWait beginRefusal beginAt beginRow writeRefusal rewriteAt insertWrite staleAt writeRow askRefusal readOnlyAt queueAt askRow reportOf reportStep waiting writesetOf messageFor sendRefusal sendNow sendStep sameBytes deliverRefusal deliverNow deliverStep entriesFor applied stamped shares afterAborts insertRising hitTickets without workRefusal passNext commitWriteset workStep step isGood blocksFrom writesetsFrom commitAll commitBlocks highestTicket highestOwn ownWritesets lastOwn restartedMemory restartRefusal restartStep keep any put addPending txnIds observedAfter handoutsAfter messageIn heard run
@@ -37,5 +47,7 @@ right-group = record {
   station = refl;
   station-values = refl;
   forged = λ p. List·Memᴰ·not-nil (p .delivered [] 1 _ ([], refl) refl);
+  other-number = λ p. absurd (omega (arith, p .lent [] 1 3 0 start [] noBlock 0 noBlock ([], refl) refl .1));
+  other-values = λ p. clash (ap (λ (l : List ℤ). isFour (getD l 9 (pos 0))) (p .lent [] 1 3 1 zeros [] noBlock 0 noBlock ([], refl) refl .2)) refl;
   too-large = λ f. clash (f _ (List·Memᴰ·head refl) .1) refl;
 }

@@ -6,6 +6,7 @@ use mathlib.Core.List.{List, map}
 use lib.IntN.{ℤ, pos}
 use lib.ListN.{length, getD, take}
 use Rattle.memory.specs.Memory.{Store}
+use Rattle.engine.specs.Make.{Setting}
 use Rattle.engine.specs.declared.Report.{Report}
 use Rattle.engine.specs.Calls.{Answer, Step}
 use Rattle.engine.specs.Calls.Answer.{refused, got, worked}
@@ -102,4 +103,4 @@ module _ (n : ℕ) (start : List ℤ) (cs : List CallAt) where
 
 -- for every group, starting values and list with the premise
 abbrev pub AgreementTheorem : Type 0
-AgreementTheorem = (n : ℕ) (start : List ℤ) → 2 ≤ n → n ≤ 6 → length start ≡ 128 → (cs : List CallAt) → Calls n cs → Premise n start cs → Agreement n start cs
+AgreementTheorem = (n : ℕ) (start : List ℤ) → Setting n start → (cs : List CallAt) → Calls n cs → Premise n start cs → Agreement n start cs

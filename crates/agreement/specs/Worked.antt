@@ -47,6 +47,10 @@ calls = at 0 (begin ∷ write 1 5 (pos 7) ∷ ask 1 ∷ begin ∷ write 2 6 (pos
 abbrev pub tornRestart : CallAt
 tornRestart = record { at = 1; does = restart 3 1 start (block0 ++ (block1 ++ take 100 block0)) noBlock }
 
+-- a restart of replica 1 from no journal, lent this number and these values
+abbrev pub restartWith : ℕ → List ℤ → List CallAt
+restartWith own values = record { at = 1; does = restart 3 own values [] noBlock } ∷ []
+
 -- replica 0 sends at once, a *next*
 abbrev pub nextBlock : List ℕ
 nextBlock = blockOf (record { kind = 1; sender = 0; replicas = 3; slot = 0; records = [] })
@@ -93,5 +97,8 @@ pub record RightGroup : Type 0 where
   pub station-values : getD (after [] .memories 3 .store .values) 9 (pos 0) ≡ pos 4
   -- a block that nobody handed out is not delivered
   pub forged : Premise 3 start (at 1 (deliver nextBlock ∷ [])) → ⊥
+  -- a restart that is accepted was lent its replica's number and the group's values
+  pub other-number : Premise 3 start (restartWith 0 start) → ⊥
+  pub other-values : Premise 3 start (restartWith 1 zeros) → ⊥
   -- a value of 33 bits is not written
   pub too-large : Calls 3 (at 0 (write 1 5 (pos 2147483648) ∷ [])) → ⊥

@@ -1,5 +1,5 @@
 -- A host's calls are the engine's: the table keeps its six rows. Assumes nothing.
-use Prim.Native.Nat.{ℕ, _≤_, _<_}
+use Prim.Native.Nat.{ℕ, _<_}
 use mathlib.Core.Path.{_≡_, refl, sym, ap, _∙_}
 use mathlib.Core.Bool.{true}
 use mathlib.Core.List.{List, List·Memᴰ·head, List·Memᴰ·not-nil, List·Memᴰ·tail, [], _∷_, _++_, map}
@@ -10,7 +10,7 @@ use Rattle.memory.specs.Memory.{Memory, isStation}
 use Rattle.engine.specs.Calls.{Outcome, outcome, unlessStation}
 use Rattle.engine.specs.Calls.Answer.{refused}
 use Rattle.engine.specs.Shape.{Shape}
-use Rattle.engine.specs.Make.{madeMemory, makeStep}
+use Rattle.engine.specs.Make.{Setting, madeMemory, makeStep}
 use Rattle.engine.specs.Moves.{sendStep, workStep}
 use Rattle.engine.specs.Client.{beginStep, readStep, writeStep, askStep, withdrawStep, reportStep}
 use Rattle.engine.specs.Step.{Call, step, after}
@@ -71,7 +71,7 @@ station-list (c ∷ cs) m s =
     ap (λ (o : Outcome). hostAfter (o .memory) (map call cs)) (host-six m (s .lengths .table) c)
     ∙ station-list cs (step m c .memory) (shapes .each m s c)
 
-module _ (n : ℕ) (start : List ℤ) (least : 2 ≤ n) (most : n ≤ 6) (long : length start ≡ 128) where
+module _ (n : ℕ) (start : List ℤ) (setting : Setting n start) where
   -- behind a first part of the list
   group-of : (cs before : List CallAt) → Calls n before → Calls n cs → hostRun (run (fresh n start) before) cs ≡ run (run (fresh n start) before) cs
   unfolding hostRun run
@@ -80,7 +80,7 @@ module _ (n : ℕ) (start : List ℤ) (least : 2 ≤ n) (most : n ≤ 6) (long :
       let g = run (fresh n start) before in
       let on : run (fresh n start) (before ++ (c ∷ [])) ≡ next g c = run-on before (fresh n start) c in
       let here = f c (List·Memᴰ·head refl) in
-      ap (λ (o : Outcome). hostRun (nextBy o g c) cs) (any-six (g .memories (c .at)) (six-rows .tables n start least most long before b (c .at)) (c .does))
+      ap (λ (o : Outcome). hostRun (nextBy o g c) cs) (any-six (g .memories (c .at)) (six-rows .tables n start setting before b (c .at)) (c .does))
       ∙ ap (λ (x : Group). hostRun x cs) (sym on)
       ∙ group-of cs (before ++ (c ∷ [])) (snoc-all _ before c b here) (λ d q. f d (List·Memᴰ·tail q))
       ∙ ap (λ (x : Group). run x cs) on
@@ -107,9 +107,9 @@ hosted = record {
   station-sends = station-sends;
   works = works;
   works-not = works-not;
-  steps = λ n own values least most mine long cs c. any-six _ (shapes .all n own values least most mine long cs .lengths .table) c;
-  lists = λ n own values least most mine long cs. list-of cs (madeMemory n own values) (made-reached n own values least most mine long);
-  station-steps = λ n values least most long cs c. host-six _ (stations .shape n values least most long cs .lengths .table) c;
-  station-lists = λ n values least most long cs. station-list cs (stationMemory n values) (shape-station n values least most long);
+  steps = λ n own values setting cs c. any-six _ (shapes .all n own values setting cs .lengths .table) c;
+  lists = λ n own values setting cs. list-of cs (madeMemory n own values) (made-reached n own values setting);
+  station-steps = λ n values setting cs c. host-six _ (stations .shape n values setting cs .lengths .table) c;
+  station-lists = λ n values setting cs. station-list cs (stationMemory n values) (shape-station n values setting);
   groups = group;
 }

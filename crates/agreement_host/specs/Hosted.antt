@@ -2,7 +2,7 @@
 -- and a load are lent none, and have the step itself), and a work also has `withBlock`, the test of the bytes lent for the block to append; on every memory that calls lead to, with 512 bytes
 -- lent, it is the step, and with any other length it is refused by 1. In front of the table's length a write and a send have the test for a station, `unlessStation`. So what is
 -- proved of lists of calls, the agreement of the copies too, is proved of what hosts' calls do, one after the other, restarts too.
-use Prim.Native.Nat.{ℕ, _≤_, _<_}
+use Prim.Native.Nat.{ℕ}
 use mathlib.Core.Path.{_≡_}
 use mathlib.Core.Bool.{true}
 use mathlib.Core.List.{List, [], _∷_, map}
@@ -11,7 +11,7 @@ use lib.ListN.{length}
 use Rattle.memory.specs.Memory.{Memory, isStation}
 use Rattle.engine.specs.Calls.{Outcome, outcome, unlessStation}
 use Rattle.engine.specs.Calls.Answer.{refused}
-use Rattle.engine.specs.Make.{madeMemory, makeStep}
+use Rattle.engine.specs.Make.{Setting, SettingOf, madeMemory, makeStep}
 use Rattle.engine.specs.Moves.{sendStep, deliverStep, workStep}
 use Rattle.engine.specs.Classes.{loadStep}
 use Rattle.engine.specs.Client.{beginStep, readStep, writeStep, askStep, withdrawStep, reportStep}
@@ -64,16 +64,16 @@ pub record Hosted : Type 0 where
   -- lent any other length it is refused by 1, whatever the table, and the memory is as before
   pub works-not : (m : Memory) (block : List ℕ) → (length block ≡ 512 → ⊥) → called (withBlock block workStep) m ≡ outcome (refused 1) m
   -- one call or restart
-  pub steps : (n own : ℕ) (values : List ℤ) → 2 ≤ n → n ≤ 6 → own < n → length values ≡ 128 → (cs : List AnyCall) (c : AnyCall)
+  pub steps : (n own : ℕ) (values : List ℤ) → SettingOf n own values → (cs : List AnyCall) (c : AnyCall)
       → let m = afterAll (madeMemory n own values) cs in hostAny m c ≡ anyStep m c
   -- a list of calls and restarts
-  pub lists : (n own : ℕ) (values : List ℤ) → 2 ≤ n → n ≤ 6 → own < n → length values ≡ 128 → (cs : List AnyCall)
+  pub lists : (n own : ℕ) (values : List ℤ) → SettingOf n own values → (cs : List AnyCall)
       → hostAfter (madeMemory n own values) cs ≡ afterAll (madeMemory n own values) cs
   -- the same of a station, which has no restart
-  pub station-steps : (n : ℕ) (values : List ℤ) → 2 ≤ n → n ≤ 6 → length values ≡ 128 → (cs : List Call) (c : Call)
+  pub station-steps : (n : ℕ) (values : List ℤ) → Setting n values → (cs : List Call) (c : Call)
       → let m = after (stationMemory n values) cs in hostStep m c ≡ step m c
-  pub station-lists : (n : ℕ) (values : List ℤ) → 2 ≤ n → n ≤ 6 → length values ≡ 128 → (cs : List Call)
+  pub station-lists : (n : ℕ) (values : List ℤ) → Setting n values → (cs : List Call)
       → hostAfter (stationMemory n values) (map call cs) ≡ after (stationMemory n values) cs
   -- a group with its stations, with any bytes, any journals and no premise
-  pub groups : (n : ℕ) (start : List ℤ) → 2 ≤ n → n ≤ 6 → length start ≡ 128 → (cs : List CallAt) → Calls n cs
+  pub groups : (n : ℕ) (start : List ℤ) → Setting n start → (cs : List CallAt) → Calls n cs
       → hostRun (fresh n start) cs ≡ run (fresh n start) cs

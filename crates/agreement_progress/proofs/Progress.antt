@@ -15,6 +15,7 @@ use Rattle.block.specs.Answers.{headerOf}
 use Rattle.block.proofs.BoolLaws.{joined, not-so}
 use Rattle.memory.specs.Memory.{Memory, noNumber, maxSlots}
 use Rattle.memory.specs.Turns.{isEmpty}
+use Rattle.engine.specs.Make.{Setting}
 use Rattle.engine.specs.Calls.{Outcome}
 use Rattle.engine.specs.Calls.Answer.{restarted}
 use Rattle.engine.specs.Moves.{sentAlready, sameBytes, slotPast, isOwnBlock, notSentHere, nothingWaits}
@@ -62,7 +63,7 @@ walk P before (c ∷ cs) p f =
 
 -- ---- the group after a list of calls with the premise
 
-module _ (n : ℕ) (start : List ℤ) (least : 2 ≤ n) (most : n ≤ 6) (long : length start ≡ 128) where
+module _ (n : ℕ) (start : List ℤ) (setting : Setting n start) where
   abbrev at : List CallAt → Group
   at cs = run (fresh n start) cs
 
@@ -73,21 +74,21 @@ module _ (n : ℕ) (start : List ℤ) (least : 2 ≤ n) (most : n ≤ 6) (long :
   D cs = run (fresh n start) cs .handouts
 
   module _ (cs : List CallAt) (f : Calls n cs) (p : Premise n start cs) where
-    inv : InvAfter n start least most long cs
-    inv = inv-after n start least most long cs f p
+    inv : InvAfter n start setting cs
+    inv = inv-after n start setting cs f p
 
     -- every member's memory, a station's too
-    stood : (k : ℕ) → SoundAt n start least most long (owes n start) k (mem cs k)
-    stood = kept-run n start least most long (owes n start) cs f (λ j. journal [] 0) (fresh n start) p (fresh-kept n start least most long (owes n start)) .sound
+    stood : (k : ℕ) → SoundAt n start setting (owes n start) k (mem cs k)
+    stood = kept-run n start setting (owes n start) cs f (λ j. journal [] 0) (fresh n start) p (fresh-kept n start setting (owes n start)) .sound
 
     held : (k : ℕ) → k < n → FilledAt n (mem cs k) (at cs .disks k .journal)
-    held = filled-after n start least most long cs f
+    held = filled-after n start setting cs f
 
     size-at : (k : ℕ) → k < n → mem cs k .group .replicas ≡ n
     size-at k h = held k h .sound .size
 
     own-at : (k : ℕ) → k < n → mem cs k .group .own ≡ k
-    own-at k h = own-is n start least most long (owes n start) k (mem cs k) (stood k) h
+    own-at k h = own-is n start setting (owes n start) k (mem cs k) (stood k) h
 
     reach : (k : ℕ) → mem cs k .turn .slot ≤ length (D cs)
     reach k = inv .inv .each k .track .reach
@@ -131,7 +132,7 @@ module _ (n : ℕ) (start : List ℤ) (least : 2 ≤ n) (most : n ≤ 6) (long :
     -- who has sent for its turn has handed out its slot
     sent-known : (k : ℕ) → k < n → sentAlready (mem cs k) ≡ true → mem cs k .turn .slot < length (D cs)
     sent-known k h e =
-        let J = journals n start least most long cs f p k h in
+        let J = journals n start setting cs f p k h in
         let t : blocksAt (mem cs k .turn) ≡ mem cs k .turn .slot + 1 = rw e refl in
         let a = ap length (J .messages) in
         let b = length-map (blocksIn n (at cs .disks k .journal)) messageIn in
@@ -191,7 +192,7 @@ module _ (n : ℕ) (start : List ℤ) (least : 2 ≤ n) (most : n ≤ 6) (long :
       marked : (b : List ℕ) → Mem b (at cs .blocks) → headerOf b .sender ≡ c .at → headerOf b .slot ≡ mem cs (c .at) .turn .slot → sentAlready (mem cs (c .at)) ≡ true
       marked b q o z = mark cs f p (c .at) (ap (ownerOf n) (sym z) ∙ sym (owner-of b (B .good b q)) ∙ o) (subst (λ (s : ℕ). s < length (D cs)) z (known cs f p b q))
 
-      by : Standing n start least most long (owes n start) (c .at) (mem cs (c .at)) → Blocks (next (at cs) c)
+      by : Standing n start setting (owes n start) (c .at) (mem cs (c .at)) → Blocks (next (at cs) c)
       by (as-replica h e) = blocks-by cs c (c .at) (λ l. refl) (λ l. refl) B (hands n (c .at) (mem cs (c .at)) (at cs .blocks) s e (B .last (c .at) h) marked start (c .does) lent)
       by (as-station h e) =
           blocks-by cs c noNumber (λ l. absurd (let w : ⊥ = omega arith in w)) (λ l. absurd (let w : ⊥ = omega arith in w)) B
@@ -299,7 +300,7 @@ module _ (n : ℕ) (start : List ℤ) (least : 2 ≤ n) (most : n ≤ 6) (long :
 
 -- ---- the theorem
 
-module _ (n : ℕ) (start : List ℤ) (least : 2 ≤ n) (most : n ≤ 6) (long : length start ≡ 128) (cs : List CallAt) (f : Calls n cs) (p : Premise n start cs) where
+module _ (n : ℕ) (start : List ℤ) (setting : Setting n start) (cs : List CallAt) (f : Calls n cs) (p : Premise n start cs) where
   abbrev now : ℕ → Memory
   now k = run (fresh n start) cs .memories k
 
@@ -312,9 +313,9 @@ module _ (n : ℕ) (start : List ℤ) (least : 2 ≤ n) (most : n ≤ 6) (long :
   -- the block of the turn has come
   behind : AllGiven n start cs → (k : ℕ) → k < n → now k .turn .slot < length down → Goes
   behind given k h l =
-      let b = found n start least most long cs f p (now k .turn .slot) l in
-      let R = held n start least most long cs f p k h in
-      (k, h, inr (works (now k) (R .sound .shape) (waits (b .0) (b .2) (come-all n start least most long cs f p k h (b .0) (given k h (b .0) (b .1) (let e = b .2 in omega arith))))))
+      let b = found n start setting cs f p (now k .turn .slot) l in
+      let R = held n start setting cs f p k h in
+      (k, h, inr (works (now k) (R .sound .shape) (waits (b .0) (b .2) (come-all n start setting cs f p k h (b .0) (given k h (b .0) (b .1) (let e = b .2 in omega arith))))))
     where
       waits : (b : List ℕ) → headerOf b .slot ≡ now k .turn .slot → HasCome (headerOf b .slot) (now k) → nothingWaits (now k) ≡ false
       waits b e (inl q) = absurd (let z : ⊥ = omega arith in z)
@@ -325,31 +326,31 @@ module _ (n : ℕ) (start : List ℤ) (least : 2 ≤ n) (most : n ≤ 6) (long :
   unfolding ownerOf
   level t all l h =
       let k = t % n in
-      let u : t % n < n = mod-lt t {m = n} (omega arith) in
+      let u : t % n < n = mod-lt t {m = n} (omega (arith, setting .least)) in
       let e = all (t % n) u in
-      let R = held n start least most long cs f p (t % n) u in
-      let o : ownerOf (now (t % n) .group .replicas) (now (t % n) .turn .slot) ≡ now (t % n) .group .own = rw (R .sound .size, e, own-at n start least most long cs f p (t % n) u) in
-      let s : sentAlready (now (t % n)) ≡ false = not-so (sentAlready (now (t % n))) (λ q. let z = sent-known n start least most long cs f p (t % n) u q in omega arith) in
+      let R = held n start setting cs f p (t % n) u in
+      let o : ownerOf (now (t % n) .group .replicas) (now (t % n) .turn .slot) ≡ now (t % n) .group .own = rw (R .sound .size, e, own-at n start setting cs f p (t % n) u) in
+      let s : sentAlready (now (t % n)) ≡ false = not-so (sentAlready (now (t % n))) (λ q. let z = sent-known n start setting cs f p (t % n) u q in omega arith) in
       (t % n, u, inl (λ lent z. sends (now (t % n)) (R .sound .shape) lent z (omega arith) o s))
 
   goes : AllGiven n start cs → SlotsLeft n start cs → Goes
   goes given some =
-      let r = lowest n start least most long (λ (k : ℕ). now k .turn .slot) (n - 1) in
+      let r = lowest n start setting (λ (k : ℕ). now k .turn .slot) (n - 1) in
       let k = r .0 in
       let a = r .1 in
-      let h : r .0 < n = omega arith in
+      let h : r .0 < n = omega (arith, setting .least) in
       let low : (j : ℕ) → j < n → now (r .0) .turn .slot ≤ now j .turn .slot = (λ j u. r .2 j (omega arith)) in
       less-by (now (r .0) .turn .slot) (length down) (behind given (r .0) h)
       (λ l. level (now (r .0) .turn .slot)
-      (λ j u. let x = low j u in let y = reach n start least most long cs f p j in omega arith) l
+      (λ j u. let x = low j u in let y = reach n start setting cs f p j in omega arith) l
       (let x = low (some .0) (some .1) in let y = some .2 in omega arith))
 
 pub progress : ProgressTheorem
-progress n start least most long cs f p = goes n start least most long cs f p
+progress n start setting cs f p = goes n start setting cs f p
 
 pub handed-answers : HandedAnswers
 unfolding refusalOf
-handed-answers n start least most long cs f p k h b q =
+handed-answers n start setting cs f p k h b q =
     let m = run (fresh n start) cs .memories k in
     subst (λ (a : ℕ). (a ≡ 0) ⊎ ((a ≡ 17) ⊎ (a ≡ 20))) (sym (refusals .number (run (fresh n start) cs .memories k) (deliver b)))
-    (given-number (run (fresh n start) cs .memories k) (held n start least most long cs f p k h .sound .shape) b (givable n start least most long cs f p k h b q))
+    (given-number (run (fresh n start) cs .memories k) (held n start setting cs f p k h .sound .shape) b (givable n start setting cs f p k h b q))

@@ -9,6 +9,7 @@ use lib.IntN.{ℤ}
 use lib.ListN.{length}
 use Rattle.block.specs.Answers.{headerOf}
 use Rattle.memory.specs.Memory.{Memory, maxSlots}
+use Rattle.engine.specs.Make.{Setting}
 use Rattle.engine.specs.Calls.{numberOf}
 use Rattle.engine.specs.Calls.Answer.{restarted}
 use Rattle.engine.specs.Step.{step}
@@ -47,12 +48,12 @@ abbrev pub CanWork : Memory → Type 0
 CanWork m = numberOf (step m work .answer) ≡ 0
 
 abbrev pub ProgressTheorem : Type 0
-ProgressTheorem = (n : ℕ) (start : List ℤ) → 2 ≤ n → n ≤ 6 → length start ≡ 128 → (cs : List CallAt) → Calls n cs → Premise n start cs → AllGiven n start cs → SlotsLeft n start cs
+ProgressTheorem = (n : ℕ) (start : List ℤ) → Setting n start → (cs : List CallAt) → Calls n cs → Premise n start cs → AllGiven n start cs → SlotsLeft n start cs
     → let g = run (fresh n start) cs in (k : ℕ) × (k < n) × (CanSend (g .memories k) ⊎ CanWork (g .memories k))
 
 -- What a host may drop. At a replica a block handed out that is delivered is kept, or answered 17 or 20: never 18, nor 19. So a block answered 18 there was handed out by nobody so far.
 -- At a station 18 may come for one (`StationRun`), and it is to be delivered again.
 abbrev pub HandedAnswers : Type 0
-HandedAnswers = (n : ℕ) (start : List ℤ) → 2 ≤ n → n ≤ 6 → length start ≡ 128 → (cs : List CallAt) → Calls n cs → Premise n start cs
+HandedAnswers = (n : ℕ) (start : List ℤ) → Setting n start → (cs : List CallAt) → Calls n cs → Premise n start cs
     → (k : ℕ) → k < n → (b : List ℕ) → let g = run (fresh n start) cs in Mem b (g .blocks)
     → let a = numberOf (step (g .memories k) (deliver b) .answer) in (a ≡ 0) ⊎ ((a ≡ 17) ⊎ (a ≡ 20))

@@ -204,7 +204,7 @@ absolute (negsuc n) = n
 -- two replicas that committed as much hold the same values
 forged-apart : Premise 3 zeros forgery → Calls 3 forgery → held forgery 0 ≡ holding (set zeros 5 (pos 84)) 1 → held forgery 1 ≡ holding (set zeros 5 (pos 86)) 1 → ⊥
 forged-apart p f a b =
-    let A = agreement 3 zeros (omega arith) (omega arith) (length-replicate 128 (pos 0)) forgery f p in
+    let A = agreement 3 zeros (record { least = omega arith; most = omega arith; long = length-replicate 128 (pos 0) }) forgery f p in
     let u = A .replicas 0 (omega arith) .values in
     let v = A .replicas 1 (omega arith) .values in
     let c : reportOf (after forgery .memories 0) .commits ≡ reportOf (after forgery .memories 1) .commits = ap (λ (h : HeldBy). h .commits) a ∙ sym (ap (λ (h : HeldBy). h .commits) b) in

@@ -1,13 +1,12 @@
 -- Report and the queue are those of the history, with restarts among the calls. Assumes nothing.
-use Prim.Native.Nat.{ℕ, _≤_, _<_}
+use Prim.Native.Nat.{ℕ}
 use mathlib.Core.Path.{_≡_, ap, _∙_}
 use mathlib.Core.List.{List, [], _∷_}
 use lib.IntN.{ℤ}
-use lib.ListN.{length}
 use borrow.Author.Tests.{ne-eqb}
 use Rattle.memory.specs.Memory.{Memory}
 use Rattle.engine.specs.Calls.{Outcome}
-use Rattle.engine.specs.Make.{madeMemory}
+use Rattle.engine.specs.Make.{SettingOf, madeMemory}
 use Rattle.engine.specs.Moves.{waiting}
 use Rattle.engine.specs.Step.{Call, step}
 use Rattle.engine.specs.Restart.{blocksIn, highestOwn, ownWritesets, restartedMemory, restartRefusal}
@@ -35,20 +34,20 @@ told h m f = record { report = report-from m (f .shape) ∙ ap (reportFrom (h .o
 
 -- ---- where it begins
 
-made-follows : (n own : ℕ) (values : List ℤ) → 2 ≤ n → n ≤ 6 → own < n → length values ≡ 128 → Follows (begun own []) (madeMemory n own values)
+made-follows : (n own : ℕ) (values : List ℤ) → SettingOf n own values → Follows (begun own []) (madeMemory n own values)
 unfolding highestOwn ownWritesets writesetCount
-made-follows n own values l h o v = record {
-  shape = shapes .made n own values l h o v;
+made-follows n own values g = record {
+  shape = shapes .made n own values g;
   sent = sent-shapes .made n own values;
   own = made-own n own values;
   numbers = made-kept n own values;
   queue = made-empty n own values;
 }
 
-restarted-follows : (n own : ℕ) (values : List ℤ) → 2 ≤ n → n ≤ 6 → own < n → length values ≡ 128 → (journal : List ℕ)
+restarted-follows : (n own : ℕ) (values : List ℤ) → SettingOf n own values → (journal : List ℕ)
     → Follows (begun own (blocksIn n journal)) (restartedMemory n own values (blocksIn n journal))
-restarted-follows n own values l h o v journal = record {
-  shape = shapes .restarted n own values l h o v journal;
+restarted-follows n own values g journal = record {
+  shape = shapes .restarted n own values g journal;
   sent = sent-shapes .restarted n own values journal;
   own = restarted-own n own values (blocksIn n journal);
   numbers = restarted-kept n own values journal;
@@ -74,7 +73,7 @@ any-follows : (h : History) (m : Memory) → Follows h m → (c : AnyCall) → F
 any-follows h m f (call c) = call-follows h m f c
 any-follows h m f (restart n own values journal block) =
     restart-by (λ (o : Outcome). Follows (historyAfter h (restart n own values journal block) (o .answer)) (o .memory)) m n own values journal block
-    (λ e. let p = restart-passed m n own values block e in restarted-follows n own values (p .least) (p .most) (p .among) (p .long) journal)
+    (λ e. let p = restart-passed m n own values block e in restarted-follows n own values p journal)
     (λ z. rw (ne-eqb (restartRefusal m n own values block) 0 z) f)
 
 all-follow : (h : History) (m : Memory) → Follows h m → (cs : List AnyCall) → Follows (history h m cs) (afterAll m cs)
@@ -84,11 +83,11 @@ all-follow h m f (c ∷ cs) = all-follow (historyAfter h c (anyStep m c .answer)
 
 pub histories : Histories
 histories = record {
-  made = λ n own values l h o v cs.
+  made = λ n own values g cs.
       let m = madeMemory n own values in
-      told (history (begun own []) m cs) (afterAll m cs) (all-follow (begun own []) m (made-follows n own values l h o v) cs);
-  restarted = λ n own values l h o v journal cs.
+      told (history (begun own []) m cs) (afterAll m cs) (all-follow (begun own []) m (made-follows n own values g) cs);
+  restarted = λ n own values g journal cs.
       let b = begun own (blocksIn n journal) in
       let m = restartedMemory n own values (blocksIn n journal) in
-      told (history b m cs) (afterAll m cs) (all-follow b m (restarted-follows n own values l h o v journal) cs);
+      told (history b m cs) (afterAll m cs) (all-follow b m (restarted-follows n own values g journal) cs);
 }

@@ -1,15 +1,11 @@
 -- A replica is no station, after any calls and restarts, and 25 is a station's alone. Assumes nothing.
-use Prim.Native.Nat.{ℕ, _≤_, _<_}
+use Prim.Native.Nat.{ℕ}
 use mathlib.Core.Path.{_≡_, refl, sym, ap, _∙_}
 use mathlib.Core.Bool.{true, false, not}
 use mathlib.Core.List.{List, [], _∷_}
 use native.Mathlib.Omega.{arith}
-use lib.Dec.{leb}
 use lib.IntN.{ℤ}
-use borrow.Author.Tests.{leb-false, not-false}
 use Rattle.block.specs.Answers.{Refusal, refuse, firstOf}
-use Rattle.block.specs.Message.{within}
-use Rattle.block.proofs.BoolLaws.{is-within}
 use Rattle.memory.specs.Memory.{Memory, isStation}
 use Rattle.engine.specs.Calls.{numberOf, Outcome}
 use Rattle.engine.specs.Calls.Answer.{refused}
@@ -23,9 +19,9 @@ use Rattle.engine.specs.Step.Call.{begin, read, write, ask, withdraw, re
 use Rattle.engine.specs.History.{AnyCall, anyStep, afterAll}
 use Rattle.engine.specs.History.AnyCall.{call, restart}
 use Rattle.engine.specs.Station.{Numbered}
-use Rattle.engine.proofs.Tests.{cond-by, lacks, not-first, passes, unless-by}
+use Rattle.engine.proofs.Tests.{cond-by, lacks, not-first, unless-by}
 use Rattle.engine.proofs.Steps.{restart-by}
-use Rattle.engine.proofs.Passed.{neither, restart-passed}
+use Rattle.engine.proofs.Passed.{make-passed, restart-passed}
 use Rattle.engine.proofs.Refusals.{refusals}
 use Rattle.engine.proofs.Restarts.{restarts}
 use Rattle.engine.proofs.Reports.{made-own, restarted-own}
@@ -57,25 +53,16 @@ replica-numbers m h (load l) e = not-first 25 _ refl e
 
 -- ---- a number that is lent
 
--- what a make that is not refused was lent
-make-passed : (m : Memory) (n own : ℕ) (values : List ℤ) → makeRefusal m n own values ≡ 0 → (n ≤ 6) × (own < n)
-unfolding makeRefusal
-make-passed m n own values e =
-    let a = passes _ _ refl e in
-    let b = passes _ _ refl (a .1) in
-    let s = neither (not (within 2 6 n)) (leb n own) (b .0) in
-    (is-within 2 6 n (not-false _ (s .0)) .below, leb-false n own (s .1))
-
 made-numbered : (m : Memory) (n own : ℕ) (values : List ℤ) → makeRefusal m n own values ≡ 0 → isStation (makeStep m n own values .memory) ≡ false
 unfolding makeStep
 made-numbered m n own values z =
     unless-by (λ (o : Outcome). isStation (o .memory) ≡ false) (makeRefusal m n own values) m
-    (λ e. let p = make-passed m n own values e in numbered (madeMemory n own values) n own (made-own n own values) (p .1) (p .0)) (λ e. absurd (e z))
+    (λ e. let p = make-passed m n own values e in numbered (madeMemory n own values) n own (made-own n own values) (p .below) (p .group .most)) (λ e. absurd (e z))
 
 restarted-numbered : (m : Memory) (n own : ℕ) (values : List ℤ) (journal block : List ℕ) → restartRefusal m n own values block ≡ 0 → isStation (restartStep m n own values journal block .memory) ≡ false
 restarted-numbered m n own values journal block z =
     restart-by (λ (o : Outcome). isStation (o .memory) ≡ false) m n own values journal block
-    (λ e. let p = restart-passed m n own values block e in numbered (restartedMemory n own values (blocksIn n journal)) n own (restarted-own n own values (blocksIn n journal)) (p .among) (p .most)) (λ e. absurd (e z))
+    (λ e. let p = restart-passed m n own values block e in numbered (restartedMemory n own values (blocksIn n journal)) n own (restarted-own n own values (blocksIn n journal)) (p .below) (p .group .most)) (λ e. absurd (e z))
 
 -- ---- a list
 
@@ -91,9 +78,9 @@ pub replicas-numbered : Numbered
 replicas-numbered = record {
   makes = made-numbered;
   restarts = restarted-numbered;
-  stays = λ n own values l h o v cs.
-      let R = all-reached (madeMemory n own values) (made-reached n own values l h o v) cs in
+  stays = λ n own values g cs.
+      let R = all-reached (madeMemory n own values) (made-reached n own values g) cs in
       (R .replica, R .shape .ranges .own (R .replica));
-  never-25 = λ n own values l h o v cs c.
-      any-numbers (afterAll (madeMemory n own values) cs) (all-reached (madeMemory n own values) (made-reached n own values l h o v) cs .replica) c;
+  never-25 = λ n own values g cs c.
+      any-numbers (afterAll (madeMemory n own values) cs) (all-reached (madeMemory n own values) (made-reached n own values g) cs .replica) c;
 }

@@ -149,7 +149,7 @@ pub one-class : OneClass
 one-class = record {
   writes = λ m S h u. write-same m S u h;
   kept = kept;
-  made = λ n own values l h o v. write-after (madeMemory n own values) (made-reached n own values l h o v) (made-none n own values);
-  restarted = λ n own values l h o v journal.
-      write-after (restartedMemory n own values (blocksIn n journal)) (restarted-reached n own values l h o v journal) (restarted-none n own values (blocksIn n journal));
+  made = λ n own values g. write-after (madeMemory n own values) (made-reached n own values g) (made-none n own values);
+  restarted = λ n own values g journal.
+      write-after (restartedMemory n own values (blocksIn n journal)) (restarted-reached n own values g journal) (restarted-none n own values (blocksIn n journal));
 }

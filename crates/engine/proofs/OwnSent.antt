@@ -109,8 +109,8 @@ none-gives m (restart n own values journal block) e = restart-lacks m n own valu
 
 pub own-sent-ever : OwnSent
 own-sent-ever = record {
-  met = λ n own values l h o v cs w e.
-      let R = all-reached (madeMemory n own values) (made-reached n own values l h o v) cs in
+  met = λ n own values g cs w e.
+      let R = all-reached (madeMemory n own values) (made-reached n own values g) cs in
       sent-met (afterAll (madeMemory n own values) cs) (R .shape) (R .sent) w e;
   altered = ends-nobody;
   gone = none-gives;

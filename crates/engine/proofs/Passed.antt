@@ -18,7 +18,7 @@ use Rattle.memory.specs.Turns.{isEmpty}
 use Rattle.engine.specs.Classes.{loadRefusal}
 use Rattle.engine.specs.Client.{freeNo, rowNo, rowIn, isOwn, notOpen, notActive, heldByOther, beginRefusal, writeRefusal, askRefusal, withdrawRefusal}
 use Rattle.engine.specs.Moves.{sentAlready, sendRefusal, sameBytes, isOwnBlock, deliverRefusal, workRefusal}
-use Rattle.engine.specs.Make.{placesFit, slicesFit, partsFit}
+use Rattle.engine.specs.Make.{SettingOf, placesFit, slicesFit, partsFit, sizeOut, makeRefusal}
 use Rattle.engine.specs.Restart.{restartRefusal}
 use Rattle.engine.proofs.Tests.{bool-by, clash, passes}
 
@@ -186,26 +186,29 @@ pub load-passed : (m : Memory) (l : List ℕ) → loadRefusal m l ≡ 0 → leng
 unfolding loadRefusal
 load-passed m l e = eqb-true (length l) 128 (both-so (eqb (length (m .store .classes)) 128) (eqb (length l) 128) (passes _ _ refl e .0) .right)
 
--- ---- restart
+-- ---- make and restart
 
-pub record RestartPassed (n own : ℕ) (values : List ℤ) : Type 0 where
-  pub least : 2 ≤ n
-  pub most : n ≤ 6
-  pub among : own < n
-  pub long : length values ≡ 128
-
-pub neither : (a b : Bool) → a || b ≡ false → (a ≡ false) × (b ≡ false)
+neither : (a b : Bool) → a || b ≡ false → (a ≡ false) × (b ≡ false)
 neither true b h = clash {b = true} refl h
 neither false b h = (refl, h)
 
-pub restart-passed : (m : Memory) (n own : ℕ) (values : List ℤ) (block : List ℕ) → restartRefusal m n own values block ≡ 0 → RestartPassed n own values
+lent-setting : (n own : ℕ) (values : List ℤ) (fit : Bool) → not (eqb (length values) 128 && fit) ≡ false → sizeOut n own ≡ false → SettingOf n own values
+lent-setting n own values fit l s =
+    let z = neither (not (within 2 6 n)) (leb n own) s in
+    let w = is-within 2 6 n (not-false _ (z .0)) in
+    record { group = record { least = w .above; most = w .below; long = eqb-true _ _ (both-so _ _ l .left) }; below = leb-false n own (z .1) }
+
+pub make-passed : (m : Memory) (n own : ℕ) (values : List ℤ) → makeRefusal m n own values ≡ 0 → SettingOf n own values
+unfolding makeRefusal
+make-passed m n own values e =
+    let a = passes _ _ refl e in
+    lent-setting n own values (partsFit m n) (a .0) (passes _ _ refl (a .1) .0)
+
+pub restart-passed : (m : Memory) (n own : ℕ) (values : List ℤ) (block : List ℕ) → restartRefusal m n own values block ≡ 0 → SettingOf n own values
 unfolding restartRefusal
 restart-passed m n own values block e =
     let a = passes _ _ refl e in
-    let b = passes _ _ refl (a .1) in
-    let s = neither (not (within 2 6 n)) (leb n own) (b .0) in
-    let w = is-within 2 6 n (not-false _ (s .0)) in
-    record { least = w .above; most = w .below; among = leb-false n own (s .1); long = eqb-true _ _ (both-so _ _ (a .0) .left) }
+    lent-setting n own values _ (a .0) (passes _ _ refl (a .1) .0)
 
 -- the places lent have room for N blocks
 pub restart-places : (m : Memory) (n own : ℕ) (values : List ℤ) (block : List ℕ) → restartRefusal m n own values block ≡ 0 → length (m .blocks .places) ≡ 512 * n

@@ -81,11 +81,11 @@ restarted-empty n own values bs = refl
 
 pub queues : Queues
 queues = record {
-  queue = λ n own values l h o v cs.
+  queue = λ n own values g cs.
       let m = madeMemory n own values in
-      listed m (shapes .made n own values l h o v) cs ∙ ap (λ (q : List ℕ). pending q m cs) (made-empty n own values);
-  restarted = λ n own values l h o v journal cs.
+      listed m (shapes .made n own values g) cs ∙ ap (λ (q : List ℕ). pending q m cs) (made-empty n own values);
+  restarted = λ n own values g journal cs.
       let bs = blocksIn n journal in
       let m = restartedMemory n own values bs in
-      listed m (shapes .restarted n own values l h o v journal) cs ∙ ap (λ (q : List ℕ). pending q m cs) (restarted-empty n own values bs);
+      listed m (shapes .restarted n own values g journal) cs ∙ ap (λ (q : List ℕ). pending q m cs) (restarted-empty n own values bs);
 }

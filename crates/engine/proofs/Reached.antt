@@ -6,11 +6,10 @@ use mathlib.Core.List.{List, [], _∷_}
 use native.Mathlib.Omega.{arith}
 use lib.Dec.{eqb}
 use lib.IntN.{ℤ}
-use lib.ListN.{length}
 use borrow.Author.Tests.{ne-eqb}
 use Rattle.memory.specs.Memory.{Memory, noNumber, isStation}
 use Rattle.engine.specs.Calls.{Outcome}
-use Rattle.engine.specs.Make.{madeMemory}
+use Rattle.engine.specs.Make.{SettingOf, madeMemory}
 use Rattle.engine.specs.Restart.{blocksIn, restartedMemory}
 use Rattle.engine.specs.Shape.{Shape}
 use Rattle.engine.specs.Sent.{SentShape}
@@ -34,15 +33,15 @@ pub record Reached (m : Memory) : Type 0 where
 pub numbered : (m : Memory) (n own : ℕ) → m .group .own ≡ own → own < n → n ≤ 6 → isStation m ≡ false
 numbered m n own e o h = ne-eqb (m .group .own) 255 (λ z. omega arith)
 
-pub made-reached : (n own : ℕ) (values : List ℤ) → 2 ≤ n → n ≤ 6 → own < n → length values ≡ 128 → Reached (madeMemory n own values)
-made-reached n own values l h o v = record { over = 0; shape = shapes .made n own values l h o v; sent = sent-shapes .made n own values; replica = numbered (madeMemory n own values) n own (made-own n own values) o h }
+pub made-reached : (n own : ℕ) (values : List ℤ) → SettingOf n own values → Reached (madeMemory n own values)
+made-reached n own values g = record { over = 0; shape = shapes .made n own values g; sent = sent-shapes .made n own values; replica = numbered (madeMemory n own values) n own (made-own n own values) (g .below) (g .group .most) }
 
-pub restarted-reached : (n own : ℕ) (values : List ℤ) → 2 ≤ n → n ≤ 6 → own < n → length values ≡ 128 → (journal : List ℕ) → Reached (restartedMemory n own values (blocksIn n journal))
-restarted-reached n own values l h o v journal = record {
+pub restarted-reached : (n own : ℕ) (values : List ℤ) → SettingOf n own values → (journal : List ℕ) → Reached (restartedMemory n own values (blocksIn n journal))
+restarted-reached n own values g journal = record {
   over = _;
-  shape = shapes .restarted n own values l h o v journal;
+  shape = shapes .restarted n own values g journal;
   sent = sent-shapes .restarted n own values journal;
-  replica = numbered (restartedMemory n own values (blocksIn n journal)) n own (restarted-own n own values (blocksIn n journal)) o h;
+  replica = numbered (restartedMemory n own values (blocksIn n journal)) n own (restarted-own n own values (blocksIn n journal)) (g .below) (g .group .most);
 }
 
 pub any-reached : (m : Memory) → Reached m → (c : AnyCall) → Reached (anyStep m c .memory)
@@ -54,7 +53,7 @@ any-reached m R (call c) = record {
 }
 any-reached m R (restart n own values journal block) =
     restart-by (λ (o : Outcome). Reached (o .memory)) m n own values journal block
-    (λ e. let p = restart-passed m n own values block e in restarted-reached n own values (p .least) (p .most) (p .among) (p .long) journal)
+    (λ e. let p = restart-passed m n own values block e in restarted-reached n own values p journal)
     (λ z. R)
 
 pub all-reached : (m : Memory) → Reached m → (cs : List AnyCall) → Reached (afterAll m cs)

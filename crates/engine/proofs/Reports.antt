@@ -203,16 +203,16 @@ restarted-kept n own values journal =
 
 pub reports : Reports
 reports = record {
-  report = λ n own values l h o v cs.
+  report = λ n own values g cs.
       let m = madeMemory n own values in
-      report-from (after m cs) (shape-after m (shapes .made n own values l h o v) cs)
-      ∙ ap (reportFrom 0) (tally-kept own m (shapes .made n own values l h o v) (sent-shapes .made n own values) (made-own n own values) cs
+      report-from (after m cs) (shape-after m (shapes .made n own values g) cs)
+      ∙ ap (reportFrom 0) (tally-kept own m (shapes .made n own values g) (sent-shapes .made n own values) (made-own n own values) cs
       ∙ ap (λ (t : Tally). tally own t m cs) (made-kept n own values));
-  sum = λ n own values l h o v cs. unfold reportOf in sym (add-zero _) ∙ shape-after (madeMemory n own values) (shapes .made n own values l h o v) cs .ranges .endings;
-  restarted = λ n own values l h o v journal cs.
+  sum = λ n own values g cs. unfold reportOf in sym (add-zero _) ∙ shape-after (madeMemory n own values) (shapes .made n own values g) cs .ranges .endings;
+  restarted = λ n own values g journal cs.
       let bs = blocksIn n journal in
       let m = restartedMemory n own values bs in
-      let s = shape-restarted n own values l h o v journal in
+      let s = shape-restarted n own values g journal in
       report-from (after m cs) (shape-after m s cs)
       ∙ ap (reportFrom (repeated own bs)) (tally-kept own m s (sent-shapes .restarted n own values journal) (restarted-own n own values bs) cs ∙ ap (λ (t : Tally). tally own t m cs) (restarted-kept n own values journal));
 }

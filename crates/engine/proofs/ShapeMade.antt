@@ -1,18 +1,18 @@
 -- A replica or a station just made has the shape. Assumes nothing.
-use Prim.Native.Nat.{ℕ, _*_, _≤_, _<_}
+use Prim.Native.Nat.{ℕ, _*_, _<_}
 use mathlib.Core.Path.{_≡_, refl, ap}
 use mathlib.Core.Bool.{true, false}
 use mathlib.Core.List.{List}
 use native.Mathlib.Omega.{arith}
 use lib.Dec.{eqb}
 use lib.IntN.{ℤ, pos}
-use lib.ListN.{length, getD, replicate, length-replicate, getD-replicate, List·getD-eq-default}
+use lib.ListN.{getD, replicate, length-replicate, getD-replicate, List·getD-eq-default}
 use borrow.Author.Tests.{eq-eqb}
 use Rattle.memory.specs.declared.Txn.{Txn}
 use Rattle.memory.specs.Memory.{noNumber}
 use Rattle.memory.specs.Rows.{closed, openCount, rowAt}
 use Rattle.memory.specs.Turns.{placeStart}
-use Rattle.engine.specs.Make.{madeMemory}
+use Rattle.engine.specs.Make.{Setting, SettingOf, madeMemory}
 use Rattle.engine.specs.Moves.{waiting}
 use Rattle.engine.specs.Shape.{Shape}
 use Rattle.engine.proofs.Tests.{less-by, clash}
@@ -23,22 +23,22 @@ pub getD-zeros : (n i : ℕ) → _≡_ {A = ℕ} (getD (replicate n 0) i 0) 0
 getD-zeros n i = less-by i n (λ h. getD-replicate {A = ℕ} n i 0 0 h) (λ h. List·getD-eq-default {A = ℕ} (replicate n 0) 0 (rw length-replicate h))
 
 -- with a number of the group's, or none
-shape-numbered : (n own : ℕ) (values : List ℤ) → 2 ≤ n → n ≤ 6 → (eqb own noNumber ≡ false → own < n) → length values ≡ 128 → Shape 0 (madeMemory n own values)
+shape-numbered : (n own : ℕ) (values : List ℤ) → Setting n values → (eqb own noNumber ≡ false → own < n) → Shape 0 (madeMemory n own values)
 unfolding madeMemory openCount waiting
-shape-numbered n own values least most among long = record {
+shape-numbered n own values setting among = record {
   lengths = record {
     table = refl;
     queue = refl;
     items = length-replicate {A = ℕ} 48 0;
     writes = length-replicate 48 (pos 0);
     snapshots = length-replicate 768 (pos 0);
-    values = long;
+    values = setting .long;
     stamps = length-replicate {A = ℕ} 128 0;
     classes = length-replicate {A = ℕ} 128 0;
     places = length-replicate {A = ℕ} (512 * n) 0;
     outbox = length-replicate {A = ℕ} 512 0;
   };
-  ranges = record { least = least; most = most; own = among; slot = omega arith; tickets = omega arith; commits = omega arith; repeats = omega arith; endings = refl };
+  ranges = record { least = setting .least; most = setting .most; own = among; slot = omega arith; tickets = omega arith; commits = omega arith; repeats = omega arith; endings = refl };
   rows = λ r h. row-of-fits (madeMemory n own values) r (rw (is-closed r h) (fits-closed 0 0 _));
   distinct = λ i j h u d some. absurd (some (ap (λ (t : Txn). t .ticket) (is-closed i h)));
   queue = record {
@@ -63,8 +63,8 @@ shape-numbered n own values least most among long = record {
     none : (r : ℕ) → r < 6 → rowAt (replicate 6 closed) r .writes ≡ 0
     none r h = ap (λ (t : Txn). t .writes) (is-closed r h)
 
-pub shape-made : (n own : ℕ) (values : List ℤ) → 2 ≤ n → n ≤ 6 → own < n → length values ≡ 128 → Shape 0 (madeMemory n own values)
-shape-made n own values least most among = shape-numbered n own values least most (λ e. among)
+pub shape-made : (n own : ℕ) (values : List ℤ) → SettingOf n own values → Shape 0 (madeMemory n own values)
+shape-made n own values setting = shape-numbered n own values (setting .group) (λ e. setting .below)
 
-pub shape-station : (n : ℕ) (values : List ℤ) → 2 ≤ n → n ≤ 6 → length values ≡ 128 → Shape 0 (madeMemory n noNumber values)
-shape-station n values least most = shape-numbered n noNumber values least most (λ e. clash {b = true} refl e)
+pub shape-station : (n : ℕ) (values : List ℤ) → Setting n values → Shape 0 (madeMemory n noNumber values)
+shape-station n values setting = shape-numbered n noNumber values setting (λ e. clash {b = true} refl e)

@@ -10,6 +10,7 @@ use borrow.Author.Tests.{eq-eqb}
 use Rattle.memory.specs.declared.Txn.{Txn}
 use Rattle.memory.specs.Rows.{closed, openCount, rowAt}
 use Rattle.memory.specs.Turns.{placeStart}
+use Rattle.engine.specs.Make.{SettingOf}
 use Rattle.engine.specs.Moves.{waiting}
 use Rattle.engine.specs.Restart.{blocksIn, startReplay, repeated, restartedMemory}
 use Rattle.engine.specs.Shape.{Shape}
@@ -18,15 +19,15 @@ use Rattle.engine.proofs.Shaping.{row-of-fits, fits-closed, single-of}
 use Rattle.engine.proofs.ShapeMade.{getD-zeros}
 use Rattle.engine.proofs.RestartLaws.{AllGood, reads-good, reads-few, count-few, own-few, highest-few, blocks-counted, blocks-long}
 
-pub shape-of-blocks : (n own : ℕ) (values : List ℤ) → 2 ≤ n → n ≤ 6 → own < n → length values ≡ 128
+pub shape-of-blocks : (n own : ℕ) (values : List ℤ) → SettingOf n own values
     → (bs : List (List ℕ)) → AllGood n bs → length bs ≤ 100_000_000 → Shape (repeated own bs) (restartedMemory n own values bs)
 unfolding restartedMemory openCount waiting
-shape-of-blocks n own values least most among long bs good few =
+shape-of-blocks n own values setting bs good few =
     let c = count-few n bs good in
     let o = own-few own bs in
     let h = highest-few n own bs good in
     let w = blocks-counted bs (startReplay values) (omega arith) in
-    let l = blocks-long bs (startReplay values) (record { values = long; stamps = length-replicate {A = ℕ} 128 0; classes = length-replicate {A = ℕ} 128 0 }) in
+    let l = blocks-long bs (startReplay values) (record { values = setting .group .long; stamps = length-replicate {A = ℕ} 128 0; classes = length-replicate {A = ℕ} 128 0 }) in
     record {
       lengths = record {
         table = refl;
@@ -40,7 +41,7 @@ shape-of-blocks n own values least most among long bs good few =
         places = length-replicate {A = ℕ} (512 * n) 0;
         outbox = length-replicate {A = ℕ} 512 0;
       };
-      ranges = record { least = least; most = most; own = λ e. among; slot = few; tickets = h; commits = omega arith; repeats = omega arith; endings = omega arith };
+      ranges = record { least = setting .group .least; most = setting .group .most; own = λ e. setting .below; slot = few; tickets = h; commits = omega arith; repeats = omega arith; endings = omega arith };
       rows = λ r u. row-of-fits (restartedMemory n own values bs) r (rw (is-closed r u) (fits-closed _ _ _));
       distinct = λ i j u v d some. absurd (some (ap (λ (t : Txn). t .ticket) (is-closed i u)));
       queue = record {
@@ -65,8 +66,8 @@ shape-of-blocks n own values least most among long bs good few =
     none : (r : ℕ) → r < 6 → rowAt (replicate 6 closed) r .writes ≡ 0
     none r u = ap (λ (t : Txn). t .writes) (is-closed r u)
 
-pub shape-restarted : (n own : ℕ) (values : List ℤ) → 2 ≤ n → n ≤ 6 → own < n → length values ≡ 128 → (journal : List ℕ)
+pub shape-restarted : (n own : ℕ) (values : List ℤ) → SettingOf n own values → (journal : List ℕ)
     → Shape (repeated own (blocksIn n journal)) (restartedMemory n own values (blocksIn n journal))
-shape-restarted n own values least most among long journal =
-    shape-of-blocks n own values least most among long (blocksIn n journal) (reads-good n 0 _ journal)
+shape-restarted n own values setting journal =
+    shape-of-blocks n own values setting (blocksIn n journal) (reads-good n 0 _ journal)
     (let a = reads-few n 0 (length journal / 512) journal (omega arith) in omega arith)

@@ -76,7 +76,7 @@ any-shape : (h : History) (m : Memory) → Shape (h .over) m → (c : AnyCall) �
 any-shape h m s (call c) = shape-each m s c
 any-shape h m s (restart n own values journal block) =
     restart-by (λ (o : Outcome). Shape (historyAfter h (restart n own values journal block) (o .answer) .over) (o .memory)) m n own values journal block
-    (λ e. let p = restart-passed m n own values block e in shape-restarted n own values (p .least) (p .most) (p .among) (p .long) journal)
+    (λ e. let p = restart-passed m n own values block e in shape-restarted n own values p journal)
     (λ z. rw (ne-eqb (restartRefusal m n own values block) 0 z) s)
 
 shape-all : (h : History) (m : Memory) → Shape (h .over) m → (cs : List AnyCall) → Shape (history h m cs .over) (afterAll m cs)
@@ -89,6 +89,6 @@ unfolding highestOwn ownWritesets
 shapes = record {
   made = shape-made;
   each = shape-each;
-  all = λ n own values l h o v cs. shape-all (begun own []) (madeMemory n own values) (shape-made n own values l h o v) cs;
+  all = λ n own values g cs. shape-all (begun own []) (madeMemory n own values) (shape-made n own values g) cs;
   restarted = shape-restarted;
 }

@@ -1,5 +1,5 @@
 -- What holds of a station: it only reads, and every sender is another. Assumes nothing.
-use Prim.Native.Nat.{ℕ, zero, suc, _+_, _*_, _≤_, _<_, min}
+use Prim.Native.Nat.{ℕ, zero, suc, _+_, _*_, _<_, min}
 use mathlib.Core.Path.{_≡_, refl, sym, ap, _∙_, subst}
 use mathlib.Core.Bool.{Bool, true, false, cond, not, _&&_, _||_}
 use mathlib.Core.List.{List, [], _∷_}
@@ -23,7 +23,7 @@ use Rattle.memory.specs.Rows.{closed, isOpen, rowOf, rowAt, itemsOf, has}
 use Rattle.memory.specs.Turns.{isOn}
 use Rattle.engine.specs.Calls.{Answer, Step, numberOf, Outcome, outcome}
 use Rattle.engine.specs.Calls.Answer.{refused, made, began, got, wrote, queued, readOnly, withdrew, reported, sent, kept, worked, loaded, restarted}
-use Rattle.engine.specs.Make.{madeMemory, partsFit, sizeOut, makeRefusal}
+use Rattle.engine.specs.Make.{Setting, madeMemory, partsFit, sizeOut, makeRefusal}
 use Rattle.engine.specs.Classes.{loadRefusal}
 use Rattle.engine.specs.Client.{rowNo, isOwn, notOpen, notActive, beginRefusal, beginAt, readRefusal, writeRefusal, askRefusal, readOnlyAt, withdrawRefusal, withdrawAt, reportOf, reportStep}
 use Rattle.engine.specs.Moves.{waiting, sendRefusal, deliverRefusal, deliverNow, blockAtTurn, writesetAt, shares, isHit, afterAborts, hitTickets, endsOwn, nothingWaits, workRefusal, isLast, passNext, commitWriteset}
@@ -302,12 +302,12 @@ module _ {over : ℕ} (m : Memory) (S : Shape over m) (R : OnlyReads m) where
 
 -- ---- the whole
 
-module _ (n : ℕ) (values : List ℤ) (least : 2 ≤ n) (most : n ≤ 6) (long : length values ≡ 128) (cs : List Call) where
+module _ (n : ℕ) (values : List ℤ) (setting : Setting n values) (cs : List Call) where
   abbrev m : Memory
   m = stationMemory n values
 
   at-first : Shape 0 (stationMemory n values)
-  at-first = shape-station n values least most long
+  at-first = shape-station n values setting
 
   shaped : Shape 0 (after (stationMemory n values) cs)
   shaped = shape-after m at-first cs
@@ -350,11 +350,11 @@ stations = record {
   never-19 = λ m h c e. never-own m h c (sym (refusals .number m c) ∙ ap numberOf e);
   shape = shaped;
   only-reads = reading;
-  queue = λ n values l h v cs. none-queued _ (shaped n values l h v cs) (idle _ (reading n values l h v cs));
+  queue = λ n values g cs. none-queued _ (shaped n values g cs) (idle _ (reading n values g cs));
   report = reported-is;
   sum = summed;
-  others = λ n values l h v cs. waits-other (after (stationMemory n values) cs) (shaped n values l h v cs) (reading n values l h v cs .station);
-  asks = λ n values l h v cs. asked _ (shaped n values l h v cs) (reading n values l h v cs);
-  never-4 = λ n values l h v cs c. by-number n values l h v cs c 4 (not-four _ (shaped n values l h v cs) (reading n values l h v cs) c);
-  aborts = λ n values l h v cs. aborts-none _ (shaped n values l h v cs) (reading n values l h v cs);
+  others = λ n values g cs. waits-other (after (stationMemory n values) cs) (shaped n values g cs) (reading n values g cs .station);
+  asks = λ n values g cs. asked _ (shaped n values g cs) (reading n values g cs);
+  never-4 = λ n values g cs c. by-number n values g cs c 4 (not-four _ (shaped n values g cs) (reading n values g cs) c);
+  aborts = λ n values g cs. aborts-none _ (shaped n values g cs) (reading n values g cs);
 }

@@ -114,9 +114,9 @@ tickets-once = record {
   few = few;
   none-repeated = λ n own journal d. let a = few n own journal d in omega arith;
   counts = counts;
-  sum = λ n own values l h o v journal d cs. unfold reportOf in
+  sum = λ n own values g journal d cs. unfold reportOf in
       let bs = blocksIn n journal in
       let a = few n own journal d in
-      let e = shape-after (restartedMemory n own values bs) (shape-restarted n own values l h o v journal) cs .ranges .endings in
+      let e = shape-after (restartedMemory n own values bs) (shape-restarted n own values g journal) cs .ranges .endings in
       omega arith;
 }

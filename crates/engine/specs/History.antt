@@ -1,5 +1,5 @@
 -- Report's numbers and the queue, from what calls answered, with restarts among them.
-use Prim.Native.Nat.{ℕ, suc, _+_, _-_, _≤_, _<_}
+use Prim.Native.Nat.{ℕ, suc, _+_, _-_}
 use mathlib.Core.Path.{_≡_}
 use mathlib.Core.Bool.{cond, not, _&&_}
 use mathlib.Core.List.{List, [], _∷_, _++_}
@@ -10,7 +10,7 @@ use Rattle.memory.specs.Memory.{Memory}
 use Rattle.engine.specs.declared.Report.{Report}
 use Rattle.engine.specs.Calls.{Answer, Step, numberOf, Outcome}
 use Rattle.engine.specs.Calls.Answer.{refused, made, began, got, wrote, queued, readOnly, withdrew, reported, sent, kept, worked, loaded, restarted}
-use Rattle.engine.specs.Make.{madeMemory}
+use Rattle.engine.specs.Make.{SettingOf, madeMemory}
 use Rattle.engine.specs.Client.{reportOf}
 use Rattle.engine.specs.Moves.{waiting, without}
 use Rattle.engine.specs.Step.{Call, step, after}
@@ -128,13 +128,13 @@ reportFrom over t = record {
 }
 
 pub record Reports : Type 0 where
-  pub report : (n own : ℕ) (values : List ℤ) → 2 ≤ n → n ≤ 6 → own < n → length values ≡ 128 → (cs : List Call)
+  pub report : (n own : ℕ) (values : List ℤ) → SettingOf n own values → (cs : List Call)
       → reportOf (after (madeMemory n own values) cs) ≡ reportFrom 0 (tally own noCalls (madeMemory n own values) cs)
   -- tickets given equal open plus all endings
-  pub sum : (n own : ℕ) (values : List ℤ) → 2 ≤ n → n ≤ 6 → own < n → length values ≡ 128 → (cs : List Call)
+  pub sum : (n own : ℕ) (values : List ℤ) → SettingOf n own values → (cs : List Call)
       → let r = reportOf (after (madeMemory n own values) cs) in r .tickets ≡ r .«open_count» + r .committed + r .«read_only» + r .aborted + r .withdrawn
   -- after a restart from any journal, and calls since then
-  pub restarted : (n own : ℕ) (values : List ℤ) → 2 ≤ n → n ≤ 6 → own < n → length values ≡ 128 → (journal : List ℕ) (cs : List Call)
+  pub restarted : (n own : ℕ) (values : List ℤ) → SettingOf n own values → (journal : List ℕ) (cs : List Call)
       → let bs = blocksIn n journal in reportOf (after (restartedMemory n own values bs) cs)
       ≡ reportFrom (repeated own bs) (tally own (restartTally own bs) (restartedMemory n own values bs) cs)
 
@@ -176,10 +176,10 @@ pending l m (c ∷ cs) = pending (pendingAfter l c (step m c .answer)) (step m c
 
 -- the queue is the asked transactions in the order asked
 pub record Queues : Type 0 where
-  pub queue : (n own : ℕ) (values : List ℤ) → 2 ≤ n → n ≤ 6 → own < n → length values ≡ 128 → (cs : List Call)
+  pub queue : (n own : ℕ) (values : List ℤ) → SettingOf n own values → (cs : List Call)
       → waiting (after (madeMemory n own values) cs .txns .queue) ≡ pending [] (madeMemory n own values) cs
   -- after a restart from any journal, and calls since then
-  pub restarted : (n own : ℕ) (values : List ℤ) → 2 ≤ n → n ≤ 6 → own < n → length values ≡ 128 → (journal : List ℕ) (cs : List Call)
+  pub restarted : (n own : ℕ) (values : List ℤ) → SettingOf n own values → (journal : List ℕ) (cs : List Call)
       → let m = restartedMemory n own values (blocksIn n journal) in waiting (after m cs .txns .queue) ≡ pending [] m cs
 
 -- ---- restarts among the calls
@@ -225,7 +225,7 @@ pub record Told (h : History) (m : Memory) : Type 0 where
 
 -- on any list of calls and restarts, after a make or a restart from any journal
 pub record Histories : Type 0 where
-  pub made : (n own : ℕ) (values : List ℤ) → 2 ≤ n → n ≤ 6 → own < n → length values ≡ 128 → (cs : List AnyCall)
+  pub made : (n own : ℕ) (values : List ℤ) → SettingOf n own values → (cs : List AnyCall)
       → let m = madeMemory n own values in Told (history (begun own []) m cs) (afterAll m cs)
-  pub restarted : (n own : ℕ) (values : List ℤ) → 2 ≤ n → n ≤ 6 → own < n → length values ≡ 128 → (journal : List ℕ) (cs : List AnyCall)
+  pub restarted : (n own : ℕ) (values : List ℤ) → SettingOf n own values → (journal : List ℕ) (cs : List AnyCall)
       → let bs = blocksIn n journal in let m = restartedMemory n own values bs in Told (history (begun own bs) m cs) (afterAll m cs)

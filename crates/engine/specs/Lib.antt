@@ -9,12 +9,12 @@ pub mod Step
 pub mod Restart
 pub mod Worked
 pub mod Frames
+pub mod History
 pub mod Shape
 pub mod OneClass
 pub mod Staleness
-pub mod Claims
 pub mod Sent
-pub mod History
+pub mod Claims
 pub mod OwnSent
 pub mod Station
 pub mod Restarts

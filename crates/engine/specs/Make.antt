@@ -1,5 +1,6 @@
 -- A replica just made.
-use Prim.Native.Nat.{ℕ, _*_}
+use Prim.Native.Nat.{ℕ, _*_, _≤_, _<_}
+use mathlib.Core.Path.{_≡_}
 use mathlib.Core.Bool.{Bool, true, false, not, _&&_, _||_}
 use mathlib.Core.List.{List, [], _∷_}
 use lib.Dec.{eqb, leb}
@@ -13,6 +14,17 @@ use Rattle.memory.specs.Memory.{Transactions, Store, Blocks, Memory, groupOf, s
 use Rattle.memory.specs.Rows.{closed}
 use Rattle.engine.specs.Calls.{Outcome, outcome, unless}
 use Rattle.engine.specs.Calls.Answer.{made}
+
+-- what a group is made with: 2 to 6 replicas, and 128 starting values
+pub record Setting (n : ℕ) (values : List ℤ) : Type 0 where
+  pub least : 2 ≤ n
+  pub most : n ≤ 6
+  pub long : length values ≡ 128
+
+-- what a replica of it is made with: its number is below N
+pub record SettingOf (n own : ℕ) (values : List ℤ) : Type 0 where
+  pub group : Setting n values
+  pub below : own < n
 
 abbrev pub turnZero : Turn
 turnZero = record { slot = 0; sent = 0; applying = 0 }
@@ -45,7 +57,7 @@ madeMemory n own values = record {
   blocks = record { places = replicate (512 * span (groupOf n own)) 0; outbox = replicate 512 0 };
 }
 
--- N blocks; an N out of range gives the places no length
+-- a block for each place of a group of n; an n out of range gives the places no length
 unfoldable pub placesFit : List ℕ → ℕ → Bool
 placesFit places n = not (within 2 6 n) || eqb (length places) (512 * n)
 

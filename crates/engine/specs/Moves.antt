@@ -18,7 +18,7 @@ use Rattle.memory.specs.declared.Turn.{Turn}
 use Rattle.memory.specs.declared.Txn.{Txn}
 use Rattle.memory.specs.Memory.{Transactions, Store, Blocks, Memory, ownerAt, span, maxSlots, bump, isBlock, queueLent, itemsLent, writesLent, valuesLent, stampsLent, placesLent, outboxLent, withDone, withCommit, withTable, withTxns, withBlocks, withTurn}
 use Rattle.memory.specs.Rows.{closed, isOpen, rowOf, rowAt, writeCount, itemsOf, has}
-use Rattle.memory.specs.Turns.{isOn, markSent, markApplying, advance, placeStart, blockIn, isEmpty, emptied}
+use Rattle.memory.specs.Turns.{isOn, markSent, advance, stepTurn, placeStart, blockIn, isEmpty, emptied}
 use Rattle.engine.specs.Calls.{Step, Outcome, outcome, unless}
 use Rattle.engine.specs.Calls.Answer.{sent, kept, worked}
 
@@ -263,7 +263,7 @@ commitWriteset m mine w =
     outcome (worked (record { sender = getD (blockAtTurn m) 1 0; ticket = w .ticket; moved = isLast m; aborted = gone; append = appending m (isLast m) }))
     (record {
       group = m .group;
-      turn = cond (isLast m) (advance (m .turn)) (cond mine (m .turn) (markApplying (m .turn)));
+      turn = stepTurn (isLast m) mine (m .turn);
       counts = withDone c (cond (isLast m) 0 (m .counts .done + 1));
       txns = record {
         table = cond mine (cond ends (set (x .table) (rowOf (w .ticket) (x .table)) closed) (x .table)) (afterAborts es (x .items) 0 (x .table));

@@ -1,17 +1,17 @@
 -- With no table of classes loaded a write is that of an engine without classes, on every memory that calls and restarts lead to: what it was before document 02's Req 02, but for the order of 9 and 8,
 -- which is today's here (`Staleness.antt` has the order of before).
-use Prim.Native.Nat.{ℕ, _≤_, _<_}
+use Prim.Native.Nat.{ℕ}
 use mathlib.Core.Path.{_≡_}
 use mathlib.Core.Bool.{Bool, true, false, not, _&&_}
 use mathlib.Core.List.{List, [], _∷_, _++_}
 use lib.Dec.{eqb}
 use lib.IntN.{ℤ}
-use lib.ListN.{length, replicate}
+use lib.ListN.{replicate}
 use Rattle.block.specs.Answers.{refuse, firstOf}
 use Rattle.memory.specs.Memory.{Memory, isStation, writesLent, stampsLent}
 use Rattle.engine.specs.Calls.{Outcome}
 use Rattle.engine.specs.Calls.Answer.{loaded}
-use Rattle.engine.specs.Make.{madeMemory}
+use Rattle.engine.specs.Make.{SettingOf, madeMemory}
 use Rattle.engine.specs.Classes.{isApplying}
 use Rattle.engine.specs.Client.{rowNo, earlyRefusals, lateRefusals, writeUnless}
 use Rattle.engine.specs.Restart.{blocksIn, restartedMemory}
@@ -57,8 +57,8 @@ pub record OneClass : Type 0 where
   -- an accepted load alone changes the table
   pub kept : (m : Memory) (c : Call) → (step m c .answer ≡ loaded → ⊥) → step m c .memory .store .classes ≡ m .store .classes
   -- so on any list of calls and restarts without a load, after a make or a restart
-  pub made : (n own : ℕ) (values : List ℤ) → 2 ≤ n → n ≤ 6 → own < n → length values ≡ 128 → (cs : List AnyCall) → noLoads cs ≡ true → (ticket item : ℕ) (value : ℤ)
+  pub made : (n own : ℕ) (values : List ℤ) → SettingOf n own values → (cs : List AnyCall) → noLoads cs ≡ true → (ticket item : ℕ) (value : ℤ)
       → let m = afterAll (madeMemory n own values) cs in step m (write ticket item value) ≡ unclassedWrite m ticket item value
-  pub restarted : (n own : ℕ) (values : List ℤ) → 2 ≤ n → n ≤ 6 → own < n → length values ≡ 128 → (journal : List ℕ) (cs : List AnyCall) → noLoads cs ≡ true
+  pub restarted : (n own : ℕ) (values : List ℤ) → SettingOf n own values → (journal : List ℕ) (cs : List AnyCall) → noLoads cs ≡ true
       → (ticket item : ℕ) (value : ℤ)
       → let m = afterAll (restartedMemory n own values (blocksIn n journal)) cs in step m (write ticket item value) ≡ unclassedWrite m ticket item value

@@ -1,18 +1,18 @@
 -- Document 02's Req 08: "Show that no sequence of calls from Make, with any bytes, restarts included, can meet it", that is an own writeset whose ticket is not
 -- open as sent. It was answered 22, a number that no refusal has any more.
-use Prim.Native.Nat.{ℕ, _+_, _≤_, _<_}
+use Prim.Native.Nat.{ℕ, _+_, _≤_}
 use mathlib.Core.Path.{_≡_}
 use mathlib.Core.Bool.{Bool, true, false, cond, not, _&&_}
 use mathlib.Core.List.{List, []}
 use lib.Dec.{eqb}
 use lib.IntN.{ℤ}
-use lib.ListN.{length, getD}
+use lib.ListN.{getD}
 use Rattle.block.specs.Message.{Record}
 use Rattle.memory.specs.Memory.{Memory, bump}
 use Rattle.memory.specs.Turns.{advance}
 use Rattle.engine.specs.Calls.{Outcome}
 use Rattle.engine.specs.Calls.Answer.{refused, worked}
-use Rattle.engine.specs.Make.{madeMemory, makeStep}
+use Rattle.engine.specs.Make.{SettingOf, madeMemory, makeStep}
 use Rattle.engine.specs.Moves.{blockAtTurn, writesetAt, applied, stamped, isSent, workLent, nothingWaits, turnBlocks, isLast}
 use Rattle.engine.specs.Step.{step}
 use Rattle.engine.specs.Step.Call.{work}
@@ -42,7 +42,7 @@ pub record EndsNobody (m : Memory) (o : Outcome) : Type 0 where
 pub record OwnSent : Type 0 where
   -- at a replica, calls with any arguments, restarts from any journal, accepted or not: an own writeset that a work meets has its ticket open as sent.
   -- What waits at a station's turn is another's (`Stations.others`)
-  pub met : (n own : ℕ) (values : List ℤ) → 2 ≤ n → n ≤ 6 → own < n → length values ≡ 128 → (cs : List AnyCall)
+  pub met : (n own : ℕ) (values : List ℤ) → SettingOf n own values → (cs : List AnyCall)
       → let m = afterAll (madeMemory n own values) cs in nothingWaits m ≡ false → meetsOwn m ≡ true → isSent m (writesetMet m .ticket) ≡ true
   -- on any memory, an altered one too: "on an altered state Work commits such a writeset and ends nobody"
   pub altered : (m : Memory) → workLent m ≡ true → nothingWaits m ≡ false → meetsOwn m ≡ true → isSent m (writesetMet m .ticket) ≡ false → EndsNobody m (step m work)

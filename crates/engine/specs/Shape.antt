@@ -9,7 +9,7 @@ use Rattle.block.specs.Answers.{blockRefusal, headerOf}
 use Rattle.memory.specs.Memory.{Memory, span, maxTickets, maxSlots, isStation}
 use Rattle.memory.specs.Rows.{closed, openCount, rowOf, rowAt, writeCount, itemsOf, has}
 use Rattle.memory.specs.Turns.{isOn, blockIn, isEmpty}
-use Rattle.engine.specs.Make.{madeMemory}
+use Rattle.engine.specs.Make.{SettingOf, madeMemory}
 use Rattle.engine.specs.Moves.{waiting, blockAtTurn}
 use Rattle.engine.specs.Step.{Call, step}
 use Rattle.engine.specs.Restart.{blocksIn, repeated, restartedMemory}
@@ -89,10 +89,10 @@ pub record Shape (over : ℕ) (m : Memory) : Type 0 where
       → has x (itemsOf j (rowAt (m .txns .table) j) (m .txns .items)) ≡ true → ⊥
 
 pub record Shapes : Type 0 where
-  pub made : (n own : ℕ) (values : List ℤ) → 2 ≤ n → n ≤ 6 → own < n → length values ≡ 128 → Shape 0 (madeMemory n own values)
+  pub made : (n own : ℕ) (values : List ℤ) → SettingOf n own values → Shape 0 (madeMemory n own values)
   pub each : {over : ℕ} (m : Memory) → Shape over m → (c : Call) → Shape over (step m c .memory)
-  pub all : (n own : ℕ) (values : List ℤ) → 2 ≤ n → n ≤ 6 → own < n → length values ≡ 128 → (cs : List AnyCall)
+  pub all : (n own : ℕ) (values : List ℤ) → SettingOf n own values → (cs : List AnyCall)
       → let m = madeMemory n own values in Shape (history (begun own []) m cs .over) (afterAll m cs)
   -- from any journal
-  pub restarted : (n own : ℕ) (values : List ℤ) → 2 ≤ n → n ≤ 6 → own < n → length values ≡ 128 → (journal : List ℕ)
+  pub restarted : (n own : ℕ) (values : List ℤ) → SettingOf n own values → (journal : List ℕ)
       → Shape (repeated own (blocksIn n journal)) (restartedMemory n own values (blocksIn n journal))

@@ -1,5 +1,5 @@
 -- Document 02's stations, Req 05: a make without a number, and what holds of a station. Its other calls are those of `Step.antt`, on its memory.
-use Prim.Native.Nat.{ℕ, _+_, _≤_, _<_}
+use Prim.Native.Nat.{ℕ, _+_, _<_}
 use mathlib.Core.Path.{_≡_}
 use mathlib.Core.Bool.{true, false, cond, not, _&&_}
 use mathlib.Core.List.{List, [], _∷_}
@@ -12,7 +12,7 @@ use Rattle.memory.specs.Memory.{Memory, noNumber, isStation}
 use Rattle.memory.specs.Rows.{rowAt}
 use Rattle.engine.specs.Calls.{Step, numberOf, Outcome, outcome, unless}
 use Rattle.engine.specs.Calls.Answer.{refused, made, readOnly, worked}
-use Rattle.engine.specs.Make.{madeMemory, partsFit, makeRefusal, makeStep}
+use Rattle.engine.specs.Make.{Setting, SettingOf, madeMemory, partsFit, makeRefusal, makeStep}
 use Rattle.engine.specs.Client.{rowNo, notOpen, reportOf}
 use Rattle.engine.specs.Moves.{waiting, sentAlready, blockAtTurn, nothingWaits}
 use Rattle.engine.specs.Restart.{restartRefusal, restartStep}
@@ -62,23 +62,23 @@ pub record Stations : Type 0 where
   pub sends : (m : Memory) → isStation m ≡ true → (block : List ℕ) → step m (send block) ≡ outcome (refused 25) m
   pub never-19 : (m : Memory) → isStation m ≡ true → (c : Call) → step m c .answer ≡ refused 19 → ⊥
   -- on any list of calls, with any bytes, after its make: it has a replica's shape, and only reads
-  pub shape : (n : ℕ) (values : List ℤ) → 2 ≤ n → n ≤ 6 → length values ≡ 128 → (cs : List Call) → Shape 0 (after (stationMemory n values) cs)
-  pub only-reads : (n : ℕ) (values : List ℤ) → 2 ≤ n → n ≤ 6 → length values ≡ 128 → (cs : List Call) → OnlyReads (after (stationMemory n values) cs)
-  pub queue : (n : ℕ) (values : List ℤ) → 2 ≤ n → n ≤ 6 → length values ≡ 128 → (cs : List Call) → waiting (after (stationMemory n values) cs .txns .queue) ≡ []
+  pub shape : (n : ℕ) (values : List ℤ) → Setting n values → (cs : List Call) → Shape 0 (after (stationMemory n values) cs)
+  pub only-reads : (n : ℕ) (values : List ℤ) → Setting n values → (cs : List Call) → OnlyReads (after (stationMemory n values) cs)
+  pub queue : (n : ℕ) (values : List ℤ) → Setting n values → (cs : List Call) → waiting (after (stationMemory n values) cs .txns .queue) ≡ []
   -- Report is that of the history, in which no writeset is its own; tickets given equal open plus endings, read-only and withdrawn
-  pub report : (n : ℕ) (values : List ℤ) → 2 ≤ n → n ≤ 6 → length values ≡ 128 → (cs : List Call)
+  pub report : (n : ℕ) (values : List ℤ) → Setting n values → (cs : List Call)
       → reportOf (after (stationMemory n values) cs) ≡ reportFrom 0 (tally noNumber noCalls (stationMemory n values) cs)
-  pub sum : (n : ℕ) (values : List ℤ) → 2 ≤ n → n ≤ 6 → length values ≡ 128 → (cs : List Call)
+  pub sum : (n : ℕ) (values : List ℤ) → Setting n values → (cs : List Call)
       → let r = reportOf (after (stationMemory n values) cs) in r .tickets ≡ r .«open_count» + r .«read_only» + r .withdrawn
   -- a block that waits at the turn is another's, so that no writeset that a work meets is its own
-  pub others : (n : ℕ) (values : List ℤ) → 2 ≤ n → n ≤ 6 → length values ≡ 128 → (cs : List Call)
+  pub others : (n : ℕ) (values : List ℤ) → Setting n values → (cs : List Call)
       → let m = after (stationMemory n values) cs in nothingWaits m ≡ false → eqb (getD (blockAtTurn m) 1 0) (m .group .own) ≡ false
   -- an ask of an open transaction is read-only, never queued; 4 never comes; nobody is aborted
-  pub asks : (n : ℕ) (values : List ℤ) → 2 ≤ n → n ≤ 6 → length values ≡ 128 → (cs : List Call) (ticket : ℕ)
+  pub asks : (n : ℕ) (values : List ℤ) → Setting n values → (cs : List Call) (ticket : ℕ)
       → let m = after (stationMemory n values) cs in step m (ask ticket) .answer ≡ cond (notOpen (rowNo m ticket)) (refused 3) readOnly
-  pub never-4 : (n : ℕ) (values : List ℤ) → 2 ≤ n → n ≤ 6 → length values ≡ 128 → (cs : List Call) (c : Call)
+  pub never-4 : (n : ℕ) (values : List ℤ) → Setting n values → (cs : List Call) (c : Call)
       → step (after (stationMemory n values) cs) c .answer ≡ refused 4 → ⊥
-  pub aborts : (n : ℕ) (values : List ℤ) → 2 ≤ n → n ≤ 6 → length values ≡ 128 → (cs : List Call) (s : Step)
+  pub aborts : (n : ℕ) (values : List ℤ) → Setting n values → (cs : List Call) (s : Step)
       → step (after (stationMemory n values) cs) work .answer ≡ worked s → s .aborted ≡ []
 
 -- a replica is no station: no number that a make or a restart is lent gives one, and calls and restarts, from any journal, leave it a replica, with a number below N; so 25 is a station's alone
@@ -86,7 +86,7 @@ pub record Numbered : Type 0 where
   pub makes : (m : Memory) (n own : ℕ) (values : List ℤ) → makeRefusal m n own values ≡ 0 → isStation (makeStep m n own values .memory) ≡ false
   pub restarts : (m : Memory) (n own : ℕ) (values : List ℤ) (journal block : List ℕ) → restartRefusal m n own values block ≡ 0
       → isStation (restartStep m n own values journal block .memory) ≡ false
-  pub stays : (n own : ℕ) (values : List ℤ) → 2 ≤ n → n ≤ 6 → own < n → length values ≡ 128 → (cs : List AnyCall)
+  pub stays : (n own : ℕ) (values : List ℤ) → SettingOf n own values → (cs : List AnyCall)
       → let m = afterAll (madeMemory n own values) cs in (isStation m ≡ false) × (m .group .own < m .group .replicas)
-  pub never-25 : (n own : ℕ) (values : List ℤ) → 2 ≤ n → n ≤ 6 → own < n → length values ≡ 128 → (cs : List AnyCall) (c : AnyCall)
+  pub never-25 : (n own : ℕ) (values : List ℤ) → SettingOf n own values → (cs : List AnyCall) (c : AnyCall)
       → anyStep (afterAll (madeMemory n own values) cs) c .answer ≡ refused 25 → ⊥

@@ -1,11 +1,11 @@
 -- The tickets in the own blocks that a restart commits. Where no ticket stands twice, Report's counts after it are document 02's to the letter.
-use Prim.Native.Nat.{ℕ, _+_, _≤_, _<_}
+use Prim.Native.Nat.{ℕ, _+_, _≤_}
 use mathlib.Core.Path.{_≡_}
 use mathlib.Core.Bool.{cond}
 use mathlib.Core.List.{List, List·Nodup, [], _∷_, _++_, map}
 use lib.IntN.{ℤ}
-use lib.ListN.{length}
 use Rattle.block.specs.Message.{Record}
+use Rattle.engine.specs.Make.{SettingOf}
 use Rattle.engine.specs.declared.Report.{Report}
 use Rattle.engine.specs.Client.{reportOf}
 use Rattle.engine.specs.Step.{Call, after}
@@ -33,6 +33,6 @@ pub record TicketsOnce : Type 0 where
   pub counts : (n own : ℕ) (values : List ℤ) (journal : List ℕ) → let bs = blocksIn n journal in List·Nodup (ownTickets own bs)
       → CountsOf own bs (reportOf (restartedMemory n own values bs))
   -- and after calls since then tickets given equal open plus all endings
-  pub sum : (n own : ℕ) (values : List ℤ) → 2 ≤ n → n ≤ 6 → own < n → length values ≡ 128 → (journal : List ℕ)
+  pub sum : (n own : ℕ) (values : List ℤ) → SettingOf n own values → (journal : List ℕ)
       → let bs = blocksIn n journal in List·Nodup (ownTickets own bs) → (cs : List Call)
       → let r = reportOf (after (restartedMemory n own values bs) cs) in r .tickets ≡ r .«open_count» + r .committed + r .«read_only» + r .aborted + r .withdrawn

@@ -95,5 +95,5 @@ pub ended-stays : Ended
 ended-stays = record {
   answer = no-such;
   restarted = none-open;
-  stays = λ n own values l h o v cs ticket. stays (afterAll (madeMemory n own values) cs) (all-reached (madeMemory n own values) (made-reached n own values l h o v) cs) ticket;
+  stays = λ n own values g cs ticket. stays (afterAll (madeMemory n own values) cs) (all-reached (madeMemory n own values) (made-reached n own values g) cs) ticket;
 }

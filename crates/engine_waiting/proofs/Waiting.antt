@@ -118,10 +118,10 @@ ends-later m ticket s u l f cs h = f cs (omega arith)
 
 pub waiting-bound : Waiting
 waiting-bound = record {
-  slot = λ n own values l h o v cs ticket. ends-by (afterAll (madeMemory n own values) cs) (all-reached (madeMemory n own values) (made-reached n own values l h o v) cs) ticket;
-  bound = λ n own values l h o v cs ticket q.
+  slot = λ n own values g cs ticket. ends-by (afterAll (madeMemory n own values) cs) (all-reached (madeMemory n own values) (made-reached n own values g) cs) ticket;
+  bound = λ n own values g cs ticket q.
       let m = afterAll (madeMemory n own values) cs in
-      let R = all-reached (madeMemory n own values) (made-reached n own values l h o v) cs in
+      let R = all-reached (madeMemory n own values) (made-reached n own values g) cs in
       let s = own-slot (m .group .replicas) (m .group .own) (m .turn .slot) (R .shape .ranges .own (R .replica)) in
       ends-later m ticket (s .0) (m .turn .slot + m .group .replicas) (s .2) (ends-by m R ticket q (s .0) (s .1) (s .3));
 }

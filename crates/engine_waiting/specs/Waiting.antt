@@ -6,11 +6,10 @@ use mathlib.Core.Bool.{Bool, true, false, not, _&&_}
 use mathlib.Core.List.{List, [], _∷_, _++_}
 use lib.Dec.{eqb}
 use lib.IntN.{ℤ}
-use lib.ListN.{length}
 use Rattle.memory.specs.Memory.{Memory, ownerAt, span}
 use Rattle.memory.specs.Rows.{openCount}
 use Rattle.engine.specs.Calls.Answer.{refused, queued}
-use Rattle.engine.specs.Make.{madeMemory}
+use Rattle.engine.specs.Make.{SettingOf, madeMemory}
 use Rattle.engine.specs.Client.{rowNo, notOpen}
 use Rattle.engine.specs.Step.{step}
 use Rattle.engine.specs.Step.Call.{ask, withdraw}
@@ -42,11 +41,11 @@ EndsBy m ticket s = let asked = step m (ask ticket) .memory in (cs : List AnyCal
 
 pub record Waiting : Type 0 where
   -- it has ended by every own slot after the ask's turn, the next one too
-  pub slot : (n own : ℕ) (values : List ℤ) → 2 ≤ n → n ≤ 6 → own < n → length values ≡ 128 → (cs : List AnyCall) (ticket : ℕ)
+  pub slot : (n own : ℕ) (values : List ℤ) → SettingOf n own values → (cs : List AnyCall) (ticket : ℕ)
       → let m = afterAll (madeMemory n own values) cs in step m (ask ticket) .answer ≡ queued
       → (s : ℕ) → m .turn .slot < s → ownerAt (m .group) s ≡ m .group .own → EndsBy m ticket s
   -- and by t + N
-  pub bound : (n own : ℕ) (values : List ℤ) → 2 ≤ n → n ≤ 6 → own < n → length values ≡ 128 → (cs : List AnyCall) (ticket : ℕ)
+  pub bound : (n own : ℕ) (values : List ℤ) → SettingOf n own values → (cs : List AnyCall) (ticket : ℕ)
       → let m = afterAll (madeMemory n own values) cs in step m (ask ticket) .answer ≡ queued → EndsBy m ticket (m .turn .slot + span (m .group))
 
 -- what it means to have ended
@@ -56,6 +55,6 @@ pub record Ended : Type 0 where
   -- nobody is open after an accepted restart
   pub restarted : (m : Memory) (c : AnyCall) → endsAll m c ≡ true → openCount (anyStep m c .memory .txns .table) ≡ 0
   -- a ticket that was given is not given again until then: what has ended stays so
-  pub stays : (n own : ℕ) (values : List ℤ) → 2 ≤ n → n ≤ 6 → own < n → length values ≡ 128 → (cs : List AnyCall) (ticket : ℕ)
+  pub stays : (n own : ℕ) (values : List ℤ) → SettingOf n own values → (cs : List AnyCall) (ticket : ℕ)
       → let m = afterAll (madeMemory n own values) cs in ticket ≤ m .counts .tickets
       → (ds es : List AnyCall) → openAfter ticket m ds ≡ false → openAfter ticket m (ds ++ es) ≡ false

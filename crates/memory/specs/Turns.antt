@@ -1,4 +1,4 @@
--- The turn and the places: whose slot it is, where a slot's block waits, and the block that waits there.
+-- The turn and the places: the marks, where a slot's block waits, and the block that waits there.
 use Prim.Native.Nat.{ℕ, _+_, _*_, _%_}
 use mathlib.Core.Bool.{Bool, cond, not}
 use mathlib.Core.List.{List}
