@@ -184,7 +184,7 @@ MODULES = [
     ("Rattle.memory.specs.Rows", "closed, endRows, rowOf, rowAt"),
     ("Rattle.engine.specs.Make", "turnZero, countsZero, makeStep"),
     ("Rattle.engine.specs.Station", "stationStep"),
-    ("Rattle.engine.specs.Calls", "unlessStation"),
+    ("Rattle.engine.specs.Answers", "unlessStation"),
     ("Rattle.engine.specs.Restart", "blocksIn, restartedMemory, restartStep"),
     ("Rattle.engine.specs.Client", "beginRow, beginStep, readRow, readStep, writeRow, writeStep, askRow, askStep, withdrawRow, withdrawStep, reportStep"),
     ("Rattle.engine.specs.Moves", "sendStep, deliverStep, workStep"),

@@ -19,7 +19,7 @@ use Rattle.memory.specs.Rows.{closed, isOpen, rowAt, writeCount, itemsOf, has}
 use Rattle.engine.specs.Moves.{shares, isHit, afterAborts, insertRising, hitTickets, without}
 use Rattle.engine.proofs.Tests.{same-by, clash}
 use Rattle.engine.proofs.HitLaws.{hit-open}
-use Rattle.protocol.specs.Lists.{keep, any, insert, sort}
+use Rattle.protocol.specs.Lists.{keep, anyOf, sortIn, sort}
 use Rattle.protocol.specs.Writesets.{Write}
 use Rattle.protocol.specs.Replica.{Transaction}
 use Rattle.protocol.specs.Moves.{conflicts, abortedBy}
@@ -29,18 +29,18 @@ use Rattle.agreement.proofs.RowView.{ticket-of}
 
 -- ---- the queue left
 
-has-any : (t : ℕ) (gone : List ℕ) → any (λ x. eqb x t) gone ≡ has t gone
-unfolding has any
+has-any : (t : ℕ) (gone : List ℕ) → anyOf (λ x. eqb x t) gone ≡ has t gone
+unfolding has anyOf
 has-any t [] = refl
 has-any t (x ∷ xs) = rw (has-any t xs)
 
-pub queue-kept : (gone l : List ℕ) → keep (λ t. not (any (λ x. eqb x t) gone)) l ≡ without gone l
+pub queue-kept : (gone l : List ℕ) → keep (λ t. not (anyOf (λ x. eqb x t) gone)) l ≡ without gone l
 unfolding keep without
 queue-kept gone [] = refl
 queue-kept gone (t ∷ ts) = rw (has-any t gone) (go (has t gone) (queue-kept gone ts))
   where
-    go : (b : Bool) → keep (λ y. not (any (λ x. eqb x y) gone)) ts ≡ without gone ts
-        → cond (not b) (t ∷ keep (λ y. not (any (λ x. eqb x y) gone)) ts) (keep (λ y. not (any (λ x. eqb x y) gone)) ts) ≡ cond b (without gone ts) (t ∷ without gone ts)
+    go : (b : Bool) → keep (λ y. not (anyOf (λ x. eqb x y) gone)) ts ≡ without gone ts
+        → cond (not b) (t ∷ keep (λ y. not (anyOf (λ x. eqb x y) gone)) ts) (keep (λ y. not (anyOf (λ x. eqb x y) gone)) ts) ≡ cond b (without gone ts) (t ∷ without gone ts)
     go true e = e
     go false e = ap (λ (l : List ℕ). t ∷ l) e
 
@@ -82,8 +82,8 @@ share-same (i ∷ is) (v ∷ vs) es e = rw (more-shared i is es, share-same is v
 stage-same : (s : ℕ) → s ≤ 2 → not (eqb s 2) ≡ ltb s 2
 stage-same s h = same-by s 2 (λ e. rw (eq-eqb s 2 e, le-ltb s 2 (omega arith))) (λ d. rw (ne-eqb s 2 d, lt-ltb s 2 (omega (arith, d))))
 
-rising-same : (x : ℕ) (l : List ℕ) → insert x l ≡ insertRising x l
-unfolding insert insertRising
+rising-same : (x : ℕ) (l : List ℕ) → sortIn x l ≡ insertRising x l
+unfolding sortIn insertRising
 rising-same x [] = refl
 rising-same x (y ∷ ys) = rw (rising-same x ys)
 

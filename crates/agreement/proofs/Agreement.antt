@@ -9,17 +9,17 @@ use lib.Seq.{length-take-le}
 use borrow.Author.Tests.{ne-eqb}
 use Rattle.memory.specs.Memory.{Memory}
 use Rattle.engine.specs.Make.{Setting}
-use Rattle.engine.specs.Calls.{Answer, Step, Outcome}
-use Rattle.engine.specs.Calls.Answer.{refused, made, began, got, wrote, queued, readOnly, withdrew, reported, sent, kept, worked, loaded, restarted}
+use Rattle.engine.specs.Answers.{Answer, WorkDone, Outcome}
+use Rattle.engine.specs.Answers.Answer.{refused, made, began, got, wrote, queued, readOnly, withdrew, reported, sent, kept, worked, loaded, restarted}
 use Rattle.engine.specs.Client.{reportOf}
 use Rattle.engine.specs.Moves.{passNext, commitWriteset}
-use Rattle.engine.specs.Step.{Call, step}
-use Rattle.engine.specs.Step.Call.{read, write, work}
+use Rattle.engine.specs.Calls.{Call, step}
+use Rattle.engine.specs.Calls.Call.{read, write, work}
 use Rattle.engine.specs.History.AnyCall.{call}
 use Rattle.engine.proofs.Steps.{work-by}
 use Rattle.engine.proofs.ShapeTurn.{working}
 use Rattle.protocol.specs.Lists.{Mem}
-use Rattle.protocol.specs.Writesets.{lookup}
+use Rattle.protocol.specs.Writesets.{valueOr}
 use Rattle.protocol.specs.Journal.{Journal, journal}
 use Rattle.protocol.specs.Observer.{Observed, Placed, Handout, sequence, idOf, applyAll, handoutMessage, noPlaced}
 use Rattle.protocol.specs.Statement.{NotHandedOut, Committed, Agreed}
@@ -27,7 +27,7 @@ use Rattle.protocol.specs.Machine.{MachineSystem, MachineAgreement, CommandPrem
 use Rattle.protocol.proofs.Refinement.{machine-agreement}
 use Rattle.protocol.proofs.ListLaws.{mem-map}
 use Rattle.protocol.proofs.SequenceLaws.{sequence-mono, mem-at}
-use Rattle.agreement.specs.Group.{messageIn, heard, Group, CallAt, fresh, run, Comes, Calls}
+use Rattle.agreement.specs.Group.{messageIn, heard, Members, CallAt, fresh, run, Comes, Calls}
 use Rattle.agreement.specs.Statement.{InSequence, Agrees, FirstCommitter, groupAfter, Agreement}
 use Rattle.agreement.proofs.View.{setup, Sound, Owed}
 use Rattle.agreement.proofs.Replicas.{places-apart, made-sound}
@@ -96,7 +96,7 @@ module _ (n : ℕ) (start : List ℤ) (setting : Setting n start)
     (owes : (m : Memory) → Sound n m → (c : Call) → Owed n start m c (step m c))
     (cs : List CallAt) (f : Calls n cs)
     (p : CommandPremise (setup n start) (machine n start setting owes) (machineOf n start setting owes (λ k. journal [] 0) (fresh n start)) (commands n start setting owes cs f)) where
-  abbrev g : Group
+  abbrev g : Members
   g = run (fresh n start) cs
 
   abbrev noJournals : ℕ → Journal ℤ
@@ -127,7 +127,7 @@ module _ (n : ℕ) (start : List ℤ) (setting : Setting n start)
   sound-at before c e =
       sound-run n before (λ d q. f d (subst (Mem d) (sym (e .1)) (Memᴰ·append-left (c ∷ e .0) q))) (fresh n start) (λ k. made-sound n start setting owes k .sound) (c .at)
 
-  module _ (before : List CallAt) (k : ℕ) (s : Step) (e : Comes cs before (record { at = k; does = call work })) (a : step (groupAfter n start cs before .memories k) work .answer ≡ worked s) where
+  module _ (before : List CallAt) (k : ℕ) (s : WorkDone) (e : Comes cs before (record { at = k; does = call work })) (a : step (groupAfter n start cs before .memories k) work .answer ≡ worked s) where
     abbrev seen : Observed ℤ
     seen = run (fresh n start) before .observed k
 
@@ -141,7 +141,7 @@ module _ (n : ℕ) (start : List ℤ) (setting : Setting n start)
 
   reading : (before : List CallAt) (k t i : ℕ) (v : ℤ) → Comes cs before (record { at = k; does = call (read t i) })
       → step (groupAfter n start cs before .memories k) (read t i) .answer ≡ got v
-      → let note = run (fresh n start) before .observed k .noted t in v ≡ lookup i (getD (applyAll start (take (note .start) F)) i (pos 0)) (note .writes)
+      → let note = run (fresh n start) before .observed k .noted t in v ≡ valueOr i (getD (applyAll start (take (note .start) F)) i (pos 0)) (note .writes)
   unfolding heard
   reading before k t i v e a = at-call before (record { at = k; does = call (read t i) }) e v (ap (heard (call (read t i))) a)
 

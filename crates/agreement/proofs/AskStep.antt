@@ -13,8 +13,8 @@ use Rattle.memory.specs.Memory.{Memory, bump, withReadOnly, withTable}
 use Rattle.memory.specs.Rows.{closed, writeCount, indexOf}
 use Rattle.engine.specs.Client.{rowNo, rowIn, askRefusal, readOnlyAt, queueAt}
 use Rattle.engine.specs.Moves.{waiting}
-use Rattle.engine.specs.Step.{step}
-use Rattle.engine.specs.Step.Call.{ask}
+use Rattle.engine.specs.Calls.{step}
+use Rattle.engine.specs.Calls.Call.{ask}
 use Rattle.engine.proofs.Tests.{cond-by, unless-by, not-first}
 use Rattle.engine.proofs.Passed.{RowPassed, ask-passed}
 use Rattle.engine.proofs.RowLaws.{FoundRow, row-found}

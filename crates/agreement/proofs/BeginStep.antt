@@ -12,8 +12,8 @@ use Rattle.memory.specs.declared.Txn.{Txn}
 use Rattle.memory.specs.Memory.{Memory, withTickets}
 use Rattle.memory.specs.Rows.{isOpen, openCount, freeRow, rowAt}
 use Rattle.engine.specs.Client.{freeNo, beginRefusal, beginAt}
-use Rattle.engine.specs.Step.{step}
-use Rattle.engine.specs.Step.Call.{begin}
+use Rattle.engine.specs.Calls.{step}
+use Rattle.engine.specs.Calls.Call.{begin}
 use Rattle.engine.proofs.Tests.{cond-by, less-by, not-first}
 use Rattle.engine.proofs.Steps.{begin-by}
 use Rattle.engine.proofs.Passed.{BeginPassed, begin-passed}

@@ -5,10 +5,10 @@ use mathlib.Core.List.{List}
 use lib.IntN.{ℤ}
 use Rattle.memory.specs.declared.Counts.{Counts}
 use Rattle.memory.specs.Memory.{Transactions, Memory, withTxns}
-use Rattle.engine.specs.Calls.{Outcome, outcome}
-use Rattle.engine.specs.Calls.Answer.{refused}
+use Rattle.engine.specs.Answers.{Outcome, outcome}
+use Rattle.engine.specs.Answers.Answer.{refused}
 use Rattle.engine.specs.Moves.{waiting}
-use Rattle.engine.specs.Step.{Call}
+use Rattle.engine.specs.Calls.{Call}
 use Rattle.engine.specs.History.AnyCall.{call}
 use Rattle.protocol.specs.Replica.{transactions, Event}
 use Rattle.protocol.specs.Client.{without, ClientOutcome, answered, fromClient}

@@ -18,8 +18,8 @@ use Rattle.block.proofs.AnswerLaws.{is-taken, is-formed}
 use Rattle.memory.specs.Memory.{Memory}
 use Rattle.memory.specs.Turns.{isOn}
 use Rattle.engine.specs.Moves.{isOwnBlock, notSentHere, deliverRefusal, deliverNow}
-use Rattle.engine.specs.Step.{step}
-use Rattle.engine.specs.Step.Call.{deliver}
+use Rattle.engine.specs.Calls.{step}
+use Rattle.engine.specs.Calls.Call.{deliver}
 use Rattle.engine.proofs.Tests.{less-by, not-first, passes}
 use Rattle.engine.proofs.Steps.{deliver-by}
 use Rattle.engine.proofs.Passed.{DeliverPassed, deliver-passed}

@@ -14,11 +14,11 @@ use Rattle.block.specs.Theorems.{AreBytes}
 use Rattle.block.proofs.Theorems.{theorems}
 use Rattle.memory.specs.Memory.{Memory}
 use Rattle.engine.specs.Make.{Setting}
-use Rattle.engine.specs.Calls.{Outcome}
-use Rattle.engine.specs.Calls.Answer.{sent, kept, restarted}
+use Rattle.engine.specs.Answers.{Outcome}
+use Rattle.engine.specs.Answers.Answer.{sent, kept, restarted}
 use Rattle.engine.specs.Moves.{messageFor, sendNow}
-use Rattle.engine.specs.Step.{step}
-use Rattle.engine.specs.Step.Call.{send, deliver}
+use Rattle.engine.specs.Calls.{step}
+use Rattle.engine.specs.Calls.Call.{send, deliver}
 use Rattle.engine.specs.Restart.{isFrom, blocksIn, lastOwn, restartStep}
 use Rattle.engine.proofs.Tests.{cond-by}
 use Rattle.engine.proofs.Steps.{send-by, deliver-by, restart-by}

@@ -16,12 +16,12 @@ use Rattle.block.proofs.Theorems.{theorems}
 use Rattle.memory.specs.declared.Turn.{Turn}
 use Rattle.memory.specs.Memory.{Memory, bump}
 use Rattle.memory.specs.Turns.{isOn, markApplying, advance}
-use Rattle.engine.specs.Calls.{Outcome}
+use Rattle.engine.specs.Answers.{Outcome}
 use Rattle.engine.specs.Make.{Setting, madeMemory}
 use Rattle.engine.specs.Client.{beginAt, readOnlyAt, queueAt, rewriteAt, insertWrite, staleAt, withdrawAt, reportStep}
 use Rattle.engine.specs.Moves.{messageFor, sentAlready, sendRefusal, sendNow, deliverNow, blockAtTurn, isLast, passNext, commitWriteset}
-use Rattle.engine.specs.Step.{Call, step}
-use Rattle.engine.specs.Step.Call.{begin, read, write, ask, withdraw, report, send, deliver, work, load}
+use Rattle.engine.specs.Calls.{Call, step}
+use Rattle.engine.specs.Calls.Call.{begin, read, write, ask, withdraw, report, send, deliver, work, load}
 use Rattle.engine.specs.Restart.{blocksIn, restartedMemory, restartStep}
 use Rattle.engine.specs.History.{AnyCall, anyStep}
 use Rattle.engine.specs.History.AnyCall.{call, restart}
@@ -31,15 +31,15 @@ use Rattle.engine.proofs.Shaping.{bumps}
 use Rattle.engine.proofs.ShapeTurn.{Working, working}
 use Rattle.engine.proofs.SentWork.{sender-owns, is-outbox}
 use Rattle.engine.proofs.RestartLaws.{reads-good, reads-first}
-use Rattle.protocol.specs.Blocks.{join}
-use Rattle.agreement.specs.Group.{argumentsOf, journalAfter, Group, CallAt, fresh, next, run, Calls}
+use Rattle.protocol.specs.Blocks.{allBytes}
+use Rattle.agreement.specs.Group.{argumentsOf, journalAfter, Members, CallAt, fresh, next, run, Calls}
 use Rattle.agreement.specs.Journals.{blocksAt, JournalLength}
 use Rattle.agreement.proofs.View.{Sound}
 use Rattle.agreement.proofs.Sendable.{sendable, send-passed}
-use Rattle.agreement.proofs.JournalView.{join-first}
+use Rattle.agreement.proofs.JournalView.{all-bytes-first}
 use Rattle.agreement.proofs.Soundness.{sound-made}
 use Rattle.agreement.proofs.RestartStep.{sound-any}
-use Rattle.agreement.proofs.Premises.{length-join}
+use Rattle.agreement.proofs.Premises.{length-all-bytes}
 
 -- ---- a work: the sent mark is on where the block at the turn is the replica's own
 
@@ -105,9 +105,9 @@ unfolding restartedMemory
 restart-filled m n own values l j x H =
     restart-by (λ (o : Outcome). length (journalAfter l (restart n own values j x) (o .answer)) ≡ 512 * blocksAt (o .memory .turn)) m n own values j x
     (λ e.
-    let a = ap length (sym (join-first (length (blocksIn n j)) j)) in
-    let b = ap (λ (bs : List (List ℕ)). length (join bs)) (reads-first n 0 (length j / 512) j) in
-    let c = length-join n (blocksIn n j) (reads-good n 0 (length j / 512) j) in
+    let a = ap length (sym (all-bytes-first (length (blocksIn n j)) j)) in
+    let b = ap (λ (bs : List (List ℕ)). length (allBytes bs)) (reads-first n 0 (length j / 512) j) in
+    let c = length-all-bytes n (blocksIn n j) (reads-good n 0 (length j / 512) j) in
     a ∙ b ∙ c ∙ (let z : 512 * length (blocksIn n j) ≡ 512 * blocksAt (restartedMemory n own values (blocksIn n j) .turn) = omega arith in z))
     (λ e. H)
 
@@ -126,15 +126,15 @@ module _ (n : ℕ) where
     filled = restart-filled m size own values l j x (F .filled);
   }
 
-  abbrev AllFilled : Group → Type 0
+  abbrev AllFilled : Members → Type 0
   AllFilled g = (k : ℕ) → k < n → FilledAt (g .memories k) (g .disks k .journal)
 
-  group-next : (g : Group) (c : CallAt) → AllFilled g → signed32 (argumentsOf (c .does) .value) ≡ true → AllFilled (next g c)
+  group-next : (g : Members) (c : CallAt) → AllFilled g → signed32 (argumentsOf (c .does) .value) ≡ true → AllFilled (next g c)
   group-next g c F v k below = same-by k (c .at)
       (λ e. rw (e, eq-eqb (c .at) (c .at) refl) (filled-next (g .memories (c .at)) (g .disks (c .at) .journal) (F (c .at) (rw e at below)) (c .does) v))
       (λ d. rw (ne-eqb k (c .at) d) (F k below))
 
-  filled-run : (cs : List CallAt) → Calls n cs → (g : Group) → AllFilled g → AllFilled (run g cs)
+  filled-run : (cs : List CallAt) → Calls n cs → (g : Members) → AllFilled g → AllFilled (run g cs)
   unfolding run
   filled-run [] f g F = F
   filled-run (c ∷ cs) f g F = filled-run cs (λ d q. f d (List·Memᴰ·tail q)) (next g c) (group-next g c F (f c (List·Memᴰ·head refl) .1))

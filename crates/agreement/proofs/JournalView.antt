@@ -20,12 +20,12 @@ use Rattle.block.proofs.AnswerLaws.{is-taken}
 use Rattle.block.proofs.Theorems.{theorems}
 use Rattle.memory.specs.Memory.{Memory}
 use Rattle.memory.specs.Turns.{advance, markApplying}
-use Rattle.engine.specs.Calls.{Answer, Step, Outcome}
-use Rattle.engine.specs.Calls.Answer.{refused, made, began, got, wrote, queued, readOnly, withdrew, reported, sent, kept, worked, loaded, restarted}
+use Rattle.engine.specs.Answers.{Answer, WorkDone, Outcome}
+use Rattle.engine.specs.Answers.Answer.{refused, made, began, got, wrote, queued, readOnly, withdrew, reported, sent, kept, worked, loaded, restarted}
 use Rattle.engine.specs.Client.{beginAt, readOnlyAt, queueAt, rewriteAt, insertWrite, staleAt, withdrawAt, reportStep}
 use Rattle.engine.specs.Moves.{messageFor, sendRefusal, sendNow, deliverNow, blockAtTurn, writesetAt, isLast, passNext, commitWriteset}
-use Rattle.engine.specs.Step.{Call, step}
-use Rattle.engine.specs.Step.Call.{begin, read, write, ask, withdraw, report, send, deliver, work, load}
+use Rattle.engine.specs.Calls.{Call, step}
+use Rattle.engine.specs.Calls.Call.{begin, read, write, ask, withdraw, report, send, deliver, work, load}
 use Rattle.engine.specs.Restart.{isGood, blocksIn, firstBlocks, restartStep}
 use Rattle.engine.specs.History.AnyCall.{call, restart}
 use Rattle.engine.proofs.Tests.{cond-by}
@@ -37,7 +37,7 @@ use Rattle.protocol.specs.Writesets.{Message}
 use Rattle.protocol.specs.Replica.{Event}
 use Rattle.protocol.specs.Journal as model
 use Rattle.protocol.specs.Journal.{Journal, journal, append, Cut, appended}
-use Rattle.protocol.specs.Blocks.{join, readBlocks}
+use Rattle.protocol.specs.Blocks.{allBytes, readBlocks}
 use Rattle.protocol.proofs.BlockLaws.{cut-of-bytes}
 use Rattle.protocol.proofs.SequenceLaws.{map-append}
 use Rattle.agreement.specs.Group.{messageIn, heard, disk, journalAfter, Lent}
@@ -50,16 +50,16 @@ use Rattle.agreement.proofs.RestartStep.{lentMessages}
 
 -- ---- blocks joined
 
-join-append : (a b : List (List ℕ)) → join (a ++ b) ≡ join a ++ join b
-unfolding join
-join-append [] b = refl
-join-append (x ∷ a) b = rw (join-append a b) (sym (append-assoc x (join a) (join b)))
+all-bytes-append : (a b : List (List ℕ)) → allBytes (a ++ b) ≡ allBytes a ++ allBytes b
+unfolding allBytes
+all-bytes-append [] b = refl
+all-bytes-append (x ∷ a) b = rw (all-bytes-append a b) (sym (append-assoc x (allBytes a) (allBytes b)))
 
-pub join-first : (c : ℕ) (bytes : List ℕ) → join (firstBlocks c bytes) ≡ take (512 * c) bytes
-unfolding join firstBlocks
-join-first zero bytes = refl
-join-first (suc c) bytes =
-    ap (λ (l : List ℕ). take 512 bytes ++ l) (join-first c (drop 512 bytes))
+pub all-bytes-first : (c : ℕ) (bytes : List ℕ) → allBytes (firstBlocks c bytes) ≡ take (512 * c) bytes
+unfolding allBytes firstBlocks
+all-bytes-first zero bytes = refl
+all-bytes-first (suc c) bytes =
+    ap (λ (l : List ℕ). take 512 bytes ++ l) (all-bytes-first c (drop 512 bytes))
     ∙ sym (take-add 512 (512 * c) bytes)
     ∙ ap (λ (k : ℕ). take k bytes) (let e : 512 + 512 * c ≡ 512 * suc c = omega arith in e)
 
@@ -79,16 +79,16 @@ is-good n b e f = joined (eq-eqb _ 0 e) (eq-eqb _ n f)
 -- the bytes are of good blocks with these messages
 pub record OnDisk (n : ℕ) (bytes : List ℕ) (messages : List (Message ℤ)) : Type 0 where
   pub blocks : List (List ℕ)
-  pub joined : join blocks ≡ bytes
+  pub joined : allBytes blocks ≡ bytes
   pub good : AllGood n blocks
   pub says : map messageIn blocks ≡ messages
 
 pub no-block : (n : ℕ) → OnDisk n [] []
-unfolding join
+unfolding allBytes
 no-block n = record { blocks = []; joined = refl; good = good-none n; says = refl }
 
 one-block : (n : ℕ) (b : List ℕ) → isGood n b ≡ true → OnDisk n b (messageIn b ∷ [])
-unfolding join
+unfolding allBytes
 one-block n b g = record { blocks = b ∷ []; joined = append-nil b; good = good-cons n b [] g (good-none n); says = refl }
 
 -- ---- what a call appends
@@ -186,7 +186,7 @@ module _ (n : ℕ) (l : List ℕ) (J : Journal ℤ) (H : OnDisk n l (J .kept)) w
   grows : (bytes : List ℕ) (more : Option (Message ℤ)) → AppendedBlocks n bytes more → OnDisk n (l ++ bytes) (append (J .kept) more)
   grows bytes more A = record {
     blocks = H .blocks ++ A .blocks;
-    joined = join-append (H .blocks) (A .blocks) ∙ ap (λ (x : List ℕ). x ++ join (A .blocks)) (H .joined) ∙ ap (λ (x : List ℕ). l ++ x) (A .joined);
+    joined = all-bytes-append (H .blocks) (A .blocks) ∙ ap (λ (x : List ℕ). x ++ allBytes (A .blocks)) (H .joined) ∙ ap (λ (x : List ℕ). l ++ x) (A .joined);
     good = good-append n (H .blocks) (A .blocks) (H .good) (A .good);
     says = map-append messageIn (H .blocks) (A .blocks) ∙ ap (λ (x : List (Message ℤ)). x ++ map messageIn (A .blocks)) (H .says)
         ∙ ap (λ (x : List (Message ℤ)). J .kept ++ x) (A .says) ∙ sym (append-one (J .kept) more);
@@ -195,7 +195,7 @@ module _ (n : ℕ) (l : List ℕ) (J : Journal ℤ) (H : OnDisk n l (J .kept)) w
   stays : (more : Option (Message ℤ)) → AppendedBlocks n [] more → OnDisk n l (append (J .kept) more)
   stays more A = subst (λ (x : List ℕ). OnDisk n x (append (J .kept) more)) (append-nil l) (grows [] more A)
 
-  worked-journal : (more : Option (Message ℤ)) (c : Call) (w : Step) → model.journalAfter J more (heard (call c) (worked w)) ≡ journal (append (J .kept) more) (J .safe)
+  worked-journal : (more : Option (Message ℤ)) (c : Call) (w : WorkDone) → model.journalAfter J more (heard (call c) (worked w)) ≡ journal (append (J .kept) more) (J .safe)
   unfolding heard model.journalAfter
   worked-journal more c w = cond-by (λ (e : Event ℤ). model.journalAfter J more e ≡ journal (append (J .kept) more) (J .safe)) (eqb (w .ticket) 0) (λ q. refl) (λ q. refl)
 
@@ -237,7 +237,7 @@ module _ (n : ℕ) (l : List ℕ) (J : Journal ℤ) (H : OnDisk n l (J .kept)) w
       (model.journalAfter J (appended (setup n start) (view m) (o .memory .turn .slot) (heard (restart size own values bytes b) (o .answer))) (heard (restart size own values bytes b) (o .answer)) .kept)) m size own values bytes b
       (λ e f. record {
         blocks = blocksIn size bytes;
-        joined = ap join (sym first) ∙ join-first (length (blocksIn size bytes)) bytes;
+        joined = ap allBytes (sym first) ∙ all-bytes-first (length (blocksIn size bytes)) bytes;
         good = subst (λ (i : ℕ). AllGood i (blocksIn size bytes)) (f _ _ refl) (reads-good size 0 (length bytes / 512) bytes);
         says = refl;
       })
@@ -258,13 +258,13 @@ module _ (n : ℕ) (l : List ℕ) (J : Journal ℤ) (H : OnDisk n l (J .kept)) w
       G : OnDisk n (journalAfter l (call (L .ended)) (step m (L .ended) .answer)) (append (J .kept) more)
       G = disk-by (L .ended) (step m (L .ended) .answer) more (appends n start m s (L .ended)) (no-restart m (L .ended)) .1
 
-      part : bytes ≡ take (L .count) (join (G .blocks))
+      part : bytes ≡ take (L .count) (allBytes (G .blocks))
       part = L .part ∙ ap (take (L .count)) (sym (G .joined))
 
       most : ℕ
       most = length (G .blocks) + length bytes
 
-      same : lentMessages n bytes ≡ map messageIn (readBlocks 512 (isGood n) most (take (L .count) (join (G .blocks))))
+      same : lentMessages n bytes ≡ map messageIn (readBlocks 512 (isGood n) most (take (L .count) (allBytes (G .blocks))))
       same =
           ap (map messageIn)
           (read-enough (isGood n) (length bytes / 512) most bytes (let h = lt-mul-div-succ (length bytes) {b = 512} (omega arith) in omega arith) (omega arith)

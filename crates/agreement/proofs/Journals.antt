@@ -12,7 +12,7 @@ use Rattle.engine.specs.Restart.{isGood, blocksIn}
 use Rattle.engine.proofs.RestartLaws.{good-taken}
 use Rattle.protocol.specs.Writesets.{Message}
 use Rattle.protocol.specs.Journal.{Journal, journal, inSlotOrder}
-use Rattle.protocol.specs.Blocks.{join, readBlocks}
+use Rattle.protocol.specs.Blocks.{allBytes, readBlocks}
 use Rattle.protocol.specs.Observer.{Handout, handoutMessage}
 use Rattle.protocol.proofs.BlockLaws.{Read, read-part}
 use Rattle.protocol.proofs.SequenceLaws.{map-take}
@@ -26,19 +26,19 @@ use Rattle.agreement.proofs.RestartView.{reads-in-order, read-enough}
 use Rattle.agreement.proofs.RestartStep.{lentMessages}
 use Rattle.agreement.proofs.JournalView.{OnDisk}
 use Rattle.agreement.proofs.Runs.{fresh-kept, kept-run}
-use Rattle.agreement.proofs.Premises.{length-join}
+use Rattle.agreement.proofs.Premises.{length-all-bytes}
 use Rattle.agreement.proofs.Theorem.{owes, journalsAfter, InvAfter, inv-after}
 use Rattle.agreement.proofs.JournalLength.{journal-length}
 
 module _ (n : ℕ) (l : List ℕ) (K : List (Message ℤ)) (H : OnDisk n l K) where
   long : length l ≡ 512 * length (H .blocks)
-  long = ap length (sym (H .joined)) ∙ length-join n (H .blocks) (H .good)
+  long = ap length (sym (H .joined)) ∙ length-all-bytes n (H .blocks) (H .good)
 
   -- all blocks are read
-  part : Read 512 (omega arith) (isGood n) (H .blocks) (take (length l) (join (H .blocks))) (length (H .blocks))
+  part : Read 512 (omega arith) (isGood n) (H .blocks) (take (length l) (allBytes (H .blocks))) (length (H .blocks))
   part = read-part 512 (omega arith) (isGood n) (length (H .blocks)) (H .blocks) (omega arith) (λ x q. (is-taken x (good-taken n x (H .good x q)) .long, H .good x q)) (length l)
 
-  all-bytes : take (length l) (join (H .blocks)) ≡ l
+  all-bytes : take (length l) (allBytes (H .blocks)) ≡ l
   all-bytes = ap (take (length l)) (H .joined) ∙ take-all (length l) l (omega arith)
 
   read-blocks : readBlocks 512 (isGood n) (length l / 512) l ≡ H .blocks

@@ -13,9 +13,9 @@ use Rattle.block.specs.Message.{signed32}
 use Rattle.block.proofs.AnswerLaws.{is-taken}
 use Rattle.memory.specs.Memory.{Memory}
 use Rattle.engine.specs.Make.{Setting}
-use Rattle.engine.specs.Calls.{Answer}
-use Rattle.engine.specs.Calls.Answer.{refused, made, began, got, wrote, queued, readOnly, withdrew, reported, sent, kept, worked, loaded, restarted}
-use Rattle.engine.specs.Step.{Call, step}
+use Rattle.engine.specs.Answers.{Answer}
+use Rattle.engine.specs.Answers.Answer.{refused, made, began, got, wrote, queued, readOnly, withdrew, reported, sent, kept, worked, loaded, restarted}
+use Rattle.engine.specs.Calls.{Call, step}
 use Rattle.engine.specs.History.{AnyCall}
 use Rattle.engine.proofs.Tests.{cond-by}
 use Rattle.engine.proofs.RestartLaws.{AllGood, good-taken}
@@ -23,11 +23,11 @@ use Rattle.protocol.specs.Lists.{opt}
 use Rattle.protocol.specs.Writesets.{Message}
 use Rattle.protocol.specs.Replica.{Event}
 use Rattle.protocol.specs.Journal.{Journal, journalAfter}
-use Rattle.protocol.specs.Blocks.{join}
+use Rattle.protocol.specs.Blocks.{allBytes}
 use Rattle.protocol.specs.Machine.{MachineSystem, CommandPremise, runCommands}
 use Rattle.protocol.proofs.ListLaws.{update-same}
 use Rattle.protocol.proofs.Refinement.{MachineInv, inv-commands}
-use Rattle.agreement.specs.Group.{messageIn, argumentsOf, heard, handedOutIn, Disk, diskAfter, Group, CallAt, did, next, run, Calls, PremiseFrom}
+use Rattle.agreement.specs.Group.{messageIn, argumentsOf, heard, handedOutIn, Disk, diskAfter, Members, CallAt, did, next, run, Calls, PremiseFrom}
 use Rattle.agreement.proofs.View.{setup, Sound, Owed}
 use Rattle.agreement.proofs.JournalView.{OnDisk}
 use Rattle.agreement.proofs.MemberStep.{Ours}
@@ -36,19 +36,19 @@ use Rattle.agreement.proofs.Runs.{premise-rest, premise-first, lent-our
 
 -- ---- a disk's bytes
 
-pub length-join : (n : ℕ) (bs : List (List ℕ)) → AllGood n bs → length (join bs) ≡ 512 * length bs
-unfolding join
-length-join n [] g = refl
-length-join n (b ∷ bs) g =
+pub length-all-bytes : (n : ℕ) (bs : List (List ℕ)) → AllGood n bs → length (allBytes bs) ≡ 512 * length bs
+unfolding allBytes
+length-all-bytes n [] g = refl
+length-all-bytes n (b ∷ bs) g =
     let e = is-taken b (good-taken n b (g b (List·Memᴰ·head refl))) .long in
-    let a = length-append b (join bs) in
-    let h = length-join n bs (λ c q. g c (List·Memᴰ·tail q)) in
+    let a = length-append b (allBytes bs) in
+    let h = length-all-bytes n bs (λ c q. g c (List·Memᴰ·tail q)) in
     omega arith
 
 -- with every own block handed out in the journal, the disk has its bytes
 safe-bytes : (n : ℕ) (l : List ℕ) (J : Journal ℤ) → OnDisk n l (J .kept) → J .safe ≤ length (J .kept) → 512 * J .safe ≤ length l
 safe-bytes n l J H h =
-    let a = length-join n (H .blocks) (H .good) in
+    let a = length-all-bytes n (H .blocks) (H .good) in
     let b = ap length (H .joined) in
     let c = length-map (H .blocks) messageIn in
     let e = ap length (H .says) in
@@ -84,17 +84,17 @@ floor-by J floor l more c (restarted k b) h u = go (eqb (getD b 0 0) 0) u
 
 module _ (n : ℕ) (start : List ℤ) (setting : Setting n start)
     (owes : (m : Memory) → Sound n m → (c : Call) → Owed n start m c (step m c)) where
-  abbrev Inv : (ℕ → Journal ℤ) → Group → Type 0
+  abbrev Inv : (ℕ → Journal ℤ) → Members → Type 0
   Inv J g = MachineInv (setup n start) (machine n start setting owes) (places-apart n start) (machineOf n start setting owes J g)
 
-  abbrev Holds : (ℕ → Journal ℤ) → Group → Type 0
+  abbrev Holds : (ℕ → Journal ℤ) → Members → Type 0
   Holds J g = Kept n start setting owes J g
 
-  may : (g : Group) (c : CallAt) (cs : List CallAt) → PremiseFrom n start g (c ∷ cs) → Ours n start (c .at) (g .memories (c .at)) (c .does)
+  may : (g : Members) (c : CallAt) (cs : List CallAt) → PremiseFrom n start g (c ∷ cs) → Ours n start (c .at) (g .memories (c .at)) (c .does)
   may g c cs A = lent-ours n start (c .at) (g .memories (c .at)) (g .disks (c .at)) (c .does) (premise-first n start g c cs A)
 
   -- the first call's premise, as the machine's
-  first : (g : Group) (c : CallAt) (cs : List CallAt) → PremiseFrom n start g (c ∷ cs) → (J : ℕ → Journal ℤ) → Holds J g
+  first : (g : Members) (c : CallAt) (cs : List CallAt) → PremiseFrom n start g (c ∷ cs) → (J : ℕ → Journal ℤ) → Holds J g
       → ((k : ℕ) → k < n → 512 * J k .safe ≤ g .disks k .floor) → (h : signed32 (argumentsOf (c .does) .value) ≡ true)
       → CommandPremise (setup n start) (machine n start setting owes) (machineOf n start setting owes J g) (command n start setting owes c h ∷ [])
   unfolding run CommandPremise
@@ -107,7 +107,7 @@ module _ (n : ℕ) (start : List ℤ) (setting : Setting n start)
     tt,
   )
 
-  inv-next : (J : ℕ → Journal ℤ) (g : Group) (c : CallAt) (h : signed32 (argumentsOf (c .does) .value) ≡ true) → Inv J g
+  inv-next : (J : ℕ → Journal ℤ) (g : Members) (c : CallAt) (h : signed32 (argumentsOf (c .does) .value) ≡ true) → Inv J g
       → CommandPremise (setup n start) (machine n start setting owes) (machineOf n start setting owes J g) (command n start setting owes c h ∷ [])
       → Inv (journalsNext n start setting owes J g c) (next g c)
   unfolding runCommands
@@ -115,7 +115,7 @@ module _ (n : ℕ) (start : List ℤ) (setting : Setting n start)
       subst (MachineInv (setup n start) (machine n start setting owes) (places-apart n start)) (one n start setting owes J g c h)
       (inv-commands (setup n start) (machine n start setting owes) (places-apart n start) (command n start setting owes c h ∷ []) (machineOf n start setting owes J g) I p)
 
-  floors-next : (J : ℕ → Journal ℤ) (g : Group) (c : CallAt) → Ours n start (c .at) (g .memories (c .at)) (c .does) → Holds J g
+  floors-next : (J : ℕ → Journal ℤ) (g : Members) (c : CallAt) → Ours n start (c .at) (g .memories (c .at)) (c .does) → Holds J g
       → Inv (journalsNext n start setting owes J g c) (next g c) → ((k : ℕ) → k < n → 512 * J k .safe ≤ g .disks k .floor)
       → (k : ℕ) → k < n → 512 * journalsNext n start setting owes J g c k .safe ≤ next g c .disks k .floor
   floors-next J g c u K I low k below = by (eqb k (c .at)) refl
@@ -138,7 +138,7 @@ module _ (n : ℕ) (start : List ℤ) (setting : Setting n start)
           floor-by (J (c .at)) (g .disks (c .at) .floor) (d′ .journal) _ (c .does) (did g c .answer) (low (c .at) h) (safe-bytes n (d′ .journal) J′ (H′ h) s)
       by false e = low k below
 
-  pub premise : (cs : List CallAt) (f : Calls n cs) (J : ℕ → Journal ℤ) (g : Group) → Holds J g → Inv J g → ((k : ℕ) → k < n → 512 * J k .safe ≤ g .disks k .floor) → PremiseFrom n start g cs
+  pub premise : (cs : List CallAt) (f : Calls n cs) (J : ℕ → Journal ℤ) (g : Members) → Holds J g → Inv J g → ((k : ℕ) → k < n → 512 * J k .safe ≤ g .disks k .floor) → PremiseFrom n start g cs
       → CommandPremise (setup n start) (machine n start setting owes) (machineOf n start setting owes J g) (commands n start setting owes cs f)
   unfolding CommandPremise commands
   premise [] f J g K I low A = tt

@@ -9,14 +9,14 @@ use lib.ListN.{getD}
 use borrow.Author.Tests.{eq-eqb, lt-leb, leb-false}
 use Rattle.block.proofs.ListLaws.{getD-slice}
 use Rattle.memory.specs.Memory.{Memory}
-use Rattle.engine.specs.Calls.{outcome}
+use Rattle.engine.specs.Answers.{outcome}
 use Rattle.engine.specs.Client.{rowNo, rowIn, readRefusal, valueFor}
-use Rattle.engine.specs.Step.{step}
-use Rattle.engine.specs.Step.Call.{read}
+use Rattle.engine.specs.Calls.{step}
+use Rattle.engine.specs.Calls.Call.{read}
 use Rattle.engine.proofs.Tests.{not-first, passes}
 use Rattle.engine.proofs.Steps.{read-by}
 use Rattle.engine.proofs.Passed.{RowPassed, row-passed}
-use Rattle.protocol.specs.Writesets.{lookup}
+use Rattle.protocol.specs.Writesets.{valueOr}
 use Rattle.protocol.specs.Replica.{Transaction, Transactions, got}
 use Rattle.protocol.specs.Client.{findTxn, answered, readStep}
 use Rattle.agreement.specs.Group.{heard}
@@ -27,7 +27,7 @@ use Rattle.agreement.proofs.ClientStep.{refused-owes}
 
 -- what the transaction sees of the item
 abbrev seen : Transaction ℤ → ℕ → ℤ
-seen u i = lookup i (getD (u .values) i (pos 0)) (u .writes)
+seen u i = valueOr i (getD (u .values) i (pos 0)) (u .writes)
 
 model-reads : (n : ℕ) (start : List ℤ) (k : Transactions ℤ) (t i : ℕ) (u : Transaction ℤ) → i < 128 → findTxn t (k .txns) ≡ some u → u .stage ≡ 0
     → readStep (setup n start) k t i ≡ answered k (got t i (seen u i))
@@ -62,7 +62,7 @@ module _ (n : ℕ) (start : List ℤ) (m : Memory) (s : Sound n m) (t i : ℕ) w
         model-reads n start (view m .transactions) t i _ (p .item) (find-row m (s .shape) t (p .own .row)) (p .own .active)
         ∙ ap (λ (v : ℤ). answered (view m .transactions) (got t i v)) (sym value-seen)
 
-    got-owes : Owed n start m (read t i) (outcome (Rattle.engine.specs.Calls.Answer.got (valueFor m (rowNo m t) i)) m)
+    got-owes : Owed n start m (read t i) (outcome (Rattle.engine.specs.Answers.Answer.got (valueFor m (rowNo m t) i)) m)
     unfolding heard Rattle.protocol.specs.System.step
     got-owes = follows (rw model) (rw model (alike-same (view m)))
 

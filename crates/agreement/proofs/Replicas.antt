@@ -10,11 +10,11 @@ use lib.IntN.{ℤ}
 use borrow.Author.Tests.{ltb-true, ltb-false}
 use Rattle.block.specs.Message.{signed32}
 use Rattle.memory.specs.Memory.{Memory, noNumber}
-use Rattle.engine.specs.Calls.{Outcome}
-use Rattle.engine.specs.Calls.Answer.{restarted}
+use Rattle.engine.specs.Answers.{Outcome}
+use Rattle.engine.specs.Answers.Answer.{restarted}
 use Rattle.engine.specs.Make.{Setting, madeMemory}
 use Rattle.engine.specs.Moves.{waiting}
-use Rattle.engine.specs.Step.{Call, step}
+use Rattle.engine.specs.Calls.{Call, step}
 use Rattle.engine.specs.Restart.{blocksIn, restartStep}
 use Rattle.engine.specs.History.{AnyCall, anyStep}
 use Rattle.engine.specs.History.AnyCall.{call, restart}

@@ -10,8 +10,8 @@ use lib.ListN.{length, replicate, length-map, length-replicate}
 use Rattle.block.specs.Message.{signed32}
 use Rattle.memory.specs.Memory.{Memory}
 use Rattle.engine.specs.Make.{SettingOf}
-use Rattle.engine.specs.Calls.{Outcome}
-use Rattle.engine.specs.Calls.Answer.{restarted}
+use Rattle.engine.specs.Answers.{Outcome}
+use Rattle.engine.specs.Answers.Answer.{restarted}
 use Rattle.engine.specs.Moves.{waiting}
 use Rattle.engine.specs.Restart.{isGood, blocksIn, startReplay, repeated, lastOwn, restartedMemory, restartRefusal}
 use Rattle.engine.specs.History.{AnyCall, anyStep}

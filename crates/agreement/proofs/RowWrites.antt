@@ -14,7 +14,7 @@ use Rattle.block.proofs.ListLaws.{getD-slice}
 use Rattle.block.specs.Writing.{entriesFrom}
 use Rattle.memory.specs.declared.Txn.{Txn}
 use Rattle.memory.specs.Rows.{writeCount, itemsOf, indexFrom, indexOf}
-use Rattle.protocol.specs.Writesets.{lookup}
+use Rattle.protocol.specs.Writesets.{valueOr}
 use Rattle.protocol.specs.Client.{isEmpty}
 use Rattle.agreement.specs.Group.{writeOf}
 use Rattle.agreement.proofs.View.{rowWrites}
@@ -29,8 +29,8 @@ entries-some (i ∷ is) (v ∷ vs) h e = refl
 
 -- f has the values from j on
 entries-say : (i : ℕ) (d : ℤ) (f : ℕ → ℤ) (n : ℕ) (is : List ℕ) (vs : List ℤ) (j : ℕ) → j + length is ≡ n → length vs ≡ length is
-    → ((k : ℕ) → k < length is → f (j + k) ≡ getD vs k (pos 0)) → lookup i d (map writeOf (entriesFrom is vs)) ≡ cond (ltb (indexFrom i is j) n) (f (indexFrom i is j)) d
-unfolding entriesFrom lookup indexFrom
+    → ((k : ℕ) → k < length is → f (j + k) ≡ getD vs k (pos 0)) → valueOr i d (map writeOf (entriesFrom is vs)) ≡ cond (ltb (indexFrom i is j) n) (f (indexFrom i is j)) d
+unfolding entriesFrom valueOr indexFrom
 entries-say i d f n [] vs j e l g = rw (le-ltb j n (omega arith))
 entries-say i d f n (y ∷ ys) [] j e l g = absurd (omega arith)
 entries-say i d f n (y ∷ ys) (v ∷ vs) j e l g =
@@ -39,8 +39,8 @@ entries-say i d f n (y ∷ ys) (v ∷ vs) j e l g =
     first : v ≡ cond (ltb j n) (f j) d
     first = rw (lt-ltb j n (omega arith)) (sym (rw add-zero at (g 0 (omega arith))))
 
-    go : (b : Bool) → lookup i d (map writeOf (entriesFrom ys vs)) ≡ cond (ltb (indexFrom i ys (suc j)) n) (f (indexFrom i ys (suc j))) d
-        → cond b v (lookup i d (map writeOf (entriesFrom ys vs)))
+    go : (b : Bool) → valueOr i d (map writeOf (entriesFrom ys vs)) ≡ cond (ltb (indexFrom i ys (suc j)) n) (f (indexFrom i ys (suc j))) d
+        → cond b v (valueOr i d (map writeOf (entriesFrom ys vs)))
         ≡ cond (ltb (cond b j (indexFrom i ys (suc j))) n) (f (cond b j (indexFrom i ys (suc j)))) d
     go true q = first
     go false q = q
@@ -62,7 +62,7 @@ module _ (r : ℕ) (t : Txn) (items : List ℕ) (writes : List ℤ) (h : r < 6) 
   some-writes z = entries-some (itemsOf r t items) (slice (8 * r) (8 * r + writeCount t) writes) (rw (part-length items long) (omega (arith, z))) same-length
 
   -- the value written to the item, else d
-  pub writes-say : (i : ℕ) (d : ℤ) → lookup i d (rowWrites r t items writes)
+  pub writes-say : (i : ℕ) (d : ℤ) → valueOr i d (rowWrites r t items writes)
       ≡ cond (ltb (indexOf i (itemsOf r t items)) (writeCount t)) (getD writes (8 * r + indexOf i (itemsOf r t items)) (pos 0)) d
   writes-say i d =
       entries-say i d (λ k. getD writes (8 * r + k) (pos 0)) (writeCount t) (itemsOf r t items) (slice (8 * r) (8 * r + writeCount t) writes) 0

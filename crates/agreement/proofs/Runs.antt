@@ -13,12 +13,12 @@ use Rattle.block.specs.Message.{signed32}
 use Rattle.block.specs.Answers.{recordAt}
 use Rattle.memory.specs.Memory.{Memory}
 use Rattle.engine.specs.Make.{Setting}
-use Rattle.engine.specs.Calls.{Answer, Step, Outcome}
-use Rattle.engine.specs.Calls.Answer.{refused, made, began, got, wrote, queued, readOnly, withdrew, reported, sent, kept, worked, loaded, restarted}
+use Rattle.engine.specs.Answers.{Answer, WorkDone, Outcome}
+use Rattle.engine.specs.Answers.Answer.{refused, made, began, got, wrote, queued, readOnly, withdrew, reported, sent, kept, worked, loaded, restarted}
 use Rattle.engine.specs.Client.{beginAt, readOnlyAt, queueAt, rewriteAt, insertWrite, staleAt, withdrawAt, reportStep}
 use Rattle.engine.specs.Moves.{sendNow, deliverNow, blockAtTurn, passNext, commitWriteset}
-use Rattle.engine.specs.Step.{Call, step}
-use Rattle.engine.specs.Step.Call.{begin, read, write, ask, withdraw, report, send, deliver, work, load}
+use Rattle.engine.specs.Calls.{Call, step}
+use Rattle.engine.specs.Calls.Call.{begin, read, write, ask, withdraw, report, send, deliver, work, load}
 use Rattle.engine.specs.Restart.{restartStep}
 use Rattle.engine.specs.History.{AnyCall, anyStep}
 use Rattle.engine.specs.History.AnyCall.{call, restart}
@@ -35,7 +35,7 @@ use Rattle.protocol.specs.Machine.{Machine, CommandClaim, MachineSystem, Comman
 use Rattle.protocol.proofs.ListLaws.{update-by, mem-map}
 use Rattle.protocol.proofs.SequenceLaws.{map-append}
 use Rattle.agreement.specs.Group as group
-use Rattle.agreement.specs.Group.{messageIn, argumentsOf, givenIn, heard, Disk, diskAfter, Group, CallAt, fresh, did, blocksAfter, next, run, Comes, Calls, Lent, PremiseFrom}
+use Rattle.agreement.specs.Group.{messageIn, argumentsOf, givenIn, heard, Disk, diskAfter, Members, CallAt, fresh, did, blocksAfter, next, run, Comes, Calls, Lent, PremiseFrom}
 use Rattle.agreement.proofs.View.{setup, viewAt, Sound, meant, Owed}
 use Rattle.agreement.proofs.RestartStep.{lentMessages, meantBy, sound-any}
 use Rattle.agreement.proofs.MemberStep.{Ours, view-own}
@@ -44,7 +44,7 @@ use Rattle.agreement.proofs.Replicas.{Standing, as-replica, as-station,
 
 -- ---- the messages of the blocks handed out
 
-work-message : (B : List (Message ℤ)) (c : AnyCall) (s : Step) → messagesAfter B (heard c (worked s)) ≡ B
+work-message : (B : List (Message ℤ)) (c : AnyCall) (s : WorkDone) → messagesAfter B (heard c (worked s)) ≡ B
 unfolding heard messagesAfter
 work-message B c s = cond-by (λ (e : Event ℤ). messagesAfter B e ≡ B) (eqb (s .ticket) 0) (λ q. refl) (λ q. refl)
 
@@ -103,7 +103,7 @@ module _ (B : List (Message ℤ)) where
 -- ---- a run
 
 -- with one more call at its end
-pub run-on : (before : List CallAt) (g : Group) (c : CallAt) → run g (before ++ (c ∷ [])) ≡ next (run g before) c
+pub run-on : (before : List CallAt) (g : Members) (c : CallAt) → run g (before ++ (c ∷ [])) ≡ next (run g before) c
 unfolding run
 run-on [] g c = refl
 run-on (b ∷ bs) g c = run-on bs (next g b) c
@@ -113,7 +113,7 @@ module _ (n : ℕ) (start : List ℤ) (cs before rest : List CallAt) (q : cs ≡
   pub calls-part : Calls n cs → Calls n before
   calls-part f d m = f d (subst (Mem d) (sym q) (Memᴰ·append-left rest m))
 
-  pub premise-part : (g : Group) → PremiseFrom n start g cs → PremiseFrom n start g before
+  pub premise-part : (g : Members) → PremiseFrom n start g cs → PremiseFrom n start g before
   premise-part g A = record {
     delivered = λ b k bytes h. A .delivered b k bytes (on b _ h);
     lent = λ b k size own values j l x y h. A .lent b k size own values j l x y (on b _ h);
@@ -123,7 +123,7 @@ module _ (n : ℕ) (start : List ℤ) (cs before rest : List CallAt) (q : cs ≡
       on b d h = (h .0 ++ rest, q ∙ ap (λ (l : List CallAt). l ++ rest) (h .1) ∙ append-assoc b (d ∷ h .0) rest)
 
 -- behind the first call
-pub premise-rest : (n : ℕ) (start : List ℤ) (g : Group) (c : CallAt) (cs : List CallAt) → PremiseFrom n start g (c ∷ cs) → PremiseFrom n start (next g c) cs
+pub premise-rest : (n : ℕ) (start : List ℤ) (g : Members) (c : CallAt) (cs : List CallAt) → PremiseFrom n start g (c ∷ cs) → PremiseFrom n start (next g c) cs
 unfolding run
 premise-rest n start g c cs A = record {
   delivered = λ before k b h. A .delivered (c ∷ before) k b (h .0, ap (λ (l : List CallAt). c ∷ l) (h .1));
@@ -136,7 +136,7 @@ LentOurs n start k m d c = (size own : ℕ) (values : List ℤ) (j l : List ℕ)
     → (size ≡ n) × (own ≡ k) × (values ≡ start) × Lent m d j
 
 -- and of the first call
-pub premise-first : (n : ℕ) (start : List ℤ) (g : Group) (c : CallAt) (cs : List CallAt) → PremiseFrom n start g (c ∷ cs) → LentOurs n start (c .at) (g .memories (c .at)) (g .disks (c .at)) (c .does)
+pub premise-first : (n : ℕ) (start : List ℤ) (g : Members) (c : CallAt) (cs : List CallAt) → PremiseFrom n start g (c ∷ cs) → LentOurs n start (c .at) (g .memories (c .at)) (g .disks (c .at)) (c .does)
 unfolding run
 premise-first n start g c cs A size own values j l x b e = A .lent [] (c .at) size own values j l x b (cs, ap (λ (d : AnyCall). record { at = c .at; does = d } ∷ cs) e)
 
@@ -146,7 +146,7 @@ lent-ours n start k m d (restart size own values j l) f = λ x b q. let L = f si
 
 -- ---- the memories, with no premise
 
-pub sound-run : (n : ℕ) (cs : List CallAt) → Calls n cs → (g : Group) → ((k : ℕ) → Sound n (g .memories k)) → (k : ℕ) → Sound n (run g cs .memories k)
+pub sound-run : (n : ℕ) (cs : List CallAt) → Calls n cs → (g : Members) → ((k : ℕ) → Sound n (g .memories k)) → (k : ℕ) → Sound n (run g cs .memories k)
 unfolding run
 sound-run n [] f g S = S
 sound-run n (c ∷ cs) f g S =
@@ -163,7 +163,7 @@ module _ (n : ℕ) (start : List ℤ) (setting : Setting n start)
   abbrev pub Good : ℕ → Memory → Type 0
   Good = SoundAt n start setting owes
 
-  abbrev pub machineOf : (ℕ → Journal ℤ) → Group → MachineSystem (setup n start) machine
+  abbrev pub machineOf : (ℕ → Journal ℤ) → Members → MachineSystem (setup n start) machine
   machineOf J g = record { memories = g .memories; journals = J; observed = g .observed; handouts = g .handouts; messages = map messageIn (g .blocks) }
 
   abbrev pub command : (c : CallAt) → signed32 (argumentsOf (c .does) .value) ≡ true → CommandAt (setup n start) machine
@@ -177,20 +177,20 @@ module _ (n : ℕ) (start : List ℤ) (setting : Setting n start)
   abbrev pub journalNext : Journal ℤ → ℕ → Memory → AnyCall → Journal ℤ
   journalNext J k m c = let o = anyStep m c in journalAfter J (appended (setup n start) (viewAt k m) (o .memory .turn .slot) (heard c (o .answer))) (heard c (o .answer))
 
-  abbrev pub journalsNext : (ℕ → Journal ℤ) → Group → CallAt → ℕ → Journal ℤ
+  abbrev pub journalsNext : (ℕ → Journal ℤ) → Members → CallAt → ℕ → Journal ℤ
   journalsNext J g c = update J (c .at) (journalNext (J (c .at)) (c .at) (g .memories (c .at)) (c .does))
 
-  unfoldable pub journalsRun : (ℕ → Journal ℤ) → Group → List CallAt → ℕ → Journal ℤ
+  unfoldable pub journalsRun : (ℕ → Journal ℤ) → Members → List CallAt → ℕ → Journal ℤ
   journalsRun J g [] = J
   journalsRun J g (c ∷ cs) = journalsRun (journalsNext J g c) (next g c) cs
 
-  pub one : (J : ℕ → Journal ℤ) (g : Group) (c : CallAt) (h : signed32 (argumentsOf (c .does) .value) ≡ true)
+  pub one : (J : ℕ → Journal ℤ) (g : Members) (c : CallAt) (h : signed32 (argumentsOf (c .does) .value) ≡ true)
       → afterCommand (setup n start) machine (machineOf J g) (command c h) ≡ machineOf (journalsNext J g c) (next g c)
   one J g c h =
       ap (λ (l : List (Message ℤ)). record { memories = next g c .memories; journals = journalsNext J g c; observed = next g c .observed; handouts = next g c .handouts; messages = l })
       (messages-after (g .blocks) (c .does) (did g c .answer))
 
-  pub runs : (cs : List CallAt) (f : Calls n cs) (J : ℕ → Journal ℤ) (g : Group) → runCommands (setup n start) machine (machineOf J g) (commands cs f) ≡ machineOf (journalsRun J g cs) (run g cs)
+  pub runs : (cs : List CallAt) (f : Calls n cs) (J : ℕ → Journal ℤ) (g : Members) → runCommands (setup n start) machine (machineOf J g) (commands cs f) ≡ machineOf (journalsRun J g cs) (run g cs)
   unfolding runCommands commands run journalsRun
   runs [] f J g = refl
   runs (c ∷ cs) f J g =
@@ -199,7 +199,7 @@ module _ (n : ℕ) (start : List ℤ) (setting : Setting n start)
 
   -- ---- the memories and the disks, before each call
 
-  pub record Kept (J : ℕ → Journal ℤ) (g : Group) : Type 0 where
+  pub record Kept (J : ℕ → Journal ℤ) (g : Members) : Type 0 where
     pub sound : (k : ℕ) → Good k (g .memories k)
     -- a replica's; a station has none
     pub disks : (k : ℕ) → k < n → OnDisk n (g .disks k .journal) (J k .kept)
@@ -220,7 +220,7 @@ module _ (n : ℕ) (start : List ℤ) (setting : Setting n start)
   disk-next l J H k m s h (call c) f = rw (view-own k m (own-is k m s h)) (disk-call n l J H start m (s .sound) c)
   disk-next l J H k m s h (restart size own values j b) f = rw (view-own k m (own-is k m s h)) (disk-restart n l J H start m size own values j b (λ x y q. f x y q .0))
 
-  pub kept-next : (J : ℕ → Journal ℤ) (g : Group) → Kept J g → (c : CallAt) → signed32 (argumentsOf (c .does) .value) ≡ true → Ours n start (c .at) (g .memories (c .at)) (c .does)
+  pub kept-next : (J : ℕ → Journal ℤ) (g : Members) → Kept J g → (c : CallAt) → signed32 (argumentsOf (c .does) .value) ≡ true → Ours n start (c .at) (g .memories (c .at)) (c .does)
       → Kept (journalsNext J g c) (next g c)
   kept-next J g K c v f = record {
     sound = update-by Good (g .memories) (c .at) (did g c .memory)
@@ -235,7 +235,7 @@ module _ (n : ℕ) (start : List ℤ) (setting : Setting n start)
           disk-next (g .disks (c .at) .journal) (J (c .at)) (K .disks (c .at) i) (c .at) (g .memories (c .at)) (K .sound (c .at)) i (c .does) f
       by k h false e = K .disks k h
 
-  pub kept-run : (cs : List CallAt) → Calls n cs → (J : ℕ → Journal ℤ) (g : Group) → PremiseFrom n start g cs → Kept J g → Kept (journalsRun J g cs) (run g cs)
+  pub kept-run : (cs : List CallAt) → Calls n cs → (J : ℕ → Journal ℤ) (g : Members) → PremiseFrom n start g cs → Kept J g → Kept (journalsRun J g cs) (run g cs)
   unfolding run journalsRun
   kept-run [] f J g A K = K
   kept-run (c ∷ cs) f J g A K =
@@ -289,14 +289,14 @@ module _ (n : ℕ) (start : List ℤ) (setting : Setting n start)
   -- ---- what is claimed of a call
 
   -- with the group g before it
-  abbrev pub Said : List (Placed ℤ) → Group → CallAt → Type 0
+  abbrev pub Said : List (Placed ℤ) → Members → CallAt → Type 0
   Said F g c = CommandClaim (setup n start) F (g .handouts) (g .observed (c .at)) (c .at) (some (meantBy (c .does))) (heard (c .does) (did g c .answer))
 
-  unfoldable AllSaid : List (Placed ℤ) → Group → List CallAt → Type 0
+  unfoldable AllSaid : List (Placed ℤ) → Members → List CallAt → Type 0
   AllSaid F g [] = Unit
   AllSaid F g (c ∷ cs) = Said F g c × AllSaid F (next g c) cs
 
-  all-said : (F : List (Placed ℤ)) (cs : List CallAt) (f : Calls n cs) (J : ℕ → Journal ℤ) (g : Group) → CommandClaims (setup n start) machine F (machineOf J g) (commands cs f) → AllSaid F g cs
+  all-said : (F : List (Placed ℤ)) (cs : List CallAt) (f : Calls n cs) (J : ℕ → Journal ℤ) (g : Members) → CommandClaims (setup n start) machine F (machineOf J g) (commands cs f) → AllSaid F g cs
   unfolding AllSaid CommandClaims commands
   all-said F [] f J g h = tt
   all-said F (c ∷ cs) f J g h = (
@@ -306,11 +306,11 @@ module _ (n : ℕ) (start : List ℤ) (setting : Setting n start)
         (one J g c (f c (List·Memᴰ·head refl) .1)) (h .1)),
   )
 
-  said-of : (F : List (Placed ℤ)) (before : List CallAt) (c : CallAt) (after : List CallAt) (g : Group) → AllSaid F g (before ++ (c ∷ after)) → Said F (run g before) c
+  said-of : (F : List (Placed ℤ)) (before : List CallAt) (c : CallAt) (after : List CallAt) (g : Members) → AllSaid F g (before ++ (c ∷ after)) → Said F (run g before) c
   unfolding AllSaid run
   said-of F [] c after g h = h .0
   said-of F (b ∷ before) c after g h = said-of F before c after (next g b) (h .1)
 
-  pub said : (F : List (Placed ℤ)) (cs : List CallAt) (f : Calls n cs) (J : ℕ → Journal ℤ) (g : Group) → CommandClaims (setup n start) machine F (machineOf J g) (commands cs f)
+  pub said : (F : List (Placed ℤ)) (cs : List CallAt) (f : Calls n cs) (J : ℕ → Journal ℤ) (g : Members) → CommandClaims (setup n start) machine F (machineOf J g) (commands cs f)
       → (before : List CallAt) (c : CallAt) → Comes cs before c → Said F (run g before) c
   said F cs f J g h before c e = said-of F before c (e .0) g (subst (λ (l : List CallAt). AllSaid F g l) (e .1) (all-said F cs f J g h))

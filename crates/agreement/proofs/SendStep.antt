@@ -18,8 +18,8 @@ use Rattle.memory.specs.Rows.{isOpen, rowOf}
 use Rattle.engine.specs.Moves as engine
 use Rattle.engine.specs.Moves.{waiting, messageFor, sendRow, sendRefusal, sendNow}
 use Rattle.engine.specs.Shape.{Shape}
-use Rattle.engine.specs.Step.{step}
-use Rattle.engine.specs.Step.Call.{send}
+use Rattle.engine.specs.Calls.{step}
+use Rattle.engine.specs.Calls.Call.{send}
 use Rattle.engine.proofs.Steps.{send-by}
 use Rattle.protocol.specs.Replica.{Setup, transactions, Replica, replica, handedOut, Outcome, outcome}
 use Rattle.protocol.specs.Moves as model

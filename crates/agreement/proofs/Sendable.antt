@@ -17,7 +17,7 @@ use Rattle.block.proofs.FormLaws.{within-in}
 use Rattle.block.proofs.ListLaws.{getD-slice}
 use Rattle.block.proofs.WriteLaws.{length-entries}
 use Rattle.memory.specs.declared.Txn.{Txn}
-use Rattle.memory.specs.Memory.{Transactions, Memory, maxSlots}
+use Rattle.memory.specs.Memory.{Transactions, Memory, slotLimit}
 use Rattle.memory.specs.Turns.{isOn}
 use Rattle.memory.specs.Rows.{rowOf, rowAt, writeCount}
 use Rattle.engine.specs.Moves.{waiting, writesetOf, messageFor, sendRefusal}
@@ -30,7 +30,7 @@ use Rattle.agreement.proofs.View.{Sound}
 -- ---- what the tests say where a send is not refused
 
 pub record SendPassed (m : Memory) : Type 0 where
-  pub slot : m .turn .slot < maxSlots
+  pub slot : m .turn .slot < slotLimit
   pub owner : ownerOf (m .group .replicas) (m .turn .slot) ≡ m .group .own
   pub unsent : isOn (m .turn .sent) ≡ false
 
@@ -41,7 +41,7 @@ send-passed m b e =
     let s = passes _ _ refl (a .1) in
     let o = passes _ _ refl (s .1) in
     let u = passes _ _ refl (o .1) in
-    record { slot = leb-false maxSlots (m .turn .slot) (s .0); owner = eqb-true _ _ (not-false _ (o .0)); unsent = u .0 }
+    record { slot = leb-false slotLimit (m .turn .slot) (s .0); owner = eqb-true _ _ (not-false _ (o .0)); unsent = u .0 }
 
 -- ---- tests that hold
 

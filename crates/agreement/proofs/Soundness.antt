@@ -12,13 +12,13 @@ use Rattle.memory.specs.declared.Txn.{Txn}
 use Rattle.memory.specs.Memory.{Memory, noNumber}
 use Rattle.memory.specs.Rows.{writeCount, itemsOf, countBelow, insertAt}
 use Rattle.memory.specs.Turns.{isOn, markApplying, advance}
-use Rattle.engine.specs.Calls.{Outcome}
+use Rattle.engine.specs.Answers.{Outcome}
 use Rattle.engine.specs.Make.{Setting, SettingOf, madeMemory}
 use Rattle.engine.specs.Station.{stationMemory}
 use Rattle.engine.specs.Client.{rowNo, rowIn, beginAt, rewriteAt, insertWrite, staleAt, readOnlyAt, queueAt, withdrawAt, reportStep}
 use Rattle.engine.specs.Moves.{sendRefusal, sendNow, deliverNow, passNext, isLast, commitWriteset}
-use Rattle.engine.specs.Step.{Call, step}
-use Rattle.engine.specs.Step.Call.{begin, read, write, ask, withdraw, report, send, deliver, work, load}
+use Rattle.engine.specs.Calls.{Call, step}
+use Rattle.engine.specs.Calls.Call.{begin, read, write, ask, withdraw, report, send, deliver, work, load}
 use Rattle.engine.specs.History.AnyCall.{call}
 use Rattle.engine.proofs.Tests.{clash, same-by, less-by, passes}
 use Rattle.engine.proofs.PartLaws.{insert-before, insert-here, insert-moved, insert-after, below-part}

@@ -6,8 +6,8 @@ use native.Mathlib.Omega.{arith}
 use lib.IntN.{ℤ}
 use Rattle.memory.specs.Memory.{Memory}
 use Rattle.engine.specs.Make.{Setting}
-use Rattle.engine.specs.Step.{Call, step}
-use Rattle.engine.specs.Step.Call.{begin, read, write, ask, withdraw, report, send, deliver, work, load}
+use Rattle.engine.specs.Calls.{Call, step}
+use Rattle.engine.specs.Calls.Call.{begin, read, write, ask, withdraw, report, send, deliver, work, load}
 use Rattle.protocol.specs.Journal.{Journal, journal}
 use Rattle.protocol.specs.Machine.{MachineSystem}
 use Rattle.protocol.proofs.Refinement.{MachineInv, inv-commands, fresh-inv}

@@ -11,8 +11,8 @@ use lib.ListN.{take, drop, take-append-drop}
 use borrow.Author.Tests.{eqb-true}
 use Rattle.block.specs.Message.{Record}
 use Rattle.engine.specs.Make.{Setting}
-use Rattle.engine.specs.Calls.{Answer, Outcome}
-use Rattle.engine.specs.Calls.Answer.{restarted}
+use Rattle.engine.specs.Answers.{Answer, Outcome}
+use Rattle.engine.specs.Answers.Answer.{restarted}
 use Rattle.engine.specs.Client.{reportOf}
 use Rattle.engine.specs.Restart.{blocksIn, writesetsIn, isFrom, restartStep}
 use Rattle.engine.specs.Tickets.{ownTickets, CountsOf}
@@ -25,7 +25,7 @@ use Rattle.protocol.specs.Writesets.{Writeset}
 use Rattle.protocol.specs.Observer.{TxnId, Observed, Placed, txnIds, observedAfter, sequence, idOf}
 use Rattle.protocol.proofs.ListLaws.{update-same}
 use Rattle.protocol.proofs.SequenceLaws.{map-append}
-use Rattle.agreement.specs.Group.{writesetFrom, messageIn, heard, Group, CallAt, fresh, next, run, Comes, Calls, Premise}
+use Rattle.agreement.specs.Group.{writesetFrom, messageIn, heard, Members, CallAt, fresh, next, run, Comes, Calls, Premise}
 use Rattle.agreement.specs.Tickets.{Tickets}
 use Rattle.agreement.proofs.BlockView.{sender-seen}
 use Rattle.agreement.proofs.RestartView.{writesets-read, writesets-seen}
@@ -106,7 +106,7 @@ module _ (n k : ℕ) where
 
 module _ (n : ℕ) (start : List ℤ) where
   -- what is observed of a restart's commits
-  commits-seen : (g : Group) (k : ℕ) (journal block : List ℕ) (count : ℕ) (given : List ℕ) → restartStep (g .memories k) n k start journal block .answer ≡ restarted count given
+  commits-seen : (g : Members) (k : ℕ) (journal block : List ℕ) (count : ℕ) (given : List ℕ) → restartStep (g .memories k) n k start journal block .answer ≡ restarted count given
       → next g (record { at = k; does = restart n k start journal block }) .observed k .commits ≡ txnIds (map messageIn (blocksIn n journal))
   unfolding heard observedAfter
   commits-seen g k journal block count given e =
@@ -131,7 +131,7 @@ lent-once n start setting cs f p before k journal block count given q e =
     c : CallAt
     c = record { at = k; does = restart n k start journal block }
 
-    G : Group
+    G : Members
     G = run (fresh n start) (before ++ (record { at = k; does = restart n k start journal block } ∷ []))
 
     I : InvAfter n start setting (before ++ (c ∷ []))
@@ -140,7 +140,7 @@ lent-once n start setting cs f p before k journal block count given q e =
         inv-after n start setting (before ++ (c ∷ [])) (calls-part n start cs (before ++ (c ∷ [])) (q .0) e f) (premise-part n start cs (before ++ (c ∷ [])) (q .0) e (fresh n start) p)
 
     seen : run (fresh n start) (before ++ (c ∷ [])) .observed k .commits ≡ txnIds (map messageIn (blocksIn n journal))
-    seen = ap (λ (g : Group). g .observed k .commits) (run-on before (fresh n start) c) ∙ commits-seen n start (run (fresh n start) before) k journal block count given e
+    seen = ap (λ (g : Members). g .observed k .commits) (run-on before (fresh n start) c) ∙ commits-seen n start (run (fresh n start) before) k journal block count given e
 
 pub tickets : Tickets
 tickets = record {

@@ -8,18 +8,18 @@ use lib.Dec.{eqb}
 use lib.IntN.{ℤ, pos}
 use lib.ListN.{getD}
 use lib.Seq.{slice}
-use Rattle.block.specs.Message.{ownerOf, signed32}
+use Rattle.block.specs.Message.{ownerOf, signed32, maxTicket}
 use Rattle.block.specs.Writing.{entriesFrom}
 use Rattle.memory.specs.declared.Txn.{Txn}
-use Rattle.memory.specs.Memory.{Transactions, Memory, maxTickets, maxSlots}
+use Rattle.memory.specs.Memory.{Transactions, Memory, slotLimit}
 use Rattle.memory.specs.Turns.{isOn}
 use Rattle.memory.specs.Rows.{isOpen, writeCount, itemsOf}
-use Rattle.engine.specs.Calls.{Outcome}
+use Rattle.engine.specs.Answers.{Outcome}
 use Rattle.engine.specs.Moves.{waiting}
 use Rattle.engine.specs.Shape.{Shape}
 use Rattle.engine.specs.Sent.{SentShape}
-use Rattle.engine.specs.Step.{Call}
-use Rattle.engine.specs.Step.Call.{begin, read, write, ask, withdraw, report, send, deliver, work, load}
+use Rattle.engine.specs.Calls.{Call}
+use Rattle.engine.specs.Calls.Call.{begin, read, write, ask, withdraw, report, send, deliver, work, load}
 use Rattle.engine.specs.History.AnyCall.{call}
 use Rattle.protocol.specs.Writesets.{Write, Message}
 use Rattle.protocol.specs.Replica.{Setup, Transaction, transaction, Cursor, Store, transactions, Blocks, Replica, replica, refused}
@@ -32,8 +32,8 @@ use Rattle.agreement.specs.Group.{writeOf, messageIn, heard}
 abbrev pub setup : ℕ → List ℤ → Setup ℤ
 setup n start = record {
   size = n;
-  slotLimit = maxSlots;
-  ticketLimit = maxTickets;
+  slotLimit = slotLimit;
+  ticketLimit = maxTicket;
   items = 128;
   owner = ownerOf n;
   place = λ s. s % n;

@@ -10,8 +10,8 @@ use Rattle.memory.specs.Memory.{Memory, bump, withWithdrawn, withTable}
 use Rattle.memory.specs.Rows.{closed}
 use Rattle.engine.specs.Classes.{loadRefusal}
 use Rattle.engine.specs.Client.{rowNo, withdrawRefusal, withdrawAt, reportOf, reportStep}
-use Rattle.engine.specs.Step.{step}
-use Rattle.engine.specs.Step.Call.{withdraw, report, load}
+use Rattle.engine.specs.Calls.{step}
+use Rattle.engine.specs.Calls.Call.{withdraw, report, load}
 use Rattle.engine.proofs.Tests.{not-first}
 use Rattle.engine.proofs.Steps.{withdraw-by, load-by}
 use Rattle.engine.proofs.Passed.{RowPassed, withdraw-passed}

@@ -17,10 +17,10 @@ use Rattle.memory.specs.declared.Txn.{Txn}
 use Rattle.memory.specs.Memory.{Memory, bump}
 use Rattle.memory.specs.Rows.{rowOf, rowAt}
 use Rattle.memory.specs.Turns.{isOn, markApplying}
-use Rattle.engine.specs.Calls.{Step, Outcome}
-use Rattle.engine.specs.Calls.Answer.{worked}
+use Rattle.engine.specs.Answers.{WorkDone, Outcome}
+use Rattle.engine.specs.Answers.Answer.{worked}
 use Rattle.engine.specs.Moves.{waiting, blockAtTurn, writesetAt, hitTickets, workRefusal, turnBlocks, passNext, isLast, commitWriteset}
-use Rattle.engine.specs.Step.Call.{work}
+use Rattle.engine.specs.Calls.Call.{work}
 use Rattle.engine.specs.Shape.{Shape}
 use Rattle.engine.specs.Sent.{SentShape}
 use Rattle.engine.specs.History.AnyCall.{call}
@@ -34,7 +34,7 @@ use Rattle.engine.proofs.Shaping.{bumps}
 use Rattle.engine.proofs.ShapeTurn.{Working, working}
 use Rattle.engine.proofs.ShapeWriteset.{committed, ends-own}
 use Rattle.engine.proofs.SentWork.{own-sent}
-use Rattle.protocol.specs.Lists.{keep, any}
+use Rattle.protocol.specs.Lists.{keep, anyOf}
 use Rattle.protocol.specs.Writesets.{Writeset, Message, noWriteset}
 use Rattle.protocol.specs.Replica.{Setup, Transaction, transactions, Replica, replica, passed, outcome}
 use Rattle.protocol.specs.Client.{findTxn, without}
@@ -76,7 +76,7 @@ module _ (S : Setup ℤ) (r : Replica ℤ) (a : Message ℤ) (found : r .blocks 
 
 -- ---- one fact each
 
-heard-committed : (n : ℕ) (s : Step) → (s .ticket ≡ 0 → ⊥) → heard (call work) (worked s) ≡ Rattle.protocol.specs.Replica.Event.committed (s .sender) (s .ticket) (s .aborted)
+heard-committed : (n : ℕ) (s : WorkDone) → (s .ticket ≡ 0 → ⊥) → heard (call work) (worked s) ≡ Rattle.protocol.specs.Replica.Event.committed (s .sender) (s .ticket) (s .aborted)
 unfolding heard
 heard-committed n s d = rw (ne-eqb (s .ticket) 0 d)
 
@@ -225,7 +225,7 @@ module _ (start : List ℤ) {over : ℕ} (m : Memory) (S : Shape over m) (Q : Se
         ∙ rows-spared (m .txns) (w .entries) (S .lengths .items) (S .lengths .writes) 0 table staged in
         rw e (record { there = λ u q. q; back = λ u q. q })
 
-    queue : waiting (committed m false false (isLast m) w .txns .queue) ≡ keep (λ t. not (any (λ x. eqb x t) (abortedBy (map writeOf (w .entries)) (openTxns (m .txns))))) (waiting (m .txns .queue))
+    queue : waiting (committed m false false (isLast m) w .txns .queue) ≡ keep (λ t. not (anyOf (λ x. eqb x t) (abortedBy (map writeOf (w .entries)) (openTxns (m .txns))))) (waiting (m .txns .queue))
     queue =
         rw hit
         (front-is gone (m .txns .queue) _ (no-zero (w .entries) (m .txns .items) 0 table) (S .lengths .queue)
@@ -251,11 +251,11 @@ never-nine : (m : Memory) → workRefusal m ≡ 9 → ⊥
 unfolding workRefusal
 never-nine m = not-first 9 _ refl
 
-owes-here : (start : List ℤ) {over : ℕ} (m : Memory) → Shape over m → SentShape m → Owed (m .group .replicas) start m work (Rattle.engine.specs.Step.step m work)
+owes-here : (start : List ℤ) {over : ℕ} (m : Memory) → Shape over m → SentShape m → Owed (m .group .replicas) start m work (Rattle.engine.specs.Calls.step m work)
 unfolding heard
 owes-here start m S Q =
     work-by (Owed (m .group .replicas) start m work) m (λ z h. next-owes start m S Q (working m S z) h) (λ z h. by-sender start m S Q (working m S z) h _ refl)
     (λ z. refused-owes (m .group .replicas) start m work (workRefusal m) (never-nine m))
 
-pub work-owes : (n : ℕ) (start : List ℤ) (m : Memory) → Sound n m → Owed n start m work (Rattle.engine.specs.Step.step m work)
-work-owes n start m s = subst (λ (k : ℕ). Owed k start m work (Rattle.engine.specs.Step.step m work)) (s .size) (owes-here start m (s .shape) (s .sent))
+pub work-owes : (n : ℕ) (start : List ℤ) (m : Memory) → Sound n m → Owed n start m work (Rattle.engine.specs.Calls.step m work)
+work-owes n start m s = subst (λ (k : ℕ). Owed k start m work (Rattle.engine.specs.Calls.step m work)) (s .size) (owes-here start m (s .shape) (s .sent))

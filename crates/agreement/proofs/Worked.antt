@@ -21,12 +21,12 @@ use Rattle.engine.specs.Make.{madeMemory, placesFit, partsFit}
 use Rattle.engine.specs.Classes.{hasClass, classFrom, classToCome, mustWait}
 use Rattle.engine.specs.Client.{beginRefusal, beginAt, beginRow, writeRefusal, rewriteAt, insertWrite, staleAt, writeRow, askRefusal, readOnlyAt, queueAt, askRow, reportOf, reportStep}
 use Rattle.engine.specs.Moves.{waiting, writesetOf, messageFor, sendRefusal, sendNow, sendStep, sameBytes, deliverRefusal, deliverNow, deliverStep, entriesFor, applied, stamped, shares, afterAborts, insertRising, hitTickets, without, workRefusal, passNext, commitWriteset, workStep}
-use Rattle.engine.specs.Step.{step}
-use Rattle.engine.specs.Step.Call.{report}
+use Rattle.engine.specs.Calls.{step}
+use Rattle.engine.specs.Calls.Call.{report}
 use Rattle.engine.specs.Restart.{isGood, blocksFrom, writesetsFrom, commitAll, commitBlocks, highestTicket, highestOwn, ownWritesets, lastOwn, restartedMemory, restartRefusal, restartStep}
 use Rattle.engine.specs.Worked.{zeros}
 use Rattle.engine.proofs.Tests.{clash}
-use Rattle.protocol.specs.Lists.{keep, any}
+use Rattle.protocol.specs.Lists.{keep, anyOf}
 use Rattle.protocol.specs.Writesets.{put}
 use Rattle.protocol.specs.Observer.{addPending, txnIds, observedAfter, handoutsAfter}
 use Rattle.agreement.specs.Group.{messageIn, heard, run}
@@ -37,7 +37,7 @@ isFour (pos n) = eqb n 4
 isFour (negsuc n) = false
 
 pub right-group : RightGroup
-unfolding bytesOf numberFrom valueBytes valueOf word sumTo weightedTo firstCheck secondCheck checkBytes checkMatches ownerOf within kindFits entriesFit recordFits recordsFit ticketAbsent ticketsDiffer valid signed32 entryBytes entriesBytes recordBytes recordsBytes headerFor headerBytes bodyBytes blockOf entryOf entriesOf recordOf recordsOf messageOf allZero entriesPadded recordPadded recordsPadded padded wellFormed firstOf blockRefusal headerOf recordAt entryAt entriesFrom bump openCount rowFrom rowOf freeRow indexFrom has holderFrom countBelow placeStart madeMemory placesFit partsFit hasClass classFrom classToCome mustWait beginRefusal beginAt beginRow writeRefusal rewriteAt insertWrite staleAt writeRow askRefusal readOnlyAt queueAt askRow reportOf reportStep waiting writesetOf messageFor sendRefusal sendNow sendStep sameBytes deliverRefusal deliverNow deliverStep entriesFor applied stamped shares afterAborts insertRising hitTickets without workRefusal passNext commitWriteset workStep step isGood blocksFrom writesetsFrom commitAll commitBlocks highestTicket highestOwn ownWritesets lastOwn restartedMemory restartRefusal restartStep keep any put addPending txnIds observedAfter handoutsAfter messageIn heard run
+unfolding bytesOf numberFrom valueBytes valueOf word sumTo weightedTo firstCheck secondCheck checkBytes checkMatches ownerOf within kindFits entriesFit recordFits recordsFit ticketAbsent ticketsDiffer valid signed32 entryBytes entriesBytes recordBytes recordsBytes headerFor headerBytes bodyBytes blockOf entryOf entriesOf recordOf recordsOf messageOf allZero entriesPadded recordPadded recordsPadded padded wellFormed firstOf blockRefusal headerOf recordAt entryAt entriesFrom bump openCount rowFrom rowOf freeRow indexFrom has holderFrom countBelow placeStart madeMemory placesFit partsFit hasClass classFrom classToCome mustWait beginRefusal beginAt beginRow writeRefusal rewriteAt insertWrite staleAt writeRow askRefusal readOnlyAt queueAt askRow reportOf reportStep waiting writesetOf messageFor sendRefusal sendNow sendStep sameBytes deliverRefusal deliverNow deliverStep entriesFor applied stamped shares afterAborts insertRising hitTickets without workRefusal passNext commitWriteset workStep step isGood blocksFrom writesetsFrom commitAll commitBlocks highestTicket highestOwn ownWritesets lastOwn restartedMemory restartRefusal restartStep keep anyOf put addPending txnIds observedAfter handoutsAfter messageIn heard run
 right-group = record {
   run-kept = refl;
   restart-kept = refl;

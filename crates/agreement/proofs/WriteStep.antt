@@ -17,20 +17,20 @@ use Rattle.block.proofs.ListLaws.{getD-slice}
 use Rattle.memory.specs.declared.Txn.{Txn}
 use Rattle.memory.specs.Memory.{Transactions, Memory, withAborted, withTable, withTxns}
 use Rattle.memory.specs.Rows.{closed, rowAt, writeCount, itemsOf, indexOf, countBelow, insertAt}
-use Rattle.engine.specs.Calls.{Answer, outcome}
-use Rattle.engine.specs.Calls.Answer.{wrote, refused}
+use Rattle.engine.specs.Answers.{Answer, outcome}
+use Rattle.engine.specs.Answers.Answer.{wrote, refused}
 use Rattle.engine.specs.Client.{rowNo, rowIn, ownIndex, isOwn, heldByOther, isStale, isFull, writeRefusal, rewriteAt, insertWrite, staleAt}
 use Rattle.engine.specs.Moves.{waiting}
 use Rattle.engine.specs.Shape.{Shape}
-use Rattle.engine.specs.Step.{step}
-use Rattle.engine.specs.Step.Call.{write}
+use Rattle.engine.specs.Calls.{step}
+use Rattle.engine.specs.Calls.Call.{write}
 use Rattle.engine.specs.History.AnyCall.{call}
 use Rattle.engine.proofs.Tests.{bool-by, less-by, passes}
 use Rattle.engine.proofs.HasLaws.{index-none}
 use Rattle.engine.proofs.PartLaws.{below}
 use Rattle.engine.proofs.RowLaws.{FoundRow, row-found, none-else}
 use Rattle.engine.proofs.Steps.{write-by}
-use Rattle.protocol.specs.Lists.{any}
+use Rattle.protocol.specs.Lists.{anyOf}
 use Rattle.protocol.specs.Writesets.{has, put}
 use Rattle.protocol.specs.Replica.{Setup, Transaction, Store, transactions, Event}
 use Rattle.protocol.specs.Client.{ClientOutcome, answered, findTxn, without, withWrite, writeFound, writeStep}
@@ -59,7 +59,7 @@ module _ (S : Setup ℤ) (b : Store ℤ) (k : Rattle.protocol.specs.Replica.Tra
     unfolding writeStep writeFound
     model-stale h = rw (lt-leb (S .items) i low, found, eq-eqb (u .stage) 0 active, none, h)
 
-    model-new : ltb (u .snapshot) (b .stamps i) ≡ false → any (λ o. not (eqb (o .ticket) t) && has i (o .writes)) (k .txns) ≡ false → length (u .writes) < 8 → writeStep S b k t i v ≡ written
+    model-new : ltb (u .snapshot) (b .stamps i) ≡ false → anyOf (λ o. not (eqb (o .ticket) t) && has i (o .writes)) (k .txns) ≡ false → length (u .writes) < 8 → writeStep S b k t i v ≡ written
     unfolding writeStep writeFound
     model-new h free w = rw (lt-leb (S .items) i low, found, eq-eqb (u .stage) 0 active, none, h, free, lt-leb 8 (length (u .writes)) w)
 
@@ -156,11 +156,11 @@ module _ {over : ℕ} (m : Memory) (S : Shape over m) where
     has-found i = has-row i ∙ sym (index-has i (items m k) 0) ∙ rw (zero-add, items-long)
 
   -- no other open transaction has the item
-  unheld : (t i : ℕ) → rowNo m t < 6 → heldByOther m (rowNo m t) i ≡ false → any (λ o. not (eqb (o .ticket) t) && has i (o .writes)) (openTxns x) ≡ false
-  unheld t i h e = bool-by (any (λ o. not (eqb (o .ticket) t) && has i (o .writes)) (openTxns x)) other (λ q. q)
+  unheld : (t i : ℕ) → rowNo m t < 6 → heldByOther m (rowNo m t) i ≡ false → anyOf (λ o. not (eqb (o .ticket) t) && has i (o .writes)) (openTxns x) ≡ false
+  unheld t i h e = bool-by (anyOf (λ o. not (eqb (o .ticket) t) && has i (o .writes)) (openTxns x)) other (λ q. q)
     where
-      other : any (λ o. not (eqb (o .ticket) t) && has i (o .writes)) (openTxns x) ≡ true
-          → any (λ o. not (eqb (o .ticket) t) && has i (o .writes)) (openTxns x) ≡ false
+      other : anyOf (λ o. not (eqb (o .ticket) t) && has i (o .writes)) (openTxns x) ≡ true
+          → anyOf (λ o. not (eqb (o .ticket) t) && has i (o .writes)) (openTxns x) ≡ false
       other q =
           let a = any-true (λ o. not (eqb (o .ticket) t) && has i (o .writes)) (openTxns x) q in
           let p = and-true (not (eqb (a .0 .ticket) t)) (has i (a .0 .writes)) (a .1 .1) in

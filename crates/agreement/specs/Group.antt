@@ -12,12 +12,12 @@ use Rattle.block.specs.declared.Entry.{Entry}
 use Rattle.block.specs.Message.{Record, signed32}
 use Rattle.block.specs.Form.{messageOf}
 use Rattle.memory.specs.Memory.{Memory}
-use Rattle.engine.specs.Calls.{Answer, Outcome}
-use Rattle.engine.specs.Calls.Answer.{refused, made, began, got, wrote, queued, readOnly, withdrew, reported, sent, kept, worked, loaded, restarted}
+use Rattle.engine.specs.Answers.{Answer, Outcome}
+use Rattle.engine.specs.Answers.Answer.{refused, made, began, got, wrote, queued, readOnly, withdrew, reported, sent, kept, worked, loaded, restarted}
 use Rattle.engine.specs.Make.{madeMemory}
 use Rattle.engine.specs.Station.{stationMemory}
-use Rattle.engine.specs.Step.{Call, step}
-use Rattle.engine.specs.Step.Call.{begin, read, write, ask, withdraw, report, send, deliver, work, load}
+use Rattle.engine.specs.Calls.{Call, step}
+use Rattle.engine.specs.Calls.Call.{begin, read, write, ask, withdraw, report, send, deliver, work, load}
 use Rattle.engine.specs.Restart.{blocksIn, restartStep}
 use Rattle.engine.specs.History.{AnyCall, anyStep}
 use Rattle.engine.specs.History.AnyCall.{call, restart}
@@ -145,7 +145,7 @@ diskAfter d c a = let l = journalAfter (d .journal) c a in disk l (opt (handedOu
 -- ---- the group
 
 -- blocks: those handed out, in order, also by a restart
-pub record Group : Type 0 where
+pub record Members : Type 0 where
   pub memories : ℕ → Memory
   pub disks : ℕ → Disk
   pub observed : ℕ → Observed ℤ
@@ -165,7 +165,7 @@ module _ (n : ℕ) (start : List ℤ) where
   madeMember k = cond (ltb k n) (madeMemory n k start) (stationMemory n start)
 
   -- n replicas just made, numbers 0 to n − 1, and stations, the same values
-  abbrev pub fresh : Group
+  abbrev pub fresh : Members
   fresh = record {
     memories = madeMember;
     disks = λ k. disk [] 0;
@@ -175,11 +175,11 @@ module _ (n : ℕ) (start : List ℤ) where
   }
 
 -- a call acts on the memory that the last call at its member left
-abbrev pub did : Group → CallAt → Outcome
+abbrev pub did : Members → CallAt → Outcome
 did g c = anyStep (g .memories (c .at)) (c .does)
 
 -- the group after a call with this outcome
-abbrev pub nextBy : Outcome → Group → CallAt → Group
+abbrev pub nextBy : Outcome → Members → CallAt → Members
 nextBy o g c = record {
   memories = update (g .memories) (c .at) (o .memory);
   disks = update (g .disks) (c .at) (diskAfter (g .disks (c .at)) (c .does) (o .answer));
@@ -188,10 +188,10 @@ nextBy o g c = record {
   blocks = blocksAfter (g .blocks) (o .answer);
 }
 
-abbrev pub next : Group → CallAt → Group
+abbrev pub next : Members → CallAt → Members
 next g c = nextBy (did g c) g c
 
-unfoldable pub run : Group → List CallAt → Group
+unfoldable pub run : Members → List CallAt → Members
 run g [] = g
 run g (c ∷ cs) = run (next g c) cs
 
@@ -219,7 +219,7 @@ pub record Lent (m : Memory) (d : Disk) (journal : List ℕ) : Type 0 where
   pub enough : d .floor ≤ length journal
 
 -- of a list of calls from the group g, of n replicas with the starting values `start`
-pub record PremiseFrom (n : ℕ) (start : List ℤ) (g : Group) (cs : List CallAt) : Type 0 where
+pub record PremiseFrom (n : ℕ) (start : List ℤ) (g : Members) (cs : List CallAt) : Type 0 where
   -- bytes that a deliver accepts equal a block handed out earlier in the list
   pub delivered : (before : List CallAt) (k : ℕ) (bytes : List ℕ) → Comes cs before (record { at = k; does = call (deliver bytes) })
       → step (run g before .memories k) (deliver bytes) .answer ≡ kept → Mem bytes (run g before .blocks)

@@ -11,10 +11,10 @@ use Rattle.block.specs.Answers.{blockRefusal}
 use Rattle.block.specs.Theorems.{AreBytes}
 use Rattle.memory.specs.Memory.{Memory}
 use Rattle.engine.specs.Make.{Setting}
-use Rattle.engine.specs.Calls.Answer.{sent, kept, restarted}
+use Rattle.engine.specs.Answers.Answer.{sent, kept, restarted}
 use Rattle.engine.specs.Moves.{messageFor}
-use Rattle.engine.specs.Step.{step}
-use Rattle.engine.specs.Step.Call.{send, deliver}
+use Rattle.engine.specs.Calls.{step}
+use Rattle.engine.specs.Calls.Call.{send, deliver}
 use Rattle.engine.specs.Restart.{restartStep}
 use Rattle.agreement.specs.Group.{CallAt, fresh, run, Calls}
 

@@ -8,16 +8,16 @@ use lib.ListN.{length, getD, take}
 use Rattle.memory.specs.Memory.{Store}
 use Rattle.engine.specs.Make.{Setting}
 use Rattle.engine.specs.declared.Report.{Report}
-use Rattle.engine.specs.Calls.{Answer, Step}
-use Rattle.engine.specs.Calls.Answer.{refused, got, worked}
+use Rattle.engine.specs.Answers.{Answer, WorkDone}
+use Rattle.engine.specs.Answers.Answer.{refused, got, worked}
 use Rattle.engine.specs.Client.{reportOf}
-use Rattle.engine.specs.Step.{Call, step}
-use Rattle.engine.specs.Step.Call.{read, write, work}
+use Rattle.engine.specs.Calls.{Call, step}
+use Rattle.engine.specs.Calls.Call.{read, write, work}
 use Rattle.engine.specs.History.AnyCall.{call}
 use Rattle.protocol.specs.Lists.{Mem}
-use Rattle.protocol.specs.Writesets.{Write, has, lookup, Disjoint}
+use Rattle.protocol.specs.Writesets.{Write, has, valueOr, Disjoint}
 use Rattle.protocol.specs.Observer.{Observed, Placed, Handout, sequence, idOf, applyAll, handoutMessage, noPlaced, noHandout}
-use Rattle.agreement.specs.Group.{messageIn, Group, CallAt, fresh, run, Comes, Calls, Premise}
+use Rattle.agreement.specs.Group.{messageIn, Members, CallAt, fresh, run, Comes, Calls, Premise}
 
 -- the writeset at a place of the sequence, counted from 1
 abbrev pub placed : List (Placed ℤ) → ℕ → Placed ℤ
@@ -57,7 +57,7 @@ pub record FirstCommitter (F : List (Placed ℤ)) (p : ℕ) : Type 0 where
 
 module _ (n : ℕ) (start : List ℤ) (cs : List CallAt) where
   -- the group after some of the calls, and after all
-  abbrev pub groupAfter : List CallAt → Group
+  abbrev pub groupAfter : List CallAt → Members
   groupAfter before = run (fresh n start) before
 
   abbrev pub handouts : List (Handout ℤ)
@@ -84,18 +84,18 @@ module _ (n : ℕ) (start : List ℤ) (cs : List CallAt) where
     pub stations : (k : ℕ) → n ≤ k → Agrees start F handouts (groupAfter cs .observed k) (groupAfter cs .memories k .store) (reportOf (groupAfter cs .memories k))
     -- each accepted read, at a station too, gave the value then noted, else the item's value after the first *start* writesets of the sequence
     pub reads : (before : List CallAt) (k t i : ℕ) (v : ℤ) → Comes cs before (record { at = k; does = call (read t i) }) → answer before k (read t i) ≡ got v
-        → let note = groupAfter before .observed k .noted t in v ≡ lookup i (getD (applyAll start (take (note .start) F)) i (pos 0)) (note .writes)
+        → let note = groupAfter before .observed k .noted t in v ≡ valueOr i (getD (applyAll start (take (note .start) F)) i (pos 0)) (note .writes)
     -- the first committer wins
     pub first : (p : ℕ) → 0 < p → p ≤ length F → FirstCommitter F p
     -- a work that commits names the next writeset of the sequence
-    pub works : (before : List CallAt) (k : ℕ) (s : Step) → Comes cs before (record { at = k; does = call work }) → answer before k work ≡ worked s → (s .ticket ≡ 0 → ⊥)
+    pub works : (before : List CallAt) (k : ℕ) (s : WorkDone) → Comes cs before (record { at = k; does = call work }) → answer before k work ≡ worked s → (s .ticket ≡ 0 → ⊥)
         → idOf (placed F (suc (length (groupAfter before .observed k .commits)))) ≡ record { sender = s .sender; ticket = s .ticket }
     -- a work that names a ticket as aborted commits a writeset, and the ticket has noted an item of it
-    pub aborts : (before : List CallAt) (k : ℕ) (s : Step) → Comes cs before (record { at = k; does = call work }) → answer before k work ≡ worked s
+    pub aborts : (before : List CallAt) (k : ℕ) (s : WorkDone) → Comes cs before (record { at = k; does = call work }) → answer before k work ≡ worked s
         → (t : ℕ) → Mem t (s .aborted)
         → (s .ticket ≡ 0 → ⊥) × Share (groupAfter before .observed k .noted t .writes) (placed F (suc (length (groupAfter before .observed k .commits))) .writes)
     -- once a ticket is put down, no work at its replica names it as aborted
-    pub spared : (before : List CallAt) (k : ℕ) (s : Step) → Comes cs before (record { at = k; does = call work }) → answer before k work ≡ worked s
+    pub spared : (before : List CallAt) (k : ℕ) (s : WorkDone) → Comes cs before (record { at = k; does = call work }) → answer before k work ≡ worked s
         → (t : ℕ) → Mem t (s .aborted) → InSequence (groupAfter before .handouts) k t → ⊥
     -- and no write under it gives 9
     pub never-stale : (before : List CallAt) (k t i : ℕ) (v : ℤ) → Comes cs before (record { at = k; does = call (write t i v) }) → answer before k (write t i v) ≡ refused 9

@@ -4,7 +4,7 @@ use mathlib.Core.Path.{_≡_}
 use mathlib.Core.List.{List, List·Nodup, map}
 use lib.IntN.{ℤ}
 use Rattle.engine.specs.Make.{Setting}
-use Rattle.engine.specs.Calls.Answer.{restarted}
+use Rattle.engine.specs.Answers.Answer.{restarted}
 use Rattle.engine.specs.Client.{reportOf}
 use Rattle.engine.specs.Restart.{blocksIn, restartStep}
 use Rattle.engine.specs.Tickets.{ownTickets, CountsOf}

@@ -6,14 +6,14 @@ use lib.IntN.{ℤ, pos}
 use lib.ListN.{replicate, set, take, getD}
 use Rattle.block.specs.Message.{Record}
 use Rattle.block.specs.Bytes.{blockOf}
-use Rattle.engine.specs.Calls.{numberOf}
-use Rattle.engine.specs.Step.{Call, step}
-use Rattle.engine.specs.Step.Call.{begin, write, ask, send, deliver, work}
+use Rattle.engine.specs.Answers.{numberOf}
+use Rattle.engine.specs.Calls.{Call, step}
+use Rattle.engine.specs.Calls.Call.{begin, write, ask, send, deliver, work}
 use Rattle.engine.specs.Worked.{zeros}
 use Rattle.protocol.specs.Writesets.{newWrite}
 use Rattle.protocol.specs.Observer.{TxnId, Placed, Handout}
 use Rattle.engine.specs.History.AnyCall.{call, restart}
-use Rattle.agreement.specs.Group.{Disk, disk, Group, CallAt, fresh, run, Calls, Lent, Premise}
+use Rattle.agreement.specs.Group.{Disk, disk, Members, CallAt, fresh, run, Calls, Lent, Premise}
 
 -- item 9 is 4, all others 0
 abbrev pub start : List ℤ
@@ -55,10 +55,10 @@ restartWith own values = record { at = 1; does = restart 3 own values [] noBlock
 abbrev pub nextBlock : List ℕ
 nextBlock = blockOf (record { kind = 1; sender = 0; replicas = 3; slot = 0; records = [] })
 
-abbrev pub after : List CallAt → Group
+abbrev pub after : List CallAt → Members
 after cs = run (fresh 3 start) cs
 
-abbrev pub sentNext : Group
+abbrev pub sentNext : Members
 sentNext = after (at 0 (send noBlock ∷ []))
 
 abbrev pub txn : ℕ → ℕ → TxnId
@@ -72,7 +72,7 @@ pub record Kept : Type 0 where
   pub disk : Disk
   pub commits : List TxnId
 
-abbrev pub kept : ℕ → Group → Kept
+abbrev pub kept : ℕ → Members → Kept
 kept k g = record { disk = g .disks k; commits = g .observed k .commits }
 
 -- and with it what was put down

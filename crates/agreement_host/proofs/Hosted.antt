@@ -7,14 +7,14 @@ use lib.Dec.{eqb}
 use lib.IntN.{ℤ}
 use lib.ListN.{length}
 use Rattle.memory.specs.Memory.{Memory, isStation}
-use Rattle.engine.specs.Calls.{Outcome, outcome, unlessStation}
-use Rattle.engine.specs.Calls.Answer.{refused}
+use Rattle.engine.specs.Answers.{Outcome, outcome, unlessStation}
+use Rattle.engine.specs.Answers.Answer.{refused}
 use Rattle.engine.specs.Shape.{Shape}
 use Rattle.engine.specs.Make.{Setting, madeMemory, makeStep}
 use Rattle.engine.specs.Moves.{sendStep, workStep}
 use Rattle.engine.specs.Client.{beginStep, readStep, writeStep, askStep, withdrawStep, reportStep}
-use Rattle.engine.specs.Step.{Call, step, after}
-use Rattle.engine.specs.Step.Call.{begin, read, write, ask, withdraw, report, send, deliver, work, load}
+use Rattle.engine.specs.Calls.{Call, step, after}
+use Rattle.engine.specs.Calls.Call.{begin, read, write, ask, withdraw, report, send, deliver, work, load}
 use Rattle.engine.specs.Restart.{restartStep}
 use Rattle.engine.specs.Station.{stationMemory, stationStep}
 use Rattle.engine.specs.History.{AnyCall, anyStep, afterAll}
@@ -27,7 +27,7 @@ use Rattle.engine.proofs.Stations.{stations}
 use Rattle.call_reply.specs.Called.{called, withBlock}
 use Rattle.call_reply.proofs.CalledLaws.{called-six, block-512, block-other}
 use Rattle.protocol.proofs.ListLaws.{snoc-all}
-use Rattle.agreement.specs.Group.{Group, CallAt, nextBy, fresh, next, run, Calls}
+use Rattle.agreement.specs.Group.{Members, CallAt, nextBy, fresh, next, run, Calls}
 use Rattle.agreement.proofs.Runs.{run-on}
 use Rattle.agreement.proofs.Handed.{six-rows}
 use Rattle.agreement_host.specs.Hosted.{hostStep, hostAny, hostAfter, hostRun, Hosted}
@@ -81,9 +81,9 @@ module _ (n : ℕ) (start : List ℤ) (setting : Setting n start) where
       let on : run (fresh n start) (before ++ (c ∷ [])) ≡ next g c = run-on before (fresh n start) c in
       let here = f c (List·Memᴰ·head refl) in
       ap (λ (o : Outcome). hostRun (nextBy o g c) cs) (any-six (g .memories (c .at)) (six-rows .tables n start setting before b (c .at)) (c .does))
-      ∙ ap (λ (x : Group). hostRun x cs) (sym on)
+      ∙ ap (λ (x : Members). hostRun x cs) (sym on)
       ∙ group-of cs (before ++ (c ∷ [])) (snoc-all _ before c b here) (λ d q. f d (List·Memᴰ·tail q))
-      ∙ ap (λ (x : Group). run x cs) on
+      ∙ ap (λ (x : Members). run x cs) on
 
   group : (cs : List CallAt) → Calls n cs → hostRun (fresh n start) cs ≡ run (fresh n start) cs
   unfolding run

@@ -9,20 +9,20 @@ use mathlib.Core.List.{List, [], _∷_, map}
 use lib.IntN.{ℤ}
 use lib.ListN.{length}
 use Rattle.memory.specs.Memory.{Memory, isStation}
-use Rattle.engine.specs.Calls.{Outcome, outcome, unlessStation}
-use Rattle.engine.specs.Calls.Answer.{refused}
+use Rattle.engine.specs.Answers.{Outcome, outcome, unlessStation}
+use Rattle.engine.specs.Answers.Answer.{refused}
 use Rattle.engine.specs.Make.{Setting, SettingOf, madeMemory, makeStep}
 use Rattle.engine.specs.Moves.{sendStep, deliverStep, workStep}
 use Rattle.engine.specs.Classes.{loadStep}
 use Rattle.engine.specs.Client.{beginStep, readStep, writeStep, askStep, withdrawStep, reportStep}
-use Rattle.engine.specs.Step.{Call, step, after}
-use Rattle.engine.specs.Step.Call.{begin, read, write, ask, withdraw, report, send, deliver, work, load}
+use Rattle.engine.specs.Calls.{Call, step, after}
+use Rattle.engine.specs.Calls.Call.{begin, read, write, ask, withdraw, report, send, deliver, work, load}
 use Rattle.engine.specs.Restart.{restartStep}
 use Rattle.engine.specs.Station.{stationMemory, stationStep}
 use Rattle.engine.specs.History.{AnyCall, anyStep, afterAll}
 use Rattle.engine.specs.History.AnyCall.{call, restart}
 use Rattle.call_reply.specs.Called.{called, withBlock}
-use Rattle.agreement.specs.Group.{Group, CallAt, nextBy, fresh, run, Calls}
+use Rattle.agreement.specs.Group.{Members, CallAt, nextBy, fresh, run, Calls}
 
 -- a host's call at one replica or station
 abbrev pub hostStep : Memory → Call → Outcome
@@ -48,7 +48,7 @@ hostAfter m [] = m
 hostAfter m (c ∷ cs) = hostAfter (hostAny m c .memory) cs
 
 -- of a group: a host's call acts on the memory that the last call at its member left
-unfoldable pub hostRun : Group → List CallAt → Group
+unfoldable pub hostRun : Members → List CallAt → Members
 hostRun g [] = g
 hostRun g (c ∷ cs) = hostRun (nextBy (hostAny (g .memories (c .at)) (c .does)) g c) cs
 

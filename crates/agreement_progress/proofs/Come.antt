@@ -14,12 +14,12 @@ use Rattle.block.specs.Answers.{firstOf, blockRefusal, headerOf}
 use Rattle.block.proofs.BoolLaws.{joined}
 use Rattle.block.proofs.AnswerLaws.{is-taken}
 use Rattle.memory.specs.declared.Turn.{Turn}
-use Rattle.memory.specs.Memory.{Blocks, Memory, isStation, maxSlots}
+use Rattle.memory.specs.Memory.{Blocks, Memory, isStation, slotLimit}
 use Rattle.memory.specs.Turns.{isEmpty, emptied}
-use Rattle.engine.specs.Calls.{Outcome, numberOf}
+use Rattle.engine.specs.Answers.{Outcome, numberOf}
 use Rattle.engine.specs.Moves.{sendLent, slotsSpent, othersTurn, sentAlready, sendRefusal, sendNow, sameBytes, deliverLent, otherGroup, slotPast, slotAhead, notSentHere, placeTaken, deliverRefusal, deliverNow, blockAtTurn, workLent, nothingWaits, workRefusal, isLast, passNext, commitWriteset, writesetAt}
-use Rattle.engine.specs.Step.{Call, step, refusalOf}
-use Rattle.engine.specs.Step.Call.{begin, read, write, ask, withdraw, report, send, deliver, work, load}
+use Rattle.engine.specs.Calls.{Call, step, refusalOf}
+use Rattle.engine.specs.Calls.Call.{begin, read, write, ask, withdraw, report, send, deliver, work, load}
 use Rattle.engine.specs.Shape.{Shape}
 use Rattle.engine.proofs.Tests.{bool-by, same-by, less-by, clash}
 use Rattle.engine.proofs.PlaceLaws.{empty-block, empty-same}
@@ -163,7 +163,7 @@ module _ {over : ℕ} (m : Memory) (S : Shape over m) where
       joined (eq-eqb _ _ (S .lengths .places)) (joined (eq-eqb _ _ (S .lengths .items)) (joined (eq-eqb _ _ (S .lengths .queue)) (joined (eq-eqb _ _ (S .lengths .values)) (eq-eqb _ _ (S .lengths .stamps))))) in
       rw (l, w) refl
 
-  can-send : (b : List ℕ) → length b ≡ 512 → m .turn .slot < maxSlots → ownerOf (m .group .replicas) (m .turn .slot) ≡ m .group .own → sentAlready m ≡ false → sendRefusal m b ≡ 0
+  can-send : (b : List ℕ) → length b ≡ 512 → m .turn .slot < slotLimit → ownerOf (m .group .replicas) (m .turn .slot) ≡ m .group .own → sentAlready m ≡ false → sendRefusal m b ≡ 0
   unfolding sendRefusal firstOf
   can-send b h t o u =
       let l : sendLent m b ≡ true =
@@ -185,7 +185,7 @@ module _ {over : ℕ} (m : Memory) (S : Shape over m) where
       let c = mod-lt (m .turn .slot) {m = m .group .replicas} (omega arith) in
       ne-eqb (m .group .own) 255 (λ z. omega arith)
 
-  pub sends : (b : List ℕ) → length b ≡ 512 → m .turn .slot < maxSlots → ownerOf (m .group .replicas) (m .turn .slot) ≡ m .group .own → sentAlready m ≡ false
+  pub sends : (b : List ℕ) → length b ≡ 512 → m .turn .slot < slotLimit → ownerOf (m .group .replicas) (m .turn .slot) ≡ m .group .own → sentAlready m ≡ false
       → numberOf (step m (send b) .answer) ≡ 0
   unfolding refusalOf
   sends b h t o u = refusals .number m (send b) ∙ rw (owns-numbered o) (can-send b h t o u)

@@ -15,12 +15,12 @@ use Rattle.block.specs.Form.{messageOf}
 use Rattle.block.specs.Answers.{blockRefusal, headerOf}
 use Rattle.block.proofs.Theorems.{theorems}
 use Rattle.memory.specs.Memory.{Memory}
-use Rattle.engine.specs.Calls.{Outcome}
-use Rattle.engine.specs.Calls.Answer.{restarted}
+use Rattle.engine.specs.Answers.{Outcome}
+use Rattle.engine.specs.Answers.Answer.{restarted}
 use Rattle.engine.specs.Client.{beginAt, readOnlyAt, queueAt, rewriteAt, insertWrite, staleAt, withdrawAt, reportStep}
 use Rattle.engine.specs.Moves.{messageFor, sentAlready, sendRefusal, sendNow, deliverNow, blockAtTurn, writesetAt, isLast, passNext, commitWriteset}
-use Rattle.engine.specs.Step.{Call, step}
-use Rattle.engine.specs.Step.Call.{begin, read, write, ask, withdraw, report, send, deliver, work, load}
+use Rattle.engine.specs.Calls.{Call, step}
+use Rattle.engine.specs.Calls.Call.{begin, read, write, ask, withdraw, report, send, deliver, work, load}
 use Rattle.engine.specs.Restart.{isFrom, blocksIn, lastOwn, restartedMemory, restartStep}
 use Rattle.engine.specs.History.{AnyCall, anyStep}
 use Rattle.engine.specs.History.AnyCall.{call, restart}

@@ -13,15 +13,15 @@ use borrow.Author.Tests.{eqb-true, ltb-false}
 use Rattle.block.specs.Message.{ownerOf}
 use Rattle.block.specs.Answers.{headerOf}
 use Rattle.block.proofs.BoolLaws.{joined, not-so}
-use Rattle.memory.specs.Memory.{Memory, noNumber, maxSlots}
+use Rattle.memory.specs.Memory.{Memory, noNumber, slotLimit}
 use Rattle.memory.specs.Turns.{isEmpty}
 use Rattle.engine.specs.Make.{Setting}
-use Rattle.engine.specs.Calls.{Outcome}
-use Rattle.engine.specs.Calls.Answer.{restarted}
+use Rattle.engine.specs.Answers.{Outcome}
+use Rattle.engine.specs.Answers.Answer.{restarted}
 use Rattle.engine.specs.Moves.{sentAlready, sameBytes, slotPast, isOwnBlock, notSentHere, nothingWaits}
 use Rattle.engine.specs.Restart.{blocksIn}
-use Rattle.engine.specs.Step.{refusalOf}
-use Rattle.engine.specs.Step.Call.{deliver}
+use Rattle.engine.specs.Calls.{refusalOf}
+use Rattle.engine.specs.Calls.Call.{deliver}
 use Rattle.engine.specs.History.{AnyCall, anyStep}
 use Rattle.engine.specs.History.AnyCall.{call, restart}
 use Rattle.engine.proofs.Tests.{cond-by, bool-by, same-by, less-by}
@@ -36,7 +36,7 @@ use Rattle.protocol.specs.Journal.{journal}
 use Rattle.protocol.specs.Observer.{Handout, handoutMessage, noHandout}
 use Rattle.protocol.proofs.ListLaws.{update-by, update-same, mem-map, mem-getD, getD-map-in}
 use Rattle.protocol.proofs.SequenceLaws.{mem-at}
-use Rattle.agreement.specs.Group.{messageIn, Group, CallAt, fresh, did, next, run, Comes, MayBeAt, Calls, Premise}
+use Rattle.agreement.specs.Group.{messageIn, Members, CallAt, fresh, did, next, run, Comes, MayBeAt, Calls, Premise}
 use Rattle.agreement.specs.Journals.{blocksAt}
 use Rattle.agreement_progress.specs.Progress.{giving, Given, AllGiven, SlotsLeft, CanSend, CanWork, ProgressTheorem, HandedAnswers}
 use Rattle.agreement.proofs.View.{Sound}
@@ -64,7 +64,7 @@ walk P before (c ∷ cs) p f =
 -- ---- the group after a list of calls with the premise
 
 module _ (n : ℕ) (start : List ℤ) (setting : Setting n start) where
-  abbrev at : List CallAt → Group
+  abbrev at : List CallAt → Members
   at cs = run (fresh n start) cs
 
   abbrev mem : List CallAt → ℕ → Memory
@@ -143,7 +143,7 @@ module _ (n : ℕ) (start : List ℤ) (setting : Setting n start) where
 
   -- ---- the blocks handed out
 
-  record Blocks (g : Group) : Type 0 where
+  record Blocks (g : Members) : Type 0 where
     good : (b : List ℕ) → Mem b (g .blocks) → GoodBlock n b
     last : (k : ℕ) → k < n → SentLast k (g .memories k) (g .blocks)
 
@@ -250,7 +250,7 @@ module _ (n : ℕ) (start : List ℤ) (setting : Setting n start) where
   come-performed s m R C (restart size own values j l) none =
       restart-by (λ (o : Outcome). ((x : ℕ) (b : List ℕ) → o .answer ≡ restarted x b → ⊥) → HasCome s (o .memory)) m size own values j l (λ e g. absurd (g _ _ refl)) (λ e g. C) none
 
-  come-next : (g : Group) (k s : ℕ) → Sound n (g .memories k) → HasCome s (g .memories k) → (c : CallAt)
+  come-next : (g : Members) (k s : ℕ) → Sound n (g .memories k) → HasCome s (g .memories k) → (c : CallAt)
       → ((d : AnyCall) (x : ℕ) (b : List ℕ) → c ≡ record { at = k; does = d } → anyStep (g .memories k) d .answer ≡ restarted x b → ⊥) → HasCome s (next g c .memories k)
   come-next g k s R C c none =
       cond-by (HasCome s) (eqb k (c .at))
@@ -274,7 +274,7 @@ module _ (n : ℕ) (start : List ℤ) (setting : Setting n start) where
       begun =
           let c = calls-part n start cs (G .before) (giving k b ∷ G .later) (G .comes) f in
           let q = premise-part n start cs (G .before) (giving k b ∷ G .later) (G .comes) (fresh n start) p in
-          subst (λ (g : Group). HasCome (headerOf b .slot) (g .memories k)) (sym (run-on (G .before) (fresh n start) (giving k b)))
+          subst (λ (g : Members). HasCome (headerOf b .slot) (g .memories k)) (sym (run-on (G .before) (fresh n start) (giving k b)))
           (subst (HasCome (headerOf b .slot)) (sym (update-same (at (G .before) .memories) k _))
           (come-given (mem (G .before) k) (held (G .before) c q k h .sound .shape) b (givable (G .before) c q k h b (G .handed))))
 
@@ -283,7 +283,7 @@ module _ (n : ℕ) (start : List ℤ) (setting : Setting n start) where
           let e : cs ≡ (first ++ mid) ++ (c ∷ q .0) = whole ∙ ap (λ (l : List CallAt). first ++ l) (q .1) ∙ sym (append-assoc first mid (c ∷ q .0)) in
           let R = held (first ++ mid) (calls-part n start cs (first ++ mid) (c ∷ q .0) e f) (premise-part n start cs (first ++ mid) (c ∷ q .0) e (fresh n start) p) k h .sound in
           subst (λ (l : List CallAt). HasCome (headerOf b .slot) (mem l k)) (append-assoc first mid (c ∷ []))
-          (subst (λ (g : Group). HasCome (headerOf b .slot) (g .memories k)) (sym (run-on (first ++ mid) (fresh n start) c))
+          (subst (λ (g : Members). HasCome (headerOf b .slot) (g .memories k)) (sym (run-on (first ++ mid) (fresh n start) c))
           (come-next (at (first ++ mid)) k (headerOf b .slot) R C c (λ d x y z a.
           G .since mid d x y (q .0, q .1 ∙ ap (λ (i : CallAt). mid ++ (i ∷ q .0)) z)
           (subst (λ (r : List CallAt). anyStep (mem r k) d .answer ≡ restarted x y) (append-assoc (G .before) (giving k b ∷ []) mid) a))))
@@ -322,7 +322,7 @@ module _ (n : ℕ) (start : List ℤ) (setting : Setting n start) (cs : List Cal
       waits b e (inr w) = subst (λ (s : ℕ). isEmpty (now k .group .replicas) s (now k .blocks .places) ≡ false) e (w .1)
 
   -- every turn is the first slot that nobody has handed out
-  level : (t : ℕ) → ((k : ℕ) → k < n → now k .turn .slot ≡ t) → length down ≤ t → t < maxSlots → Goes
+  level : (t : ℕ) → ((k : ℕ) → k < n → now k .turn .slot ≡ t) → length down ≤ t → t < slotLimit → Goes
   unfolding ownerOf
   level t all l h =
       let k = t % n in

@@ -8,12 +8,12 @@ use mathlib.Core.List.{List, _∷_, _++_}
 use lib.IntN.{ℤ}
 use lib.ListN.{length}
 use Rattle.block.specs.Answers.{headerOf}
-use Rattle.memory.specs.Memory.{Memory, maxSlots}
+use Rattle.memory.specs.Memory.{Memory, slotLimit}
 use Rattle.engine.specs.Make.{Setting}
-use Rattle.engine.specs.Calls.{numberOf}
-use Rattle.engine.specs.Calls.Answer.{restarted}
-use Rattle.engine.specs.Step.{step}
-use Rattle.engine.specs.Step.Call.{send, deliver, work}
+use Rattle.engine.specs.Answers.{numberOf}
+use Rattle.engine.specs.Answers.Answer.{restarted}
+use Rattle.engine.specs.Calls.{step}
+use Rattle.engine.specs.Calls.Call.{send, deliver, work}
 use Rattle.engine.specs.History.{AnyCall, anyStep}
 use Rattle.engine.specs.History.AnyCall.{call}
 use Rattle.protocol.specs.Lists.{Mem}
@@ -38,7 +38,7 @@ module _ (n : ℕ) (start : List ℤ) (cs : List CallAt) where
 
   -- its turn is below 100,000,000
   abbrev pub SlotsLeft : Type 0
-  SlotsLeft = (k : ℕ) × (k < n) × (run (fresh n start) cs .memories k .turn .slot < maxSlots)
+  SlotsLeft = (k : ℕ) × (k < n) × (run (fresh n start) cs .memories k .turn .slot < slotLimit)
 
 -- a send is accepted, of any 512 bytes lent
 abbrev pub CanSend : Memory → Type 0

@@ -21,13 +21,13 @@ use Rattle.engine.specs.Make.{madeMemory, placesFit, partsFit}
 use Rattle.engine.specs.Classes.{hasClass, classFrom, classToCome, mustWait, areClasses, loadRefusal, loadStep}
 use Rattle.engine.specs.Client.{beginRefusal, beginAt, beginRow, writeRefusal, rewriteAt, insertWrite, staleAt, writeRow, askRefusal, readOnlyAt, queueAt, askRow, reportOf, reportStep}
 use Rattle.engine.specs.Moves.{waiting, writesetOf, messageFor, sendRefusal, sendNow, sendStep, sameBytes, deliverRefusal, deliverNow, deliverStep, entriesFor, applied, stamped, shares, afterAborts, insertRising, hitTickets, without, workRefusal, passNext, commitWriteset, workStep}
-use Rattle.engine.specs.Step.{step}
-use Rattle.engine.specs.Step.Call.{report, work}
+use Rattle.engine.specs.Calls.{step}
+use Rattle.engine.specs.Calls.Call.{report, work}
 use Rattle.engine.specs.Restart.{isGood, blocksFrom, firstBlocks, writesetsFrom, commitAll, commitBlocks, highestTicket, highestOwn, ownWritesets, lastOwn, restartedMemory, restartRefusal, restartStep}
 use Rattle.engine.specs.Worked.{zeros}
 use Rattle.engine.specs.History.{AnyCall}
 use Rattle.engine.proofs.Tests.{same-by, clash}
-use Rattle.protocol.specs.Lists.{Mem, any}
+use Rattle.protocol.specs.Lists.{Mem, anyOf}
 use Rattle.protocol.proofs.ListLaws.{any-false}
 use Rattle.agreement.specs.Group.{messageIn, heard, CallAt, fresh, run, Comes, Calls}
 use Rattle.agreement_progress.specs.Progress.{giving, Given, AllGiven}
@@ -40,7 +40,7 @@ use Rattle.agreement_runs.proofs.Worked.{outage, sameValues, allowed, p
 abbrev isAt : ℕ → CallAt → Bool
 isAt k c = eqb (c .at) k
 
-none-at : (later more : List CallAt) (k : ℕ) (d : AnyCall) → any (isAt k) later ≡ false → Comes later more (record { at = k; does = d }) → ⊥
+none-at : (later more : List CallAt) (k : ℕ) (d : AnyCall) → anyOf (isAt k) later ≡ false → Comes later more (record { at = k; does = d }) → ⊥
 none-at later more k d e q =
     clash (eq-eqb k k refl)
     (any-false (isAt k) later e (record { at = k; does = d }) (subst (Mem (record { at = k; does = d })) (sym (q .1)) (Memᴰ·append-right more (List·Memᴰ·head refl))))
@@ -48,7 +48,7 @@ none-at later more k d e q =
 -- ---- the run in which all is given
 
 given-computed : (after given .blocks ≡ slotZero ∷ []) × (after (sending 0 ∷ []) .blocks ≡ slotZero ∷ []) × (after (sending 0 ∷ giving 0 slotZero ∷ []) .blocks ≡ slotZero ∷ []) × (after given .memories 0 .turn .slot ≡ 0)
-unfolding bytesOf numberFrom valueBytes valueOf word sumTo weightedTo firstCheck secondCheck checkBytes checkMatches ownerOf within kindFits entriesFit recordFits recordsFit ticketAbsent ticketsDiffer valid signed32 entryBytes entriesBytes recordBytes recordsBytes headerFor headerBytes bodyBytes blockOf entryOf entriesOf recordOf recordsOf messageOf allZero entriesPadded recordPadded recordsPadded padded wellFormed firstOf headerOf recordAt entryAt entriesFrom bump rowFrom rowOf freeRow indexFrom has holderFrom countBelow placeStart madeMemory beginRefusal beginAt beginRow writeRefusal rewriteAt insertWrite staleAt writeRow hasClass classFrom classToCome mustWait areClasses loadRefusal loadStep askRefusal readOnlyAt queueAt askRow reportOf waiting writesetOf messageFor sendRefusal sendNow sendStep sameBytes deliverRefusal deliverNow deliverStep entriesFor applied stamped shares afterAborts insertRising hitTickets without workRefusal passNext commitWriteset workStep step run any allowed isGood blocksFrom firstBlocks writesetsFrom commitAll commitBlocks highestTicket highestOwn ownWritesets lastOwn restartedMemory restartRefusal restartStep placesFit partsFit openCount messageIn blockRefusal heard reportStep triedOn
+unfolding bytesOf numberFrom valueBytes valueOf word sumTo weightedTo firstCheck secondCheck checkBytes checkMatches ownerOf within kindFits entriesFit recordFits recordsFit ticketAbsent ticketsDiffer valid signed32 entryBytes entriesBytes recordBytes recordsBytes headerFor headerBytes bodyBytes blockOf entryOf entriesOf recordOf recordsOf messageOf allZero entriesPadded recordPadded recordsPadded padded wellFormed firstOf headerOf recordAt entryAt entriesFrom bump rowFrom rowOf freeRow indexFrom has holderFrom countBelow placeStart madeMemory beginRefusal beginAt beginRow writeRefusal rewriteAt insertWrite staleAt writeRow hasClass classFrom classToCome mustWait areClasses loadRefusal loadStep askRefusal readOnlyAt queueAt askRow reportOf waiting writesetOf messageFor sendRefusal sendNow sendStep sameBytes deliverRefusal deliverNow deliverStep entriesFor applied stamped shares afterAborts insertRising hitTickets without workRefusal passNext commitWriteset workStep step run anyOf allowed isGood blocksFrom firstBlocks writesetsFrom commitAll commitBlocks highestTicket highestOwn ownWritesets lastOwn restartedMemory restartRefusal restartStep placesFit partsFit openCount messageIn blockRefusal heard reportStep triedOn
 given-computed = (refl, refl, refl, refl)
 
 only : (b : List ℕ) → Mem b (slotZero ∷ []) → b ≡ slotZero
@@ -59,7 +59,7 @@ only b m = go (List·Memᴰ·cases-cons m)
     go (inr q) = absurd (List·Memᴰ·not-nil q)
 
 to-first : Given 2 zeros given 0 slotZero
-unfolding any
+unfolding anyOf
 to-first = record {
   before = sending 0 ∷ [];
   later = giving 1 slotZero ∷ at 2 work ∷ [];
@@ -69,7 +69,7 @@ to-first = record {
 }
 
 to-second : Given 2 zeros given 1 slotZero
-unfolding any
+unfolding anyOf
 to-second = record {
   before = sending 0 ∷ giving 0 slotZero ∷ [];
   later = at 2 work ∷ [];
@@ -87,35 +87,35 @@ all-given k h b m ahead =
 -- ---- the runs
 
 goes-computed : (allowed 2 zeros (fresh 2 zeros) given [] ≡ true) × (tried (after given) ≡ 12 ∷ 0 ∷ 11 ∷ 0 ∷ [])
-unfolding bytesOf numberFrom valueBytes valueOf word sumTo weightedTo firstCheck secondCheck checkBytes checkMatches ownerOf within kindFits entriesFit recordFits recordsFit ticketAbsent ticketsDiffer valid signed32 entryBytes entriesBytes recordBytes recordsBytes headerFor headerBytes bodyBytes blockOf entryOf entriesOf recordOf recordsOf messageOf allZero entriesPadded recordPadded recordsPadded padded wellFormed firstOf headerOf recordAt entryAt entriesFrom bump rowFrom rowOf freeRow indexFrom has holderFrom countBelow placeStart madeMemory beginRefusal beginAt beginRow writeRefusal rewriteAt insertWrite staleAt writeRow hasClass classFrom classToCome mustWait areClasses loadRefusal loadStep askRefusal readOnlyAt queueAt askRow reportOf waiting writesetOf messageFor sendRefusal sendNow sendStep sameBytes deliverRefusal deliverNow deliverStep entriesFor applied stamped shares afterAborts insertRising hitTickets without workRefusal passNext commitWriteset workStep step run any allowed isGood blocksFrom firstBlocks writesetsFrom commitAll commitBlocks highestTicket highestOwn ownWritesets lastOwn restartedMemory restartRefusal restartStep placesFit partsFit openCount messageIn blockRefusal heard reportStep triedOn
+unfolding bytesOf numberFrom valueBytes valueOf word sumTo weightedTo firstCheck secondCheck checkBytes checkMatches ownerOf within kindFits entriesFit recordFits recordsFit ticketAbsent ticketsDiffer valid signed32 entryBytes entriesBytes recordBytes recordsBytes headerFor headerBytes bodyBytes blockOf entryOf entriesOf recordOf recordsOf messageOf allZero entriesPadded recordPadded recordsPadded padded wellFormed firstOf headerOf recordAt entryAt entriesFrom bump rowFrom rowOf freeRow indexFrom has holderFrom countBelow placeStart madeMemory beginRefusal beginAt beginRow writeRefusal rewriteAt insertWrite staleAt writeRow hasClass classFrom classToCome mustWait areClasses loadRefusal loadStep askRefusal readOnlyAt queueAt askRow reportOf waiting writesetOf messageFor sendRefusal sendNow sendStep sameBytes deliverRefusal deliverNow deliverStep entriesFor applied stamped shares afterAborts insertRising hitTickets without workRefusal passNext commitWriteset workStep step run anyOf allowed isGood blocksFrom firstBlocks writesetsFrom commitAll commitBlocks highestTicket highestOwn ownWritesets lastOwn restartedMemory restartRefusal restartStep placesFit partsFit openCount messageIn blockRefusal heard reportStep triedOn
 goes-computed = (refl, refl)
 
 stuck-computed : (allowed 2 zeros (fresh 2 zeros) ungiven [] ≡ true) × (tried (after ungiven) ≡ 12 ∷ 21 ∷ 11 ∷ 21 ∷ [])
-unfolding bytesOf numberFrom valueBytes valueOf word sumTo weightedTo firstCheck secondCheck checkBytes checkMatches ownerOf within kindFits entriesFit recordFits recordsFit ticketAbsent ticketsDiffer valid signed32 entryBytes entriesBytes recordBytes recordsBytes headerFor headerBytes bodyBytes blockOf entryOf entriesOf recordOf recordsOf messageOf allZero entriesPadded recordPadded recordsPadded padded wellFormed firstOf headerOf recordAt entryAt entriesFrom bump rowFrom rowOf freeRow indexFrom has holderFrom countBelow placeStart madeMemory beginRefusal beginAt beginRow writeRefusal rewriteAt insertWrite staleAt writeRow hasClass classFrom classToCome mustWait areClasses loadRefusal loadStep askRefusal readOnlyAt queueAt askRow reportOf waiting writesetOf messageFor sendRefusal sendNow sendStep sameBytes deliverRefusal deliverNow deliverStep entriesFor applied stamped shares afterAborts insertRising hitTickets without workRefusal passNext commitWriteset workStep step run any allowed isGood blocksFrom firstBlocks writesetsFrom commitAll commitBlocks highestTicket highestOwn ownWritesets lastOwn restartedMemory restartRefusal restartStep placesFit partsFit openCount messageIn blockRefusal heard reportStep triedOn
+unfolding bytesOf numberFrom valueBytes valueOf word sumTo weightedTo firstCheck secondCheck checkBytes checkMatches ownerOf within kindFits entriesFit recordFits recordsFit ticketAbsent ticketsDiffer valid signed32 entryBytes entriesBytes recordBytes recordsBytes headerFor headerBytes bodyBytes blockOf entryOf entriesOf recordOf recordsOf messageOf allZero entriesPadded recordPadded recordsPadded padded wellFormed firstOf headerOf recordAt entryAt entriesFrom bump rowFrom rowOf freeRow indexFrom has holderFrom countBelow placeStart madeMemory beginRefusal beginAt beginRow writeRefusal rewriteAt insertWrite staleAt writeRow hasClass classFrom classToCome mustWait areClasses loadRefusal loadStep askRefusal readOnlyAt queueAt askRow reportOf waiting writesetOf messageFor sendRefusal sendNow sendStep sameBytes deliverRefusal deliverNow deliverStep entriesFor applied stamped shares afterAborts insertRising hitTickets without workRefusal passNext commitWriteset workStep step run anyOf allowed isGood blocksFrom firstBlocks writesetsFrom commitAll commitBlocks highestTicket highestOwn ownWritesets lastOwn restartedMemory restartRefusal restartStep placesFit partsFit openCount messageIn blockRefusal heard reportStep triedOn
 stuck-computed = (refl, refl)
 
 early-computed : (allowed 2 zeros (fresh 2 zeros) early [] ≡ true) × (tried (after early) ≡ 12 ∷ 21 ∷ 11 ∷ 21 ∷ [])
-unfolding bytesOf numberFrom valueBytes valueOf word sumTo weightedTo firstCheck secondCheck checkBytes checkMatches ownerOf within kindFits entriesFit recordFits recordsFit ticketAbsent ticketsDiffer valid signed32 entryBytes entriesBytes recordBytes recordsBytes headerFor headerBytes bodyBytes blockOf entryOf entriesOf recordOf recordsOf messageOf allZero entriesPadded recordPadded recordsPadded padded wellFormed firstOf headerOf recordAt entryAt entriesFrom bump rowFrom rowOf freeRow indexFrom has holderFrom countBelow placeStart madeMemory beginRefusal beginAt beginRow writeRefusal rewriteAt insertWrite staleAt writeRow hasClass classFrom classToCome mustWait areClasses loadRefusal loadStep askRefusal readOnlyAt queueAt askRow reportOf waiting writesetOf messageFor sendRefusal sendNow sendStep sameBytes deliverRefusal deliverNow deliverStep entriesFor applied stamped shares afterAborts insertRising hitTickets without workRefusal passNext commitWriteset workStep step run any allowed isGood blocksFrom firstBlocks writesetsFrom commitAll commitBlocks highestTicket highestOwn ownWritesets lastOwn restartedMemory restartRefusal restartStep placesFit partsFit openCount messageIn blockRefusal heard reportStep triedOn
+unfolding bytesOf numberFrom valueBytes valueOf word sumTo weightedTo firstCheck secondCheck checkBytes checkMatches ownerOf within kindFits entriesFit recordFits recordsFit ticketAbsent ticketsDiffer valid signed32 entryBytes entriesBytes recordBytes recordsBytes headerFor headerBytes bodyBytes blockOf entryOf entriesOf recordOf recordsOf messageOf allZero entriesPadded recordPadded recordsPadded padded wellFormed firstOf headerOf recordAt entryAt entriesFrom bump rowFrom rowOf freeRow indexFrom has holderFrom countBelow placeStart madeMemory beginRefusal beginAt beginRow writeRefusal rewriteAt insertWrite staleAt writeRow hasClass classFrom classToCome mustWait areClasses loadRefusal loadStep askRefusal readOnlyAt queueAt askRow reportOf waiting writesetOf messageFor sendRefusal sendNow sendStep sameBytes deliverRefusal deliverNow deliverStep entriesFor applied stamped shares afterAborts insertRising hitTickets without workRefusal passNext commitWriteset workStep step run anyOf allowed isGood blocksFrom firstBlocks writesetsFrom commitAll commitBlocks highestTicket highestOwn ownWritesets lastOwn restartedMemory restartRefusal restartStep placesFit partsFit openCount messageIn blockRefusal heard reportStep triedOn
 early-computed = (refl, refl)
 
 emptied-computed : (allowed 2 zeros (fresh 2 zeros) emptied (outage report 0 ∷ []) ≡ true) × (tried (after emptied) ≡ 11 ∷ 21 ∷ 11 ∷ 21 ∷ [])
-unfolding bytesOf numberFrom valueBytes valueOf word sumTo weightedTo firstCheck secondCheck checkBytes checkMatches ownerOf within kindFits entriesFit recordFits recordsFit ticketAbsent ticketsDiffer valid signed32 entryBytes entriesBytes recordBytes recordsBytes headerFor headerBytes bodyBytes blockOf entryOf entriesOf recordOf recordsOf messageOf allZero entriesPadded recordPadded recordsPadded padded wellFormed firstOf headerOf recordAt entryAt entriesFrom bump rowFrom rowOf freeRow indexFrom has holderFrom countBelow placeStart madeMemory beginRefusal beginAt beginRow writeRefusal rewriteAt insertWrite staleAt writeRow hasClass classFrom classToCome mustWait areClasses loadRefusal loadStep askRefusal readOnlyAt queueAt askRow reportOf waiting writesetOf messageFor sendRefusal sendNow sendStep sameBytes deliverRefusal deliverNow deliverStep entriesFor applied stamped shares afterAborts insertRising hitTickets without workRefusal passNext commitWriteset workStep step run any allowed isGood blocksFrom firstBlocks writesetsFrom commitAll commitBlocks highestTicket highestOwn ownWritesets lastOwn restartedMemory restartRefusal restartStep placesFit partsFit openCount messageIn blockRefusal heard reportStep triedOn sameValues
+unfolding bytesOf numberFrom valueBytes valueOf word sumTo weightedTo firstCheck secondCheck checkBytes checkMatches ownerOf within kindFits entriesFit recordFits recordsFit ticketAbsent ticketsDiffer valid signed32 entryBytes entriesBytes recordBytes recordsBytes headerFor headerBytes bodyBytes blockOf entryOf entriesOf recordOf recordsOf messageOf allZero entriesPadded recordPadded recordsPadded padded wellFormed firstOf headerOf recordAt entryAt entriesFrom bump rowFrom rowOf freeRow indexFrom has holderFrom countBelow placeStart madeMemory beginRefusal beginAt beginRow writeRefusal rewriteAt insertWrite staleAt writeRow hasClass classFrom classToCome mustWait areClasses loadRefusal loadStep askRefusal readOnlyAt queueAt askRow reportOf waiting writesetOf messageFor sendRefusal sendNow sendStep sameBytes deliverRefusal deliverNow deliverStep entriesFor applied stamped shares afterAborts insertRising hitTickets without workRefusal passNext commitWriteset workStep step run anyOf allowed isGood blocksFrom firstBlocks writesetsFrom commitAll commitBlocks highestTicket highestOwn ownWritesets lastOwn restartedMemory restartRefusal restartStep placesFit partsFit openCount messageIn blockRefusal heard reportStep triedOn sameValues
 emptied-computed = (refl, refl)
 
 given-calls : Calls 2 given
-unfolding any signed32
+unfolding anyOf signed32
 given-calls = calls-met 2 given refl
 
 ungiven-calls : Calls 2 ungiven
-unfolding any signed32
+unfolding anyOf signed32
 ungiven-calls = calls-met 2 ungiven refl
 
 early-calls : Calls 2 early
-unfolding any signed32
+unfolding anyOf signed32
 early-calls = calls-met 2 early refl
 
 emptied-calls : Calls 2 emptied
-unfolding any signed32
+unfolding anyOf signed32
 emptied-calls = calls-met 2 emptied refl
 
 pub worked-progress : WorkedProgress

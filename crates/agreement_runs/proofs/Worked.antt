@@ -19,24 +19,24 @@ use Rattle.block.proofs.BoolLaws.{both}
 use Rattle.memory.specs.Memory.{Memory, bump}
 use Rattle.memory.specs.Rows.{openCount, rowFrom, rowOf, freeRow, indexFrom, has, holderFrom, countBelow}
 use Rattle.memory.specs.Turns.{placeStart}
-use Rattle.engine.specs.Calls.{Answer, Outcome}
-use Rattle.engine.specs.Calls.Answer.{refused, made, began, got, wrote, queued, readOnly, withdrew, reported, sent, kept, worked, loaded, restarted}
+use Rattle.engine.specs.Answers.{Answer, Outcome}
+use Rattle.engine.specs.Answers.Answer.{refused, made, began, got, wrote, queued, readOnly, withdrew, reported, sent, kept, worked, loaded, restarted}
 use Rattle.engine.specs.Make.{madeMemory, placesFit, partsFit}
 use Rattle.engine.specs.Classes.{hasClass, classFrom, classToCome, mustWait, areClasses, loadRefusal, loadStep}
 use Rattle.engine.specs.Client.{beginRefusal, beginAt, beginRow, readRefusal, valueFor, readRow, writeRefusal, rewriteAt, insertWrite, staleAt, writeRow, askRefusal, readOnlyAt, queueAt, askRow, reportOf, reportStep}
 use Rattle.engine.specs.Moves.{waiting, writesetOf, messageFor, sendRefusal, sendNow, sendStep, sameBytes, deliverRefusal, deliverNow, deliverStep, entriesFor, applied, stamped, shares, afterAborts, insertRising, hitTickets, without, workRefusal, passNext, commitWriteset, workStep}
-use Rattle.engine.specs.Step.{Call, step}
-use Rattle.engine.specs.Step.Call.{write, report, send, deliver}
+use Rattle.engine.specs.Calls.{Call, step}
+use Rattle.engine.specs.Calls.Call.{write, report, send, deliver}
 use Rattle.engine.specs.Restart.{isGood, blocksFrom, firstBlocks, writesetsFrom, commitAll, commitBlocks, highestTicket, highestOwn, ownWritesets, lastOwn, restartedMemory, restartRefusal, restartStep}
 use Rattle.engine.specs.Worked.{zeros}
 use Rattle.engine.specs.History.{AnyCall}
 use Rattle.engine.specs.History.AnyCall.{call, restart}
 use Rattle.engine.proofs.Tests.{clash}
 use Rattle.engine.proofs.Steps.{restart-by}
-use Rattle.protocol.specs.Lists.{Mem, any}
+use Rattle.protocol.specs.Lists.{Mem, anyOf}
 use Rattle.protocol.specs.Observer.{sequence, applyAll}
 use Rattle.protocol.proofs.ListLaws.{any-true, any-false}
-use Rattle.agreement.specs.Group.{argumentsOf, messageIn, heard, Disk, journalAfter, Group, CallAt, fresh, run, did, next, Comes, MayBeAt, Calls, Lent, Premise}
+use Rattle.agreement.specs.Group.{argumentsOf, messageIn, heard, Disk, journalAfter, Members, CallAt, fresh, run, did, next, Comes, MayBeAt, Calls, Lent, Premise}
 use Rattle.agreement_runs.specs.Worked.{story, forgery, outages, fourth, watched, watching, numbers, watchedValues, seen, after, HeldBy, held, holding, storyValues, outageValues, WorkedRuns, halfApplied, classes, classesValues}
 use Rattle.agreement.proofs.Theorem.{agreement}
 
@@ -63,7 +63,7 @@ known B c readOnly = true
 known B c withdrew = true
 known B c (reported r) = true
 known B c (sent b) = true
-known B c kept = any (sameBytes (argumentsOf c .bytes)) B
+known B c kept = anyOf (sameBytes (argumentsOf c .bytes)) B
 known B c (worked s) = true
 known B c loaded = true
 known B c (restarted k b) = true
@@ -117,19 +117,19 @@ outagesLeft m c [] = []
 outagesLeft m c (h ∷ hs) = cond (accepts m c) hs (h ∷ hs)
 
 module _ (n : ℕ) (start : List ℤ) where
-  abbrev lentNow : Group → ℕ → AnyCall → Outage → Bool
+  abbrev lentNow : Members → ℕ → AnyCall → Outage → Bool
   lentNow g k (call c) h = true
   lentNow g k (restart size own values j l) h = (eqb size n && (eqb own k && sameValues values start)) && lentAfter (g .memories k) (g .disks k) j h
 
   -- an accepted restart needs an outage
-  abbrev lentIn : Group → ℕ → AnyCall → List Outage → Bool
+  abbrev lentIn : Members → ℕ → AnyCall → List Outage → Bool
   lentIn g k c [] = not (accepts (g .memories k) c)
   lentIn g k c (h ∷ hs) = cond (accepts (g .memories k) c) (lentNow g k c h) true
 
-  abbrev LentAt : Group → ℕ → ℕ → ℕ → List ℤ → List ℕ → Type 0
+  abbrev LentAt : Members → ℕ → ℕ → ℕ → List ℤ → List ℕ → Type 0
   LentAt g k size own values j = (size ≡ n) × (own ≡ k) × (values ≡ start) × Lent (g .memories k) (g .disks k) j
 
-  lent-by : (g : Group) (k size own : ℕ) (values : List ℤ) (j l : List ℕ) (hs : List Outage) → lentIn g k (restart size own values j l) hs ≡ true
+  lent-by : (g : Members) (k size own : ℕ) (values : List ℤ) (j l : List ℕ) (hs : List Outage) → lentIn g k (restart size own values j l) hs ≡ true
       → restartRefusal (g .memories k) size own values l ≡ 0 → LentAt g k size own values j
   lent-by g k size own values j l [] e z = clash {b = false} (rw (eq-eqb (restartRefusal (g .memories k) size own values l) 0 z) at e) refl
   lent-by g k size own values j l (h ∷ hs) e z =
@@ -145,23 +145,23 @@ module _ (n : ℕ) (start : List ℤ) where
         record { ended = h .ended; value = a .left; count = h .count; part = same-bytes _ _ (b .left); enough = leb-true _ _ (b .right) },
       )
 
-  accepted-lent : (g : Group) (k size own : ℕ) (values : List ℤ) (j l : List ℕ) (hs : List Outage) → lentIn g k (restart size own values j l) hs ≡ true → (x : ℕ) (b : List ℕ)
+  accepted-lent : (g : Members) (k size own : ℕ) (values : List ℤ) (j l : List ℕ) (hs : List Outage) → lentIn g k (restart size own values j l) hs ≡ true → (x : ℕ) (b : List ℕ)
       → restartStep (g .memories k) size own values j l .answer ≡ restarted x b → LentAt g k size own values j
   accepted-lent g k size own values j l hs e x b =
       restart-by (λ (o : Outcome). o .answer ≡ restarted x b → LentAt g k size own values j) (g .memories k) size own values j l
       (λ z q. lent-by g k size own values j l hs e z)
       (λ z q. let w : _≡_ {A = ℕ} 0 1 = cc in absurd (let y : ⊥ = omega arith in y))
 
-  unfoldable pub allowed : Group → List CallAt → List Outage → Bool
+  unfoldable pub allowed : Members → List CallAt → List Outage → Bool
   allowed g [] hs = true
   allowed g (c ∷ cs) hs = (known (g .blocks) (c .does) (did g c .answer) && lentIn g (c .at) (c .does) hs) && allowed (next g c) cs (outagesLeft (g .memories (c .at)) (c .does) hs)
 
-  record AllowedAt (g : Group) (c : CallAt) : Type 0 where
+  record AllowedAt (g : Members) (c : CallAt) : Type 0 where
     delivers : known (g .blocks) (c .does) (did g c .answer) ≡ true
     left : List Outage
     restarts : lentIn g (c .at) (c .does) left ≡ true
 
-  allowed-at : (before : List CallAt) (c : CallAt) (rest : List CallAt) (g : Group) (hs : List Outage) → allowed g (before ++ (c ∷ rest)) hs ≡ true → AllowedAt (run g before) c
+  allowed-at : (before : List CallAt) (c : CallAt) (rest : List CallAt) (g : Members) (hs : List Outage) → allowed g (before ++ (c ∷ rest)) hs ≡ true → AllowedAt (run g before) c
   unfolding allowed run
   allowed-at [] c rest g hs e = let a = both (known (g .blocks) (c .does) (did g c .answer)) _ (both _ _ e .left) in record { delivers = a .left; left = hs; restarts = a .right }
   allowed-at (b ∷ before) c rest g hs e =
@@ -190,7 +190,7 @@ here-by n k (restart size own values j l) e = ltb-true k n e
 abbrev pub astray : ℕ → CallAt → Bool
 astray n c = not (hereIn n (c .at) (c .does) && signed32 (argumentsOf (c .does) .value))
 
-pub calls-met : (n : ℕ) (cs : List CallAt) → any (astray n) cs ≡ false → Calls n cs
+pub calls-met : (n : ℕ) (cs : List CallAt) → anyOf (astray n) cs ≡ false → Calls n cs
 calls-met n cs e c m =
     let h = both (hereIn n (c .at) (c .does)) (signed32 (argumentsOf (c .does) .value)) (not-false _ (any-false (astray n) cs e c m)) in
     (here-by n (c .at) (c .does) (h .left), h .right)
@@ -215,11 +215,11 @@ forged-apart p f a b =
     omega arith
 
 story-computed : (allowed 3 zeros (fresh 3 zeros) story [] ≡ true) × (held story 0 ≡ holding storyValues 4) × (held story 1 ≡ holding storyValues 4) × (held story 2 ≡ holding storyValues 4)
-unfolding bytesOf numberFrom valueBytes valueOf word sumTo weightedTo firstCheck secondCheck checkBytes checkMatches ownerOf within kindFits entriesFit recordFits recordsFit ticketAbsent ticketsDiffer valid signed32 entryBytes entriesBytes recordBytes recordsBytes headerFor headerBytes bodyBytes blockOf entryOf entriesOf recordOf recordsOf messageOf allZero entriesPadded recordPadded recordsPadded padded wellFormed firstOf headerOf recordAt entryAt entriesFrom bump rowFrom rowOf freeRow indexFrom has holderFrom countBelow placeStart madeMemory beginRefusal beginAt beginRow writeRefusal rewriteAt insertWrite staleAt writeRow hasClass classFrom classToCome mustWait areClasses loadRefusal loadStep askRefusal readOnlyAt queueAt askRow reportOf waiting writesetOf messageFor sendRefusal sendNow sendStep sameBytes deliverRefusal deliverNow deliverStep entriesFor applied stamped shares afterAborts insertRising hitTickets without workRefusal passNext commitWriteset workStep step run any allowed
+unfolding bytesOf numberFrom valueBytes valueOf word sumTo weightedTo firstCheck secondCheck checkBytes checkMatches ownerOf within kindFits entriesFit recordFits recordsFit ticketAbsent ticketsDiffer valid signed32 entryBytes entriesBytes recordBytes recordsBytes headerFor headerBytes bodyBytes blockOf entryOf entriesOf recordOf recordsOf messageOf allZero entriesPadded recordPadded recordsPadded padded wellFormed firstOf headerOf recordAt entryAt entriesFrom bump rowFrom rowOf freeRow indexFrom has holderFrom countBelow placeStart madeMemory beginRefusal beginAt beginRow writeRefusal rewriteAt insertWrite staleAt writeRow hasClass classFrom classToCome mustWait areClasses loadRefusal loadStep askRefusal readOnlyAt queueAt askRow reportOf waiting writesetOf messageFor sendRefusal sendNow sendStep sameBytes deliverRefusal deliverNow deliverStep entriesFor applied stamped shares afterAborts insertRising hitTickets without workRefusal passNext commitWriteset workStep step run anyOf allowed
 story-computed = (refl, refl, refl, refl)
 
 forgery-computed : (held forgery 0 ≡ holding (set zeros 5 (pos 84)) 1) × (held forgery 1 ≡ holding (set zeros 5 (pos 86)) 1)
-unfolding bytesOf numberFrom valueBytes valueOf word sumTo weightedTo firstCheck secondCheck checkBytes checkMatches ownerOf within kindFits entriesFit recordFits recordsFit ticketAbsent ticketsDiffer valid signed32 entryBytes entriesBytes recordBytes recordsBytes headerFor headerBytes bodyBytes blockOf entryOf entriesOf recordOf recordsOf messageOf allZero entriesPadded recordPadded recordsPadded padded wellFormed firstOf headerOf recordAt entryAt entriesFrom bump rowFrom rowOf freeRow indexFrom has holderFrom countBelow placeStart madeMemory beginRefusal beginAt beginRow writeRefusal rewriteAt insertWrite staleAt writeRow hasClass classFrom classToCome mustWait areClasses loadRefusal loadStep askRefusal readOnlyAt queueAt askRow reportOf waiting writesetOf messageFor sendRefusal sendNow sendStep sameBytes deliverRefusal deliverNow deliverStep entriesFor applied stamped shares afterAborts insertRising hitTickets without workRefusal passNext commitWriteset workStep step run any allowed
+unfolding bytesOf numberFrom valueBytes valueOf word sumTo weightedTo firstCheck secondCheck checkBytes checkMatches ownerOf within kindFits entriesFit recordFits recordsFit ticketAbsent ticketsDiffer valid signed32 entryBytes entriesBytes recordBytes recordsBytes headerFor headerBytes bodyBytes blockOf entryOf entriesOf recordOf recordsOf messageOf allZero entriesPadded recordPadded recordsPadded padded wellFormed firstOf headerOf recordAt entryAt entriesFrom bump rowFrom rowOf freeRow indexFrom has holderFrom countBelow placeStart madeMemory beginRefusal beginAt beginRow writeRefusal rewriteAt insertWrite staleAt writeRow hasClass classFrom classToCome mustWait areClasses loadRefusal loadStep askRefusal readOnlyAt queueAt askRow reportOf waiting writesetOf messageFor sendRefusal sendNow sendStep sameBytes deliverRefusal deliverNow deliverStep entriesFor applied stamped shares afterAborts insertRising hitTickets without workRefusal passNext commitWriteset workStep step run anyOf allowed
 forgery-computed = (refl, refl)
 
 -- the first two cuts end a send; the third leaves the floor, 512 of 1024 bytes
@@ -227,12 +227,12 @@ abbrev ends : List Outage
 ends = outage (send (replicate 512 0)) 512 ∷ outage (send (replicate 512 0)) 612 ∷ outage report 512 ∷ []
 
 outages-computed : (allowed 3 zeros (fresh 3 zeros) outages ends ≡ true) × (held outages 0 ≡ holding outageValues 2) × (held outages 1 ≡ holding outageValues 2) × (held outages 2 ≡ holding outageValues 2)
-unfolding bytesOf numberFrom valueBytes valueOf word sumTo weightedTo firstCheck secondCheck checkBytes checkMatches ownerOf within kindFits entriesFit recordFits recordsFit ticketAbsent ticketsDiffer valid signed32 entryBytes entriesBytes recordBytes recordsBytes headerFor headerBytes bodyBytes blockOf entryOf entriesOf recordOf recordsOf messageOf allZero entriesPadded recordPadded recordsPadded padded wellFormed firstOf headerOf recordAt entryAt entriesFrom bump rowFrom rowOf freeRow indexFrom has holderFrom countBelow placeStart madeMemory beginRefusal beginAt beginRow writeRefusal rewriteAt insertWrite staleAt writeRow hasClass classFrom classToCome mustWait areClasses loadRefusal loadStep askRefusal readOnlyAt queueAt askRow reportOf waiting writesetOf messageFor sendRefusal sendNow sendStep sameBytes deliverRefusal deliverNow deliverStep entriesFor applied stamped shares afterAborts insertRising hitTickets without workRefusal passNext commitWriteset workStep step run any allowed isGood blocksFrom firstBlocks writesetsFrom commitAll commitBlocks highestTicket highestOwn ownWritesets lastOwn restartedMemory restartRefusal restartStep placesFit partsFit openCount messageIn blockRefusal heard reportStep sameValues
+unfolding bytesOf numberFrom valueBytes valueOf word sumTo weightedTo firstCheck secondCheck checkBytes checkMatches ownerOf within kindFits entriesFit recordFits recordsFit ticketAbsent ticketsDiffer valid signed32 entryBytes entriesBytes recordBytes recordsBytes headerFor headerBytes bodyBytes blockOf entryOf entriesOf recordOf recordsOf messageOf allZero entriesPadded recordPadded recordsPadded padded wellFormed firstOf headerOf recordAt entryAt entriesFrom bump rowFrom rowOf freeRow indexFrom has holderFrom countBelow placeStart madeMemory beginRefusal beginAt beginRow writeRefusal rewriteAt insertWrite staleAt writeRow hasClass classFrom classToCome mustWait areClasses loadRefusal loadStep askRefusal readOnlyAt queueAt askRow reportOf waiting writesetOf messageFor sendRefusal sendNow sendStep sameBytes deliverRefusal deliverNow deliverStep entriesFor applied stamped shares afterAborts insertRising hitTickets without workRefusal passNext commitWriteset workStep step run anyOf allowed isGood blocksFrom firstBlocks writesetsFrom commitAll commitBlocks highestTicket highestOwn ownWritesets lastOwn restartedMemory restartRefusal restartStep placesFit partsFit openCount messageIn blockRefusal heard reportStep sameValues
 outages-computed = (refl, refl, refl, refl)
 
 classes-computed : (allowed 3 zeros (fresh 3 zeros) classes [] ≡ true) × (step (after halfApplied .memories 1) (write 1 5 (pos 84)) .answer ≡ wrote)
     × (step (after halfApplied .memories 2) (write 1 5 (pos 86)) .answer ≡ refused 7) × (held classes 0 ≡ holding classesValues 3) × (held classes 1 ≡ holding classesValues 3) × (held classes 2 ≡ holding classesValues 3)
-unfolding bytesOf numberFrom valueBytes valueOf word sumTo weightedTo firstCheck secondCheck checkBytes checkMatches ownerOf within kindFits entriesFit recordFits recordsFit ticketAbsent ticketsDiffer valid signed32 entryBytes entriesBytes recordBytes recordsBytes headerFor headerBytes bodyBytes blockOf entryOf entriesOf recordOf recordsOf messageOf allZero entriesPadded recordPadded recordsPadded padded wellFormed firstOf headerOf recordAt entryAt entriesFrom bump rowFrom rowOf freeRow indexFrom has holderFrom countBelow placeStart madeMemory beginRefusal beginAt beginRow writeRefusal rewriteAt insertWrite staleAt writeRow hasClass classFrom classToCome mustWait areClasses loadRefusal loadStep askRefusal readOnlyAt queueAt askRow reportOf waiting writesetOf messageFor sendRefusal sendNow sendStep sameBytes deliverRefusal deliverNow deliverStep entriesFor applied stamped shares afterAborts insertRising hitTickets without workRefusal passNext commitWriteset workStep step run any allowed
+unfolding bytesOf numberFrom valueBytes valueOf word sumTo weightedTo firstCheck secondCheck checkBytes checkMatches ownerOf within kindFits entriesFit recordFits recordsFit ticketAbsent ticketsDiffer valid signed32 entryBytes entriesBytes recordBytes recordsBytes headerFor headerBytes bodyBytes blockOf entryOf entriesOf recordOf recordsOf messageOf allZero entriesPadded recordPadded recordsPadded padded wellFormed firstOf headerOf recordAt entryAt entriesFrom bump rowFrom rowOf freeRow indexFrom has holderFrom countBelow placeStart madeMemory beginRefusal beginAt beginRow writeRefusal rewriteAt insertWrite staleAt writeRow hasClass classFrom classToCome mustWait areClasses loadRefusal loadStep askRefusal readOnlyAt queueAt askRow reportOf waiting writesetOf messageFor sendRefusal sendNow sendStep sameBytes deliverRefusal deliverNow deliverStep entriesFor applied stamped shares afterAborts insertRising hitTickets without workRefusal passNext commitWriteset workStep step run anyOf allowed
 classes-computed = (refl, refl, refl, refl, refl, refl)
 
 stations-computed : (allowed 3 zeros (fresh 3 zeros) (watched ++ watching) [] ≡ true)
@@ -245,28 +245,28 @@ stations-computed : (allowed 3 zeros (fresh 3 zeros) (watched ++ watching) [] �
       applied-after = got (pos 0);
       report = record { turn = 2; commits = 2; tickets = 2; «open_count» = 1; committed = 0; «read_only» = 1; aborted = 0; withdrawn = 0 };
     })
-    × (any (sameBytes fourth) (after watched .blocks) ≡ true)
-unfolding bytesOf numberFrom valueBytes valueOf word sumTo weightedTo firstCheck secondCheck checkBytes checkMatches ownerOf within kindFits entriesFit recordFits recordsFit ticketAbsent ticketsDiffer valid signed32 entryBytes entriesBytes recordBytes recordsBytes headerFor headerBytes bodyBytes blockOf entryOf entriesOf recordOf recordsOf messageOf allZero entriesPadded recordPadded recordsPadded padded wellFormed firstOf headerOf recordAt entryAt entriesFrom bump rowFrom rowOf freeRow indexFrom has holderFrom countBelow placeStart madeMemory beginRefusal beginAt beginRow writeRefusal rewriteAt insertWrite staleAt writeRow hasClass classFrom classToCome mustWait areClasses loadRefusal loadStep askRefusal readOnlyAt queueAt askRow reportOf waiting writesetOf messageFor sendRefusal sendNow sendStep sameBytes deliverRefusal deliverNow deliverStep entriesFor applied stamped shares afterAborts insertRising hitTickets without workRefusal passNext commitWriteset workStep step run any allowed numbers openCount readRefusal valueFor readRow
+    × (anyOf (sameBytes fourth) (after watched .blocks) ≡ true)
+unfolding bytesOf numberFrom valueBytes valueOf word sumTo weightedTo firstCheck secondCheck checkBytes checkMatches ownerOf within kindFits entriesFit recordFits recordsFit ticketAbsent ticketsDiffer valid signed32 entryBytes entriesBytes recordBytes recordsBytes headerFor headerBytes bodyBytes blockOf entryOf entriesOf recordOf recordsOf messageOf allZero entriesPadded recordPadded recordsPadded padded wellFormed firstOf headerOf recordAt entryAt entriesFrom bump rowFrom rowOf freeRow indexFrom has holderFrom countBelow placeStart madeMemory beginRefusal beginAt beginRow writeRefusal rewriteAt insertWrite staleAt writeRow hasClass classFrom classToCome mustWait areClasses loadRefusal loadStep askRefusal readOnlyAt queueAt askRow reportOf waiting writesetOf messageFor sendRefusal sendNow sendStep sameBytes deliverRefusal deliverNow deliverStep entriesFor applied stamped shares afterAborts insertRising hitTickets without workRefusal passNext commitWriteset workStep step run anyOf allowed numbers openCount readRefusal valueFor readRow
 stations-computed = (refl, refl, refl, refl)
 
 story-calls : Calls 3 story
-unfolding any signed32
+unfolding anyOf signed32
 story-calls = calls-met 3 story refl
 
 forgery-calls : Calls 3 forgery
-unfolding any signed32
+unfolding anyOf signed32
 forgery-calls = calls-met 3 forgery refl
 
 outage-calls : Calls 3 outages
-unfolding any signed32
+unfolding anyOf signed32
 outage-calls = calls-met 3 outages refl
 
 classes-calls : Calls 3 classes
-unfolding any signed32
+unfolding anyOf signed32
 classes-calls = calls-met 3 classes refl
 
 stations-calls : Calls 3 (watched ++ watching)
-unfolding any signed32
+unfolding anyOf signed32
 stations-calls = calls-met 3 (watched ++ watching) refl
 
 pub worked-runs : WorkedRuns

@@ -5,11 +5,11 @@ use mathlib.Core.Path.{_≡_}
 use mathlib.Core.List.{List, [], _∷_, _++_}
 use lib.ListN.{replicate}
 use Rattle.memory.specs.Memory.{Memory}
-use Rattle.engine.specs.Calls.{numberOf}
-use Rattle.engine.specs.Step.{step}
-use Rattle.engine.specs.Step.Call.{send, deliver, work}
+use Rattle.engine.specs.Answers.{numberOf}
+use Rattle.engine.specs.Calls.{step}
+use Rattle.engine.specs.Calls.Call.{send, deliver, work}
 use Rattle.engine.specs.Worked.{zeros, nextBlock}
-use Rattle.agreement.specs.Group.{Group, CallAt, fresh, run, Calls, Premise}
+use Rattle.agreement.specs.Group.{Members, CallAt, fresh, run, Calls, Premise}
 use Rattle.agreement_progress.specs.Progress.{AllGiven, SlotsLeft}
 use Rattle.agreement_runs.specs.Worked.{at, sending, restarting}
 
@@ -47,10 +47,10 @@ emptied = sending 0 ∷ at 0 (deliver slotZero) ∷ at 1 (deliver slotZero) ∷ 
 unfoldable pub triedOn : Memory → List ℕ
 triedOn m = numberOf (step m (send (replicate 512 0)) .answer) ∷ numberOf (step m work .answer) ∷ []
 
-abbrev pub tried : Group → List ℕ
+abbrev pub tried : Members → List ℕ
 tried g = triedOn (g .memories 0) ++ triedOn (g .memories 1)
 
-abbrev pub after : List CallAt → Group
+abbrev pub after : List CallAt → Members
 after cs = run (fresh 2 zeros) cs
 
 pub record Ending (cs : List CallAt) (numbers : List ℕ) : Type 0 where

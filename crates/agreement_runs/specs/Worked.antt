@@ -7,15 +7,15 @@ use lib.IntN.{ℤ, pos}
 use lib.ListN.{replicate, set, take}
 use Rattle.block.specs.Bytes.{blockOf}
 use Rattle.engine.specs.declared.Report.{Report}
-use Rattle.engine.specs.Calls.{Answer, numberOf}
-use Rattle.engine.specs.Calls.Answer.{refused, wrote, got}
+use Rattle.engine.specs.Answers.{Answer, numberOf}
+use Rattle.engine.specs.Answers.Answer.{refused, wrote, got}
 use Rattle.engine.specs.Client.{reportOf}
-use Rattle.engine.specs.Step.{Call, step}
+use Rattle.engine.specs.Calls.{Call, step}
 use Rattle.engine.specs.Worked.{zeros}
-use Rattle.engine.specs.Step.Call.{begin, read, write, ask, send, deliver, work, load}
+use Rattle.engine.specs.Calls.Call.{begin, read, write, ask, send, deliver, work, load}
 use Rattle.engine.specs.History.AnyCall.{call, restart}
 use Rattle.protocol.specs.Lists.{Mem}
-use Rattle.agreement.specs.Group.{Group, CallAt, fresh, did, next, run, Calls, Premise}
+use Rattle.agreement.specs.Group.{Members, CallAt, fresh, did, next, run, Calls, Premise}
 
 abbrev pub at : ℕ → Call → CallAt
 at k c = record { at = k; does = call c }
@@ -154,7 +154,7 @@ watching =
 
 -- ---- what the runs leave
 
-abbrev pub after : List CallAt → Group
+abbrev pub after : List CallAt → Members
 after cs = run (fresh 3 zeros) cs
 
 -- what replica k holds after a run: its values and its commit count
@@ -169,7 +169,7 @@ abbrev pub holding : List ℤ → ℕ → HeldBy
 holding values commits = record { values = values; commits = commits }
 
 -- the numbers that a list of calls is answered with, from the group g
-unfoldable pub numbers : Group → List CallAt → List ℕ
+unfoldable pub numbers : Members → List CallAt → List ℕ
 numbers g [] = []
 numbers g (c ∷ cs) = numberOf (did g c .answer) ∷ numbers (next g c) cs
 
@@ -227,7 +227,7 @@ pub record Seen : Type 0 where
   pub applied-after : Answer
   pub report : Report
 
-abbrev pub seen : Group → Seen
+abbrev pub seen : Members → Seen
 seen g = record {
   replica-0 = holding (g .memories 0 .store .values) (reportOf (g .memories 0) .commits);
   station-3 = holding (g .memories 3 .store .values) (reportOf (g .memories 3) .commits);

@@ -20,9 +20,11 @@ pub record Message : Type 0 where
   pub slot : ℕ
   pub records : List Record
 
+-- the highest ticket; tickets are given from 1 on, so it is also how many are given at most
 abbrev pub maxTicket : ℕ
 maxTicket = 100_000_000
 
+-- the highest slot
 abbrev pub maxSlot : ℕ
 maxSlot = 99_999_999
 

@@ -10,8 +10,8 @@ use borrow.Author.Tests.{eq-eqb, ne-eqb, lt-leb, le-leb}
 use Rattle.block.specs.Answers.{firstOf}
 use Rattle.block.specs.Message.{within}
 use Rattle.memory.specs.Memory.{Memory, withClasses}
-use Rattle.engine.specs.Calls.{outcome}
-use Rattle.engine.specs.Calls.Answer.{refused, loaded}
+use Rattle.engine.specs.Answers.{outcome}
+use Rattle.engine.specs.Answers.Answer.{refused, loaded}
 use Rattle.engine.specs.Classes.{areClasses, loadRefusal, loadStep}
 
 -- ---- the loop

@@ -8,8 +8,8 @@ use Rattle.block.specs.Answers.{firstOf}
 use Rattle.memory.specs.declared.Txn.{Txn}
 use Rattle.memory.specs.Memory.{Memory}
 use Rattle.memory.specs.Rows.{rowAt}
-use Rattle.engine.specs.Calls.{outcome}
-use Rattle.engine.specs.Calls.Answer.{refused}
+use Rattle.engine.specs.Answers.{outcome}
+use Rattle.engine.specs.Answers.Answer.{refused}
 use Rattle.engine.specs.Client.{askRefusal, readOnlyAt, queueAt, askRow, withdrawRefusal, withdrawAt, withdrawRow}
 
 module _ (m : Memory) (r : ℕ) where

@@ -12,8 +12,8 @@ use Rattle.block.specs.Answers.{firstOf}
 use Rattle.block.proofs.ListLaws.{lent}
 use Rattle.memory.specs.Memory.{Memory, withTickets, withTxns}
 use Rattle.memory.proofs.RowLaws.{paste-back}
-use Rattle.engine.specs.Calls.{outcome}
-use Rattle.engine.specs.Calls.Answer.{refused, began}
+use Rattle.engine.specs.Answers.{outcome}
+use Rattle.engine.specs.Answers.Answer.{refused, began}
 use Rattle.engine.specs.Client.{beginRefusal, beginAt, beginRow}
 
 module _ (m : Memory) (r : ℕ) where

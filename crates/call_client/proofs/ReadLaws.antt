@@ -11,8 +11,8 @@ use Rattle.block.proofs.ListLaws.{lent, lent-slice}
 use Rattle.memory.specs.declared.Txn.{Txn}
 use Rattle.memory.specs.Memory.{Memory}
 use Rattle.memory.specs.Rows.{rowAt, indexOf}
-use Rattle.engine.specs.Calls.{outcome}
-use Rattle.engine.specs.Calls.Answer.{refused, got}
+use Rattle.engine.specs.Answers.{outcome}
+use Rattle.engine.specs.Answers.Answer.{refused, got}
 use Rattle.engine.specs.Client.{readRefusal, valueFor, readRow}
 
 module _ (m : Memory) (r item : ℕ) where

@@ -20,8 +20,8 @@ use Rattle.memory.specs.declared.Group.{Group}
 use Rattle.memory.specs.declared.Turn.{Turn}
 use Rattle.memory.specs.Memory.{Memory, withBlocks}
 use Rattle.memory.specs.Turns.{isOn, placeStart}
-use Rattle.engine.specs.Calls.{outcome}
-use Rattle.engine.specs.Calls.Answer.{refused, kept}
+use Rattle.engine.specs.Answers.{outcome}
+use Rattle.engine.specs.Answers.Answer.{refused, kept}
 use Rattle.engine.specs.Make.{madeMemory}
 use Rattle.engine.specs.Moves.{sameBytes, deliverLent, deliverRefusal, deliverNow, deliverStep}
 use Rattle.engine.proofs.BlockFacts.{taken-block}

@@ -15,7 +15,7 @@ use Rattle.memory.specs.declared.Turn.{Turn}
 use Rattle.memory.specs.declared.Txn.{Txn}
 use Rattle.memory.specs.Memory.{Memory}
 use Rattle.memory.specs.Rows.{closed, endRows}
-use Rattle.engine.specs.Calls.{Outcome}
+use Rattle.engine.specs.Answers.{Outcome}
 use Rattle.call_reply.specs.declared.Made.{Made}
 use Rattle.call_reply.specs.Called.{called}
 use Rattle.call_reply.specs.Replies.{number, Gives}

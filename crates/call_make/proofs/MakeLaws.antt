@@ -19,8 +19,8 @@ use Rattle.memory.specs.declared.Txn.{Txn}
 use Rattle.memory.specs.Memory.{Memory, groupOf}
 use Rattle.memory.specs.Rows.{closed}
 use Rattle.engine.proofs.Tests.{passes}
-use Rattle.engine.specs.Calls.{outcome}
-use Rattle.engine.specs.Calls.Answer.{refused, made}
+use Rattle.engine.specs.Answers.{outcome}
+use Rattle.engine.specs.Answers.Answer.{refused, made}
 use Rattle.engine.specs.Make.{turnZero, countsZero, madeMemory, placesFit, slicesFit, partsFit, makeRefusal, makeStep}
 use Rattle.call_reply.specs.Parts.{allParts}
 use Rattle.call_make.specs.Made.{ifMade}

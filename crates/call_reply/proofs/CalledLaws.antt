@@ -5,8 +5,8 @@ use mathlib.Core.List.{List}
 use borrow.Author.Tests.{eq-eqb, ne-eqb}
 use lib.ListN.{length}
 use Rattle.memory.specs.Memory.{Memory}
-use Rattle.engine.specs.Calls.{Outcome, outcome}
-use Rattle.engine.specs.Calls.Answer.{refused}
+use Rattle.engine.specs.Answers.{Outcome, outcome}
+use Rattle.engine.specs.Answers.Answer.{refused}
 use Rattle.call_reply.specs.Called.{called, withBlock}
 
 module _ (step : Memory → Outcome) (m : Memory) where

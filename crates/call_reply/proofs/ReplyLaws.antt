@@ -5,8 +5,8 @@ use mathlib.Core.List.{List}
 use native.Mathlib.Omega.{arith}
 use lib.ListN.{length, take, drop, replicate, take-append-drop}
 use lib.Seq.{length-take-le}
-use Rattle.engine.specs.Calls.{Outcome}
-use Rattle.engine.specs.Calls.Outcome.{answer, memory}
+use Rattle.engine.specs.Answers.{Outcome}
+use Rattle.engine.specs.Answers.Outcome.{answer, memory}
 use Rattle.call_reply.specs.Replies.{sixOf, number, Gives, blockLeft, GivesWith, GivesBlock}
 
 -- an outcome that is the step's gives what the step gives

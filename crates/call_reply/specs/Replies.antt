@@ -8,8 +8,8 @@ use lib.IntN.{ℤ, pos}
 use lib.ListN.{length, replicate}
 use Rattle.memory.specs.Memory.{Memory}
 use Rattle.engine.specs.declared.Report.{Report}
-use Rattle.engine.specs.Calls.{Step, Answer, numberOf, Outcome}
-use Rattle.engine.specs.Calls.Answer.{refused, made, began, got, wrote, queued, readOnly, withdrew, reported, sent, kept, worked, loaded, restarted}
+use Rattle.engine.specs.Answers.{WorkDone, Answer, numberOf, Outcome}
+use Rattle.engine.specs.Answers.Answer.{refused, made, began, got, wrote, queued, readOnly, withdrew, reported, sent, kept, worked, loaded, restarted}
 use Rattle.call_reply.specs.declared.BeginReply.{BeginReply}
 use Rattle.call_reply.specs.declared.ReadReply.{ReadReply}
 use Rattle.call_reply.specs.declared.AskReply.{AskReply}
@@ -86,10 +86,10 @@ reportIn (worked s) = noReport
 reportIn loaded = noReport
 reportIn (restarted c b) = noReport
 
-abbrev pub noStep : Step
+abbrev pub noStep : WorkDone
 noStep = record { sender = 0; ticket = 0; moved = false; aborted = []; append = [] }
 
-abbrev pub stepIn : Answer → Step
+abbrev pub stepIn : Answer → WorkDone
 stepIn (worked s) = s
 stepIn (refused n) = noStep
 stepIn made = noStep

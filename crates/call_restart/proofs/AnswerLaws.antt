@@ -14,8 +14,8 @@ use Rattle.memory.specs.declared.Turn.{Turn}
 use Rattle.memory.specs.declared.Txn.{Txn}
 use Rattle.memory.specs.Memory.{Store, Memory}
 use Rattle.memory.specs.Rows.{closed}
-use Rattle.engine.specs.Calls.{Outcome, outcome}
-use Rattle.engine.specs.Calls.Answer.{refused, restarted}
+use Rattle.engine.specs.Answers.{Outcome, outcome}
+use Rattle.engine.specs.Answers.Answer.{refused, restarted}
 use Rattle.engine.specs.Make.{madeMemory, makeRefusal, makeStep}
 use Rattle.engine.specs.Restart.{Replayed, blocksIn, commitBlocks, startReplay, restartRefusal, restartedMemory, restartStep}
 use Rattle.engine.proofs.Tests.{cond-by}

@@ -13,8 +13,8 @@ use Rattle.memory.specs.declared.Turn.{Turn}
 use Rattle.memory.specs.declared.Txn.{Txn}
 use Rattle.memory.specs.Memory.{Memory}
 use Rattle.memory.specs.Turns.{markSent}
-use Rattle.engine.specs.Calls.{outcome}
-use Rattle.engine.specs.Calls.Answer.{refused, sent}
+use Rattle.engine.specs.Answers.{outcome}
+use Rattle.engine.specs.Answers.Answer.{refused, sent}
 use Rattle.engine.specs.Moves.{messageFor, sendRow, sendLent, sendRefusal, sendNow, sendStep}
 use Rattle.engine.proofs.Tests.{passes}
 use Rattle.call_reply.specs.Parts.{sendParts}

@@ -25,9 +25,9 @@ use Rattle.engine.proofs.Passed.{work-passed}
 use Rattle.engine.proofs.PlaceLaws.{place-fits}
 use Rattle.engine.proofs.ShapeWriteset.{committed}
 use Rattle.engine.proofs.Tests.{less-by, passes}
-use Rattle.engine.specs.Calls.{Outcome, outcome}
-use Rattle.engine.specs.Calls.Outcome.{memory}
-use Rattle.engine.specs.Calls.Answer.{refused, worked}
+use Rattle.engine.specs.Answers.{Outcome, outcome}
+use Rattle.engine.specs.Answers.Outcome.{memory}
+use Rattle.engine.specs.Answers.Answer.{refused, worked}
 use Rattle.engine.specs.Moves.{workLent, workRefusal, blockAtTurn, writesetAt, applied, stamped, hitTickets, endsOwn, isLast, appending, passNext, commitWriteset, workStep}
 use Rattle.call_commit.proofs.EndLaws.{end-none, end-mark, end-hit}
 use Rattle.call_reply.specs.Parts.{workParts}

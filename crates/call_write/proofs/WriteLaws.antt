@@ -17,8 +17,8 @@ use Rattle.memory.specs.declared.Txn.{Txn}
 use Rattle.memory.specs.Memory.{Memory, withTxns}
 use Rattle.memory.specs.Rows.{rowAt, indexOf, countBelow, shiftIn}
 use Rattle.memory.proofs.RowLaws.{below-within, insert-back}
-use Rattle.engine.specs.Calls.{Outcome, outcome, unless}
-use Rattle.engine.specs.Calls.Answer.{refused, wrote}
+use Rattle.engine.specs.Answers.{Outcome, outcome, unless}
+use Rattle.engine.specs.Answers.Answer.{refused, wrote}
 use Rattle.engine.specs.Classes.{mustWait}
 use Rattle.engine.specs.Client.{writeLent, isOwn, heldByOther, isStale, isFull, writeRefusal, rewriteAt, insertWrite, staleAt, writeRow}
 use Rattle.call_write.specs.Parts.{Inserted, inserted, insertIn, writeActive}

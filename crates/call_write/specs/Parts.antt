@@ -7,8 +7,8 @@ use lib.ListN.{set}
 use Rattle.memory.specs.declared.Txn.{Txn}
 use Rattle.memory.specs.Memory.{Memory}
 use Rattle.memory.specs.Rows.{rowAt, writeCount, itemsOf, countBelow, insertAt}
-use Rattle.engine.specs.Calls.{Outcome, outcome}
-use Rattle.engine.specs.Calls.Answer.{refused}
+use Rattle.engine.specs.Answers.{Outcome, outcome}
+use Rattle.engine.specs.Answers.Answer.{refused}
 use Rattle.engine.specs.Client.{rowIn, ownIndex, isOwn, heldByOther, isStale, isFull, rewriteAt, staleAt, insertWrite}
 
 -- table, items and values after a new item

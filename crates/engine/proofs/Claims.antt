@@ -14,12 +14,12 @@ use Rattle.block.proofs.BoolLaws.{not-so}
 use Rattle.block.proofs.Theorems.{theorems}
 use Rattle.memory.specs.Memory.{Memory}
 use Rattle.memory.specs.Rows.{freeRow}
-use Rattle.engine.specs.Calls.{Step}
-use Rattle.engine.specs.Calls.Answer.{refused, worked}
+use Rattle.engine.specs.Answers.{WorkDone}
+use Rattle.engine.specs.Answers.Answer.{refused, worked}
 use Rattle.engine.specs.Moves.{deliverLent, deliverRefusal, deliverStep}
 use Rattle.engine.specs.Shape.{Shape}
-use Rattle.engine.specs.Step.{step}
-use Rattle.engine.specs.Step.Call.{deliver, work}
+use Rattle.engine.specs.Calls.{step}
+use Rattle.engine.specs.Calls.Call.{deliver, work}
 use Rattle.engine.specs.Claims.{Claims}
 use Rattle.engine.proofs.Tests.{not-first}
 use Rattle.engine.proofs.RowLaws.{all-open, none-free}
@@ -27,7 +27,7 @@ use Rattle.engine.proofs.Rising.{rises-at, aborted-rise}
 use Rattle.engine.proofs.ReadBack.{reads-after}
 use Rattle.engine.proofs.TurnStays.{turn-stays}
 
-rising : {over : ℕ} (m : Memory) → Shape over m → (s : Step) → step m work .answer ≡ worked s
+rising : {over : ℕ} (m : Memory) → Shape over m → (s : WorkDone) → step m work .answer ≡ worked s
     → (j k : ℕ) → j < k → k < length (s .aborted) → getD (s .aborted) j 0 < getD (s .aborted) k 0
 rising m S s e = rises-at (s .aborted) (rw e at (aborted-rise m S))
 

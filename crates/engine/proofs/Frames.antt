@@ -16,8 +16,8 @@ use Rattle.memory.specs.Turns.{placeStart}
 use Rattle.engine.specs.Make.{madeMemory, makeRefusal, makeStep}
 use Rattle.engine.specs.Client.{freeNo, rowNo, rowIn, ownIndex, beginAt, rewriteAt, insertWrite, staleAt, readOnlyAt, queueAt, withdrawAt, reportStep}
 use Rattle.engine.specs.Moves.{sendNow, deliverNow}
-use Rattle.engine.specs.Step.{Call, step}
-use Rattle.engine.specs.Step.Call.{begin, read, write, ask, withdraw, report, send, deliver, work, load}
+use Rattle.engine.specs.Calls.{Call, step}
+use Rattle.engine.specs.Calls.Call.{begin, read, write, ask, withdraw, report, send, deliver, work, load}
 use Rattle.engine.specs.Frames.{Frames, SameBut, BeginFrame, WriteFrame, AskFrame, WithdrawFrame, SendFrame, DeliverFrame, WorkFrame}
 use Rattle.engine.proofs.Steps.{begin-by, read-by, write-by, ask-by, withdraw-by, send-by, deliver-by, work-by, load-by}
 use Rattle.engine.proofs.Passed.{BeginPassed, begin-passed, write-passed, DeliverPassed, deliver-passed}

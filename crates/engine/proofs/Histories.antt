@@ -5,10 +5,10 @@ use mathlib.Core.List.{List, [], _∷_}
 use lib.IntN.{ℤ}
 use borrow.Author.Tests.{ne-eqb}
 use Rattle.memory.specs.Memory.{Memory}
-use Rattle.engine.specs.Calls.{Outcome}
+use Rattle.engine.specs.Answers.{Outcome}
 use Rattle.engine.specs.Make.{SettingOf, madeMemory}
 use Rattle.engine.specs.Moves.{waiting}
-use Rattle.engine.specs.Step.{Call, step}
+use Rattle.engine.specs.Calls.{Call, step}
 use Rattle.engine.specs.Restart.{blocksIn, highestOwn, ownWritesets, restartedMemory, restartRefusal}
 use Rattle.engine.specs.Shape.{Shape}
 use Rattle.engine.specs.Sent.{SentShape}

@@ -7,15 +7,15 @@ use native.Mathlib.Omega.{arith}
 use lib.IntN.{ℤ}
 use Rattle.block.specs.Answers.{Refusal, refuse, firstOf}
 use Rattle.memory.specs.Memory.{Memory, isStation}
-use Rattle.engine.specs.Calls.{numberOf, Outcome}
-use Rattle.engine.specs.Calls.Answer.{refused}
+use Rattle.engine.specs.Answers.{numberOf, Outcome}
+use Rattle.engine.specs.Answers.Answer.{refused}
 use Rattle.engine.specs.Make.{madeMemory, makeRefusal, makeStep}
 use Rattle.engine.specs.Classes.{mustWait, loadRefusal}
-use Rattle.engine.specs.Client.{rowNo, itemOut, notOpen, notActive, isOwn, writeLent, beginRefusal, readRefusal, writeRefusal, askRefusal, withdrawRefusal}
+use Rattle.engine.specs.Client.{rowNo, itemOut, noRow, notActive, isOwn, writeLent, beginRefusal, readRefusal, writeRefusal, askRefusal, withdrawRefusal}
 use Rattle.engine.specs.Moves.{sendRefusal, deliverRefusal, workRefusal}
 use Rattle.engine.specs.Restart.{blocksIn, restartedMemory, restartRefusal, restartStep}
-use Rattle.engine.specs.Step.{Call, refusalOf}
-use Rattle.engine.specs.Step.Call.{begin, read, write, ask, withdraw, report, send, deliver, work, load}
+use Rattle.engine.specs.Calls.{Call, refusalOf}
+use Rattle.engine.specs.Calls.Call.{begin, read, write, ask, withdraw, report, send, deliver, work, load}
 use Rattle.engine.specs.History.{AnyCall, anyStep, afterAll}
 use Rattle.engine.specs.History.AnyCall.{call, restart}
 use Rattle.engine.specs.Station.{Numbered}
@@ -35,7 +35,7 @@ pub write-lacks : (k : ℕ) (m : Memory) (r i : ℕ) → lacks k (refuse 1 true 
 unfolding writeRefusal
 write-lacks k m r i own new =
     cond-by (λ (l : List Refusal).
-    firstOf (refuse 1 (not (writeLent m)) ∷ refuse 2 (itemOut i) ∷ refuse 3 (notOpen r) ∷ refuse 4 (notActive m r) ∷ refuse 7 (mustWait m i) ∷ l) ≡ k → ⊥)
+    firstOf (refuse 1 (not (writeLent m)) ∷ refuse 2 (itemOut i) ∷ refuse 3 (noRow r) ∷ refuse 4 (notActive m r) ∷ refuse 7 (mustWait m i) ∷ l) ≡ k → ⊥)
     (isOwn m r i) (λ e. not-first k _ own) (λ e. not-first k _ new)
 
 replica-numbers : (m : Memory) → isStation m ≡ false → (c : Call) → refusalOf m c ≡ 25 → ⊥

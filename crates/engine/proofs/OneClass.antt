@@ -11,15 +11,15 @@ use Rattle.block.specs.Message.{Record}
 use Rattle.block.specs.Answers.{recordAt, entryAt}
 use Rattle.block.proofs.BoolLaws.{both}
 use Rattle.memory.specs.Memory.{Store, Memory, isStation}
-use Rattle.engine.specs.Calls.{Outcome}
-use Rattle.engine.specs.Calls.Answer.{loaded}
+use Rattle.engine.specs.Answers.{Outcome}
+use Rattle.engine.specs.Answers.Answer.{loaded}
 use Rattle.engine.specs.Make.{madeMemory}
 use Rattle.engine.specs.Moves.{entriesFor, writesetAt, blockAtTurn}
 use Rattle.engine.specs.Classes.{isApplying, hasClass, classFrom, classToCome, mustWait}
 use Rattle.engine.specs.Client.{rowNo, writeRefusal, writeUnless, writeRow}
 use Rattle.engine.specs.Restart.{blocksIn, Replayed, commitAll, commitBlocks, commitOne, startReplay, writesetsIn, restartedMemory}
-use Rattle.engine.specs.Step.{Call, step}
-use Rattle.engine.specs.Step.Call.{begin, read, write, ask, withdraw, report, send, deliver, work, load}
+use Rattle.engine.specs.Calls.{Call, step}
+use Rattle.engine.specs.Calls.Call.{begin, read, write, ask, withdraw, report, send, deliver, work, load}
 use Rattle.engine.specs.History.{AnyCall, anyStep, afterAll}
 use Rattle.engine.specs.History.AnyCall.{call, restart}
 use Rattle.engine.specs.Shape.{Shape}

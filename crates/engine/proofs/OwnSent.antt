@@ -11,15 +11,15 @@ use borrow.Author.Tests.{eqb-true, eqb-false, eq-eqb, not-true}
 use Rattle.block.specs.Answers.{firstOf}
 use Rattle.block.proofs.BoolLaws.{both}
 use Rattle.memory.specs.Memory.{Memory, isStation}
-use Rattle.engine.specs.Calls.{numberOf}
-use Rattle.engine.specs.Calls.Answer.{refused}
+use Rattle.engine.specs.Answers.{numberOf}
+use Rattle.engine.specs.Answers.Answer.{refused}
 use Rattle.engine.specs.Make.{madeMemory, makeRefusal}
 use Rattle.engine.specs.Classes.{loadRefusal}
 use Rattle.engine.specs.Client.{rowNo, beginRefusal, readRefusal, writeRefusal, askRefusal, withdrawRefusal}
 use Rattle.engine.specs.Moves.{blockAtTurn, isSent, workLent, nothingWaits, sendRefusal, deliverRefusal, workRefusal, isLast, appending, commitWriteset}
 use Rattle.engine.specs.Restart.{restartRefusal}
-use Rattle.engine.specs.Step.{Call, step, refusalOf}
-use Rattle.engine.specs.Step.Call.{begin, read, write, ask, withdraw, report, send, deliver, work, load}
+use Rattle.engine.specs.Calls.{Call, step, refusalOf}
+use Rattle.engine.specs.Calls.Call.{begin, read, write, ask, withdraw, report, send, deliver, work, load}
 use Rattle.engine.specs.Shape.{Shape}
 use Rattle.engine.specs.Sent.{SentShape}
 use Rattle.engine.specs.History.{AnyCall, anyStep, afterAll}

@@ -11,12 +11,12 @@ use borrow.Author.Tests.{eqb-true, eqb-false, eq-eqb, ltb-false, leb-false, not-
 use Rattle.block.proofs.AnswerLaws.{not-refused}
 use Rattle.block.proofs.BoolLaws.{Both, both, is-within}
 use Rattle.block.specs.Answers.{blockRefusal, headerOf}
-use Rattle.block.specs.Message.{ownerOf, within}
-use Rattle.memory.specs.Memory.{Memory, maxTickets, maxSlots}
+use Rattle.block.specs.Message.{ownerOf, within, maxTicket}
+use Rattle.memory.specs.Memory.{Memory, slotLimit}
 use Rattle.memory.specs.Rows.{freeRow, writeCount}
 use Rattle.memory.specs.Turns.{isEmpty}
 use Rattle.engine.specs.Classes.{loadRefusal}
-use Rattle.engine.specs.Client.{freeNo, rowNo, rowIn, isOwn, notOpen, notActive, heldByOther, beginRefusal, writeRefusal, askRefusal, withdrawRefusal}
+use Rattle.engine.specs.Client.{freeNo, rowNo, rowIn, isOwn, noRow, notActive, heldByOther, beginRefusal, writeRefusal, askRefusal, withdrawRefusal}
 use Rattle.engine.specs.Moves.{sentAlready, sendRefusal, sameBytes, isOwnBlock, deliverRefusal, workRefusal}
 use Rattle.engine.specs.Make.{SettingOf, placesFit, slicesFit, partsFit, sizeOut, makeRefusal}
 use Rattle.engine.specs.Restart.{restartRefusal}
@@ -32,7 +32,7 @@ pub record BeginPassed (m : Memory) : Type 0 where
   pub values : length (m .store .values) ≡ 128
   pub snapshots : length (m .txns .snapshots) ≡ 768
   pub row : freeRow (m .txns .table) < 6
-  pub tickets : m .counts .tickets < maxTickets
+  pub tickets : m .counts .tickets < maxTicket
 
 pub begin-passed : (m : Memory) → beginRefusal m (freeNo m) ≡ 0 → BeginPassed m
 unfolding beginRefusal
@@ -45,7 +45,7 @@ begin-passed m e =
       values = eqb-true _ _ (l .left);
       snapshots = eqb-true _ _ (l .right);
       row = leb-false 6 _ (b .0);
-      tickets = leb-false maxTickets _ (c .0);
+      tickets = leb-false maxTicket _ (c .0);
     }
 
 -- ---- the calls of an active transaction
@@ -55,7 +55,7 @@ pub record RowPassed (m : Memory) (t : ℕ) : Type 0 where
   pub row : rowNo m t < 6
   pub active : rowIn m (rowNo m t) .stage ≡ 0
 
-pub row-passed : (m : Memory) (t : ℕ) → notOpen (rowNo m t) ≡ false → notActive m (rowNo m t) ≡ false → RowPassed m t
+pub row-passed : (m : Memory) (t : ℕ) → noRow (rowNo m t) ≡ false → notActive m (rowNo m t) ≡ false → RowPassed m t
 row-passed m t a b = record { row = leb-false 6 (rowNo m t) a; active = eqb-true (rowIn m (rowNo m t) .stage) 0 (not-false _ b) }
 
 pub record WritePassed (m : Memory) (t i : ℕ) : Type 0 where
@@ -112,7 +112,7 @@ withdraw-passed m t e =
 -- ---- send
 
 pub record SendPassed (m : Memory) : Type 0 where
-  pub slot : m .turn .slot < maxSlots
+  pub slot : m .turn .slot < slotLimit
   pub owner : ownerOf (m .group .replicas) (m .turn .slot) ≡ m .group .own
   pub unsent : sentAlready m ≡ false
 
@@ -123,7 +123,7 @@ send-passed m b e =
     let s = passes _ _ refl (a .1) in
     let o = passes _ _ refl (s .1) in
     let u = passes _ _ refl (o .1) in
-    record { slot = leb-false maxSlots (m .turn .slot) (s .0); owner = eqb-true _ _ (not-false _ (o .0)); unsent = u .0 }
+    record { slot = leb-false slotLimit (m .turn .slot) (s .0); owner = eqb-true _ _ (not-false _ (o .0)); unsent = u .0 }
 
 -- ---- deliver
 

@@ -10,12 +10,12 @@ use lib.ListN.{length, getD, replicate}
 use Rattle.block.specs.Message.{Record}
 use Rattle.memory.specs.Memory.{Memory}
 use Rattle.memory.specs.Rows.{rowAt, has}
-use Rattle.engine.specs.Calls.{Outcome}
+use Rattle.engine.specs.Answers.{Outcome}
 use Rattle.engine.specs.Make.{madeMemory}
 use Rattle.engine.specs.Client.{rowNo, beginAt, rewriteAt, insertWrite, staleAt, readOnlyAt, queueAt, withdrawAt, reportStep}
 use Rattle.engine.specs.Moves.{waiting, without, hitTickets, sendNow, deliverNow, passNext, commitWriteset}
-use Rattle.engine.specs.Step.{Call, step, after}
-use Rattle.engine.specs.Step.Call.{begin, read, write, ask, withdraw, report, send, deliver, work, load}
+use Rattle.engine.specs.Calls.{Call, step, after}
+use Rattle.engine.specs.Calls.Call.{begin, read, write, ask, withdraw, report, send, deliver, work, load}
 use Rattle.engine.specs.Restart.{blocksIn, restartedMemory}
 use Rattle.engine.specs.Shape.{Shape}
 use Rattle.engine.specs.History.{pendingAfter, pending, Queues}

@@ -8,7 +8,7 @@ use lib.Dec.{eqb}
 use lib.IntN.{ℤ}
 use borrow.Author.Tests.{ne-eqb}
 use Rattle.memory.specs.Memory.{Memory, noNumber, isStation}
-use Rattle.engine.specs.Calls.{Outcome}
+use Rattle.engine.specs.Answers.{Outcome}
 use Rattle.engine.specs.Make.{SettingOf, madeMemory}
 use Rattle.engine.specs.Restart.{blocksIn, restartedMemory}
 use Rattle.engine.specs.Shape.{Shape}

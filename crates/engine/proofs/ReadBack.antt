@@ -14,13 +14,13 @@ use Rattle.block.specs.Answers.{firstOf}
 use Rattle.memory.specs.declared.Txn.{Txn}
 use Rattle.memory.specs.Memory.{Memory, withTxns}
 use Rattle.memory.specs.Rows.{closed, writeCount, itemsOf, countBelow, insertAt}
-use Rattle.engine.specs.Calls.{Outcome, numberOf}
-use Rattle.engine.specs.Calls.Answer.{refused, got, wrote}
+use Rattle.engine.specs.Answers.{Outcome, numberOf}
+use Rattle.engine.specs.Answers.Answer.{refused, got, wrote}
 use Rattle.engine.specs.Client.{rowNo, rowIn, ownIndex, isOwn, readRefusal, valueFor, rewriteAt, insertWrite, staleAt}
 use Rattle.engine.specs.Frames.{WriteFrame}
 use Rattle.engine.specs.Shape.{Shape}
-use Rattle.engine.specs.Step.{step}
-use Rattle.engine.specs.Step.Call.{read, write}
+use Rattle.engine.specs.Calls.{step}
+use Rattle.engine.specs.Calls.Call.{read, write}
 use Rattle.engine.proofs.Tests.{cond-by, bool-by, same-by, less-by, passes}
 use Rattle.engine.proofs.HasLaws.{index-at, index-none}
 use Rattle.engine.proofs.PartLaws.{below-part, insert-before, insert-here, insert-moved}

@@ -9,14 +9,14 @@ use lib.ListN.{length, set}
 use borrow.Author.Tests.{eq-eqb}
 use Rattle.memory.specs.Memory.{Memory, isStation, bump, withAborted, withTable, withTxns}
 use Rattle.memory.specs.Rows.{closed, openCount}
-use Rattle.engine.specs.Calls.{Outcome, outcome, numberOf}
-use Rattle.engine.specs.Calls.Answer.{refused}
+use Rattle.engine.specs.Answers.{Outcome, outcome, numberOf}
+use Rattle.engine.specs.Answers.Answer.{refused}
 use Rattle.engine.specs.Make.{makeRefusal, makeStep}
 use Rattle.engine.specs.Classes.{loadRefusal}
 use Rattle.engine.specs.Client.{freeNo, rowNo, beginRefusal, beginAt, readRefusal, writeRefusal, rewriteAt, insertWrite, staleAt, writeRow, writeStep, askRefusal, readOnlyAt, queueAt, withdrawRefusal, withdrawAt, reportStep}
 use Rattle.engine.specs.Moves.{sendRefusal, sendNow, sendStep, deliverRefusal, deliverNow, workRefusal, passNext, commitWriteset}
-use Rattle.engine.specs.Step.{Call, step, refusalOf}
-use Rattle.engine.specs.Step.Call.{begin, read, write, ask, withdraw, report, send, deliver, work, load}
+use Rattle.engine.specs.Calls.{Call, step, refusalOf}
+use Rattle.engine.specs.Calls.Call.{begin, read, write, ask, withdraw, report, send, deliver, work, load}
 use Rattle.engine.specs.Frames.{Refusals, isWrite}
 use Rattle.engine.proofs.Tests.{not-first, unless-by}
 use Rattle.engine.proofs.Steps.{begin-by, read-by, write-step-by, ask-by, withdraw-by, deliver-by, work-by, load-by}

@@ -16,13 +16,13 @@ use Rattle.memory.specs.declared.Turn.{Turn}
 use Rattle.memory.specs.Memory.{Memory, bump}
 use Rattle.memory.specs.Rows.{openCount}
 use Rattle.memory.specs.Turns.{advance, markApplying}
-use Rattle.engine.specs.Calls.{Outcome, outcome}
-use Rattle.engine.specs.Calls.Answer.{refused}
+use Rattle.engine.specs.Answers.{Outcome, outcome}
+use Rattle.engine.specs.Answers.Answer.{refused}
 use Rattle.engine.specs.Make.{madeMemory}
 use Rattle.engine.specs.Client.{rowNo, beginAt, rewriteAt, insertWrite, staleAt, readOnlyAt, queueAt, withdrawAt, reportOf, reportStep}
 use Rattle.engine.specs.Moves.{sendNow, deliverNow, blockAtTurn, writesetAt, hitTickets, endsOwn, isLast, passNext, commitWriteset}
-use Rattle.engine.specs.Step.{Call, step, refusalOf, after}
-use Rattle.engine.specs.Step.Call.{begin, read, write, ask, withdraw, report, send, deliver, work, load}
+use Rattle.engine.specs.Calls.{Call, step, refusalOf, after}
+use Rattle.engine.specs.Calls.Call.{begin, read, write, ask, withdraw, report, send, deliver, work, load}
 use Rattle.engine.specs.Restart.{blocksIn, startReplay, repeated, restartedMemory}
 use Rattle.engine.specs.Shape.{Shape}
 use Rattle.engine.specs.Sent.{SentShape}

@@ -6,9 +6,9 @@ use lib.IntN.{ℤ}
 use lib.ListN.{length}
 use borrow.Author.Tests.{eq-eqb}
 use Rattle.memory.specs.Memory.{Memory}
-use Rattle.engine.specs.Calls as calls
-use Rattle.engine.specs.Calls.{Outcome, outcome}
-use Rattle.engine.specs.Calls.Answer.{restarted}
+use Rattle.engine.specs.Answers as calls
+use Rattle.engine.specs.Answers.{Outcome, outcome}
+use Rattle.engine.specs.Answers.Answer.{restarted}
 use Rattle.engine.specs.Make.{madeMemory}
 use Rattle.engine.specs.Restart.{blocksFrom, commitBlocks, highestOwn, ownWritesets, lastOwn, restartedMemory, restartRefusal, restartStep}
 use Rattle.engine.specs.Restarts.{Restarts}

@@ -13,12 +13,12 @@ use Rattle.block.proofs.BoolLaws.{not-so}
 use Rattle.memory.specs.declared.Txn.{Txn}
 use Rattle.memory.specs.Memory.{Memory}
 use Rattle.memory.specs.Rows.{rowAt, has}
-use Rattle.engine.specs.Calls.{Answer, Outcome}
-use Rattle.engine.specs.Calls.Answer.{refused, made, began, got, wrote, queued, readOnly, withdrew, reported, sent, kept, worked, loaded, restarted}
+use Rattle.engine.specs.Answers.{Answer, Outcome}
+use Rattle.engine.specs.Answers.Answer.{refused, made, began, got, wrote, queued, readOnly, withdrew, reported, sent, kept, worked, loaded, restarted}
 use Rattle.engine.specs.Moves.{blockAtTurn, isHit, insertRising, hitTickets, passNext, commitWriteset}
 use Rattle.engine.specs.Shape.{Shape}
-use Rattle.engine.specs.Step.{step}
-use Rattle.engine.specs.Step.Call.{work}
+use Rattle.engine.specs.Calls.{step}
+use Rattle.engine.specs.Calls.Call.{work}
 use Rattle.engine.proofs.Tests.{cond-by, clash}
 use Rattle.engine.proofs.HasLaws.{has-at, has-not}
 use Rattle.engine.proofs.HitLaws.{has-rising, hit-open, has-hit}

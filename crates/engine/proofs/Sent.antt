@@ -10,13 +10,13 @@ use borrow.Author.Tests.{eq-eqb}
 use Rattle.memory.specs.Memory.{Memory, withClasses}
 use Rattle.memory.specs.Rows.{closed, rowAt}
 use Rattle.memory.specs.Turns.{placeStart, isEmpty}
-use Rattle.engine.specs.Calls.{Outcome}
+use Rattle.engine.specs.Answers.{Outcome}
 use Rattle.engine.specs.Make.{madeMemory}
 use Rattle.engine.specs.Client.{reportStep}
 use Rattle.engine.specs.Moves.{sentAlready}
 use Rattle.engine.specs.Restart.{blocksIn, restartedMemory}
-use Rattle.engine.specs.Step.{Call, step}
-use Rattle.engine.specs.Step.Call.{begin, read, write, ask, withdraw, report, send, deliver, work, load}
+use Rattle.engine.specs.Calls.{Call, step}
+use Rattle.engine.specs.Calls.Call.{begin, read, write, ask, withdraw, report, send, deliver, work, load}
 use Rattle.engine.specs.Shape.{Shape}
 use Rattle.engine.specs.Sent.{SentShape, SentShapes}
 use Rattle.engine.proofs.Tests.{clash}

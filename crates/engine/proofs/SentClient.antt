@@ -10,10 +10,10 @@ use Rattle.memory.specs.declared.Counts.{Counts}
 use Rattle.memory.specs.declared.Txn.{Txn}
 use Rattle.memory.specs.Memory.{Memory}
 use Rattle.memory.specs.Rows.{closed, freeRow, rowAt}
-use Rattle.engine.specs.Calls.{Outcome}
+use Rattle.engine.specs.Answers.{Outcome}
 use Rattle.engine.specs.Client.{rowNo, rowIn, beginAt, rewriteAt, insertWrite, staleAt, readOnlyAt, queueAt, withdrawAt}
-use Rattle.engine.specs.Step.{step}
-use Rattle.engine.specs.Step.Call.{begin, write, ask, withdraw}
+use Rattle.engine.specs.Calls.{step}
+use Rattle.engine.specs.Calls.Call.{begin, write, ask, withdraw}
 use Rattle.engine.specs.Frames.{TurnKept, RowsBut, BeginFrame, WriteFrame, AskFrame, WithdrawFrame}
 use Rattle.engine.specs.Shape.{Shape}
 use Rattle.engine.specs.Sent.{SentShape, sentTicket}

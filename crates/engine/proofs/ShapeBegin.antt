@@ -5,7 +5,8 @@ use native.Mathlib.Omega.{arith}
 use lib.ListN.{set}
 use lib.Seq.{paste, length-paste}
 use Rattle.memory.specs.declared.Txn.{Txn}
-use Rattle.memory.specs.Memory.{Memory, maxTickets}
+use Rattle.block.specs.Message.{maxTicket}
+use Rattle.memory.specs.Memory.{Memory}
 use Rattle.memory.specs.Rows.{openCount, freeRow, rowAt}
 use Rattle.engine.specs.Client.{freeNo, beginAt}
 use Rattle.engine.specs.Shape.{Shape}
@@ -14,7 +15,7 @@ use Rattle.engine.proofs.Passed.{BeginPassed}
 use Rattle.engine.proofs.Shaping.{fits-empty}
 use Rattle.engine.proofs.ShapeRow.{Parts, Apart, Change, queue-same, shape-changed}
 
-module _ {over : ℕ} (m : Memory) (s : Shape over m) (r : ℕ) (h : r < 6) (isFree : rowAt (m .txns .table) r .ticket ≡ 0) (spare : m .counts .tickets < maxTickets) where
+module _ {over : ℕ} (m : Memory) (s : Shape over m) (r : ℕ) (h : r < 6) (isFree : rowAt (m .txns .table) r .ticket ≡ 0) (spare : m .counts .tickets < maxTicket) where
   abbrev row : Txn
   row = record { ticket = m .counts .tickets + 1; stage = 0; snapshot = m .counts .commits; writes = 0 }
 

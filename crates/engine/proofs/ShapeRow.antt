@@ -9,7 +9,8 @@ use lib.ListN.{length, getD, set, length-set}
 use lib.Seq.{getD-set-same}
 use borrow.Author.Tests.{ne-eqb}
 use Rattle.memory.specs.declared.Txn.{Txn}
-use Rattle.memory.specs.Memory.{Memory, maxTickets}
+use Rattle.block.specs.Message.{maxTicket}
+use Rattle.memory.specs.Memory.{Memory}
 use Rattle.memory.specs.Rows.{closed, openCount, rowOf, rowAt, has}
 use Rattle.engine.specs.Moves.{waiting}
 use Rattle.engine.specs.Shape.{Lengths, Ranges, QueueShape, Shape}
@@ -69,7 +70,7 @@ pub record Change (over : ℕ) (m : Memory) (r : ℕ) (t : Txn) (p : Parts) : Ty
   pub writes : length (p .writes) ≡ 48
   pub snapshots : length (p .snapshots) ≡ 768
   pub more : m .counts .tickets ≤ p .tickets
-  pub most : p .tickets ≤ maxTickets
+  pub most : p .tickets ≤ maxTicket
   pub endings : p .tickets + over ≡ openCount (set (m .txns .table) r t) + m .counts .committed + p .readOnly + p .aborted + p .withdrawn
   pub fits : RowFits t (p .tickets) (m .counts .commits) (itemAt (p .items) r)
   -- the other rows' items stay

@@ -6,11 +6,11 @@ use native.Mathlib.Omega.{arith}
 use borrow.Author.Tests.{ne-eqb}
 use Rattle.memory.specs.Memory.{Memory}
 use Rattle.memory.specs.Rows.{rowAt}
-use Rattle.engine.specs.Calls.{Outcome}
+use Rattle.engine.specs.Answers.{Outcome}
 use Rattle.engine.specs.Make.{madeMemory}
 use Rattle.engine.specs.Client.{rowNo, ownIndex, reportStep}
-use Rattle.engine.specs.Step.{Call, step, after}
-use Rattle.engine.specs.Step.Call.{begin, read, write, ask, withdraw, report, send, deliver, work, load}
+use Rattle.engine.specs.Calls.{Call, step, after}
+use Rattle.engine.specs.Calls.Call.{begin, read, write, ask, withdraw, report, send, deliver, work, load}
 use Rattle.engine.specs.Restart.{highestOwn, ownWritesets, restartRefusal}
 use Rattle.engine.specs.History.{AnyCall, anyStep, afterAll, History, begun, historyAfter, history}
 use Rattle.engine.specs.History.AnyCall.{call, restart}

@@ -8,7 +8,7 @@ use lib.IntN.{ℤ}
 use lib.ListN.{length, getD}
 use Rattle.memory.specs.declared.Turn.{Turn}
 use Rattle.memory.specs.declared.Txn.{Txn}
-use Rattle.memory.specs.Memory.{Memory, maxSlots, bump, withDone, withClasses}
+use Rattle.memory.specs.Memory.{Memory, slotLimit, bump, withDone, withClasses}
 use Rattle.memory.specs.Rows.{closed, rowAt, writeCount, itemsOf, has}
 use Rattle.engine.specs.Shape.{RowShape, PlaceShape, Shape}
 use Rattle.engine.proofs.Tests.{bump-is}
@@ -99,7 +99,7 @@ besides m t d places writes = record {
 }
 
 pub shape-besides : {over : ℕ} (m : Memory) → Shape over m → (t : Turn) (d : ℕ) (places : List ℕ) (writes : List ℤ)
-    → length places ≡ 512 * m .group .replicas → length writes ≡ 48 → t .slot ≤ maxSlots → m .counts .commits ≤ 6 * t .slot + d → PlaceShape (besides m t d places writes) → Shape over (besides m t d places writes)
+    → length places ≡ 512 * m .group .replicas → length writes ≡ 48 → t .slot ≤ slotLimit → m .counts .commits ≤ 6 * t .slot + d → PlaceShape (besides m t d places writes) → Shape over (besides m t d places writes)
 shape-besides m s t d places writes p w slot commits waits = record {
   lengths = record {
     table = s .lengths .table;

@@ -9,12 +9,12 @@ use lib.IntN.{ℤ}
 use Rattle.block.specs.Answers.{refuse, firstOf}
 use Rattle.block.proofs.BoolLaws.{not-so}
 use Rattle.memory.specs.Memory.{Memory, isStation}
-use Rattle.engine.specs.Calls.{Outcome, numberOf, outcome, unless}
-use Rattle.engine.specs.Calls.Answer.{refused}
+use Rattle.engine.specs.Answers.{Outcome, numberOf, outcome, unless}
+use Rattle.engine.specs.Answers.Answer.{refused}
 use Rattle.engine.specs.Classes.{mustWait}
-use Rattle.engine.specs.Client.{rowNo, rowIn, ownIndex, isOwn, itemOut, notOpen, notActive, heldByOther, isStale, isFull, writeLent, writeRefusal, rewriteAt, insertWrite, staleAt, writeRow}
-use Rattle.engine.specs.Step.{step}
-use Rattle.engine.specs.Step.Call.{write}
+use Rattle.engine.specs.Client.{rowNo, rowIn, ownIndex, isOwn, itemOut, noRow, notActive, heldByOther, isStale, isFull, writeLent, writeRefusal, rewriteAt, insertWrite, staleAt, writeRow}
+use Rattle.engine.specs.Calls.{step}
+use Rattle.engine.specs.Calls.Call.{write}
 use Rattle.engine.specs.Staleness.{lockFirstRefusal, lockFirstWrite, staleAndHeld, StalenessFirst}
 use Rattle.engine.proofs.Tests.{clash}
 
@@ -77,12 +77,12 @@ module _ (m : Memory) (ticket item : ℕ) (value : ℤ) where
   changed : staleAndHeld m ticket item ≡ true → (lockFirstWrite m ticket item value ≡ outcome (refused 8) m) × (step m (write ticket item value) ≡ staleAt m (rowNo m ticket))
   unfolding staleAndHeld step writeRow writeRefusal lockFirstRefusal firstOf
   changed =
-      where-both m (staleAt m r) taken (isStation m) (writeLent m) (itemOut item) (notOpen r) (notActive m r) (mustWait m item) (isOwn m r item) (isStale m r item) (heldByOther m r item) (isFull m r)
+      where-both m (staleAt m r) taken (isStation m) (writeLent m) (itemOut item) (noRow r) (notActive m r) (mustWait m item) (isOwn m r item) (isStale m r item) (heldByOther m r item) (isFull m r)
 
   same : staleAndHeld m ticket item ≡ false → step m (write ticket item value) ≡ lockFirstWrite m ticket item value
   unfolding staleAndHeld step writeRow writeRefusal lockFirstRefusal firstOf
   same =
-      where-not m (staleAt m r) taken (isStation m) (writeLent m) (itemOut item) (notOpen r) (notActive m r) (mustWait m item) (isOwn m r item) (isStale m r item) (heldByOther m r item) (isFull m r)
+      where-not m (staleAt m r) taken (isStation m) (writeLent m) (itemOut item) (noRow r) (notActive m r) (mustWait m item) (isOwn m r item) (isStale m r item) (heldByOther m r item) (isFull m r)
 
   only : step m (write ticket item value) .answer ≡ lockFirstWrite m ticket item value .answer → staleAndHeld m ticket item ≡ false
   unfolding staleAt

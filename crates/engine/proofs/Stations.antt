@@ -21,14 +21,14 @@ use Rattle.memory.specs.declared.Txn.{Txn}
 use Rattle.memory.specs.Memory.{Memory, bump, noNumber, isStation, withClasses}
 use Rattle.memory.specs.Rows.{closed, isOpen, rowOf, rowAt, itemsOf, has}
 use Rattle.memory.specs.Turns.{isOn}
-use Rattle.engine.specs.Calls.{Answer, Step, numberOf, Outcome, outcome}
-use Rattle.engine.specs.Calls.Answer.{refused, made, began, got, wrote, queued, readOnly, withdrew, reported, sent, kept, worked, loaded, restarted}
+use Rattle.engine.specs.Answers.{Answer, WorkDone, numberOf, Outcome, outcome}
+use Rattle.engine.specs.Answers.Answer.{refused, made, began, got, wrote, queued, readOnly, withdrew, reported, sent, kept, worked, loaded, restarted}
 use Rattle.engine.specs.Make.{Setting, madeMemory, partsFit, sizeOut, makeRefusal}
 use Rattle.engine.specs.Classes.{loadRefusal}
-use Rattle.engine.specs.Client.{rowNo, isOwn, notOpen, notActive, beginRefusal, beginAt, readRefusal, writeRefusal, askRefusal, readOnlyAt, withdrawRefusal, withdrawAt, reportOf, reportStep}
+use Rattle.engine.specs.Client.{rowNo, isOwn, noRow, notActive, beginRefusal, beginAt, readRefusal, writeRefusal, askRefusal, readOnlyAt, withdrawRefusal, withdrawAt, reportOf, reportStep}
 use Rattle.engine.specs.Moves.{waiting, sendRefusal, deliverRefusal, deliverNow, blockAtTurn, writesetAt, shares, isHit, afterAborts, hitTickets, endsOwn, nothingWaits, workRefusal, isLast, passNext, commitWriteset}
-use Rattle.engine.specs.Step.{Call, step, refusalOf, after}
-use Rattle.engine.specs.Step.Call.{begin, read, write, ask, withdraw, report, send, deliver, work, load}
+use Rattle.engine.specs.Calls.{Call, step, refusalOf, after}
+use Rattle.engine.specs.Calls.Call.{begin, read, write, ask, withdraw, report, send, deliver, work, load}
 use Rattle.engine.specs.Shape.{Shape}
 use Rattle.engine.specs.History.{Tally, noCalls, tally, reportFrom}
 use Rattle.engine.specs.Station.{stationMemory, stationRefusal, stationStep, OnlyReads, Stations}
@@ -279,22 +279,22 @@ module _ {over : ℕ} (m : Memory) (S : Shape over m) (R : OnlyReads m) where
   not-four work e = not-first 4 _ refl e
   not-four (load l) e = not-first 4 _ refl e
 
-  ask-number-is : (t : ℕ) → askRefusal m (rowNo m t) ≡ cond (notOpen (rowNo m t)) 3 0
+  ask-number-is : (t : ℕ) → askRefusal m (rowNo m t) ≡ cond (noRow (rowNo m t)) 3 0
   unfolding askRefusal firstOf
   ask-number-is t = rw (eq-eqb (length (m .txns .queue)) 6 (S .lengths .queue), stage-zero t) refl
 
   -- an ask of an open transaction is read-only
-  asked : (t : ℕ) → step m (ask t) .answer ≡ cond (notOpen (rowNo m t)) (refused 3) readOnly
+  asked : (t : ℕ) → step m (ask t) .answer ≡ cond (noRow (rowNo m t)) (refused 3) readOnly
   unfolding readOnlyAt
   asked t =
-      bool-by (notOpen (rowNo m t))
+      bool-by (noRow (rowNo m t))
       (λ o. rw o (ask-by (λ (x : Outcome). x .answer ≡ refused 3) m t (λ e. absurd (no-zero (rw o at (ask-number-is t)) e)) (λ e n. absurd (no-zero (rw o at (ask-number-is t)) e)) (λ z. ap refused (rw o at (ask-number-is t)))))
       (λ o. rw o (ask-by (λ (x : Outcome). x .answer ≡ readOnly) m t (λ e. refl) (λ e n. absurd (let w = R .unwritten (rowNo m t) in n (omega arith))) (λ z. absurd (z (rw o at (ask-number-is t))))))
     where
       no-zero : askRefusal m (rowNo m t) ≡ 3 → askRefusal m (rowNo m t) ≡ 0 → ⊥
       no-zero a b = omega arith
 
-  aborts-none : (s : Step) → step m work .answer ≡ worked s → s .aborted ≡ []
+  aborts-none : (s : WorkDone) → step m work .answer ≡ worked s → s .aborted ≡ []
   aborts-none s = work-by (λ (o : Outcome). o .answer ≡ worked s → s .aborted ≡ []) m
       (λ e k q. unfold passNext in sym (ap abortedIn q))
       (λ e k q. sym (ap abortedIn q) ∙ rw (work-other m S (R .station) e) (unfold commitWriteset in nobody-hit _ (m .txns .items) 0 (m .txns .table) (idle m R)))

@@ -10,14 +10,14 @@ use lib.ListN.{length, getD, replicate}
 use borrow.Author.Tests.{eqb-true, eqb-false}
 use Rattle.memory.specs.Memory.{Memory, isStation, withClasses}
 use Rattle.memory.specs.Rows.{writeCount}
-use Rattle.engine.specs.Calls.{Outcome, outcome}
-use Rattle.engine.specs.Calls.Answer.{refused, got, loaded, restarted}
+use Rattle.engine.specs.Answers.{Outcome, outcome}
+use Rattle.engine.specs.Answers.Answer.{refused, got, loaded, restarted}
 use Rattle.engine.specs.Classes.{loadRefusal, loadStep}
 use Rattle.engine.specs.Client.{freeNo, rowNo, rowIn, ownIndex, isOwn, beginRefusal, beginAt, beginRow, readRefusal, valueFor, readRow, writeRefusal, rewriteAt, insertWrite, staleAt, writeRow, writeStep, askRefusal, readOnlyAt, queueAt, askRow, withdrawRefusal, withdrawAt, withdrawRow}
 use Rattle.engine.specs.Moves.{sendRefusal, sendNow, sendStep, deliverRefusal, deliverNow, deliverStep, blockAtTurn, writesetAt, workRefusal, passNext, commitWriteset, workStep}
 use Rattle.engine.specs.Restart.{blocksIn, lastOwn, restartedMemory, restartRefusal, restartStep}
-use Rattle.engine.specs.Step.{step}
-use Rattle.engine.specs.Step.Call.{begin, read, write, ask, withdraw, send, deliver, work, load}
+use Rattle.engine.specs.Calls.{step}
+use Rattle.engine.specs.Calls.Call.{begin, read, write, ask, withdraw, send, deliver, work, load}
 use Rattle.engine.proofs.Tests.{cond-by, bool-by, not-first, unless-by}
 
 -- document 02's Req 05: at a station a write and a send are refused by 25, before any other reason, and change nothing; at a replica they are its steps

@@ -9,8 +9,8 @@ use borrow.Author.Tests.{eqb-true, eqb-false, ltb-true, ltb-false, not-true}
 use Rattle.block.proofs.BoolLaws.{both}
 use Rattle.block.specs.Answers.{Refusal, firstOf}
 use Rattle.memory.specs.Memory.{Memory, bump}
-use Rattle.engine.specs.Calls.{Outcome, outcome, unless}
-use Rattle.engine.specs.Calls.Answer.{refused}
+use Rattle.engine.specs.Answers.{Outcome, outcome, unless}
+use Rattle.engine.specs.Answers.Answer.{refused}
 
 -- ---- tests
 

@@ -8,11 +8,11 @@ use Rattle.block.specs.Message.{ownerOf}
 use Rattle.block.specs.Answers.{headerOf}
 use Rattle.memory.specs.Memory.{Memory}
 use Rattle.memory.specs.Turns.{isEmpty}
-use Rattle.engine.specs.Calls.{Outcome}
-use Rattle.engine.specs.Calls.Answer.{sent}
+use Rattle.engine.specs.Answers.{Outcome}
+use Rattle.engine.specs.Answers.Answer.{sent}
 use Rattle.engine.specs.Moves.{sentAlready, sendNow, deliverNow}
-use Rattle.engine.specs.Step.{Call, step, after}
-use Rattle.engine.specs.Step.Call.{begin, read, write, ask, withdraw, report, send, deliver, work, load}
+use Rattle.engine.specs.Calls.{Call, step, after}
+use Rattle.engine.specs.Calls.Call.{begin, read, write, ask, withdraw, report, send, deliver, work, load}
 use Rattle.engine.specs.Shape.{Shape}
 use Rattle.engine.specs.Sent.{SentShape}
 use Rattle.engine.proofs.Tests.{bool-by, clash}

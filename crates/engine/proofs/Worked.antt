@@ -16,7 +16,7 @@ use Rattle.engine.specs.Client.{beginRefusal, beginAt, beginRow, readRef
 use Rattle.engine.specs.Moves.{waiting, writesetOf, messageFor, sendRefusal, sendNow, sendStep, sameBytes, deliverRefusal, deliverNow, deliverStep, entriesFor, applied, stamped, shares, afterAborts, insertRising, hitTickets, without, workRefusal, passNext, commitWriteset, workStep}
 use Rattle.engine.specs.Restart.{isGood, blocksFrom, writesetsFrom, commitAll, commitBlocks, highestTicket, highestOwn, ownWritesets, lastOwn, restartedMemory, restartRefusal, restartStep}
 use Rattle.engine.specs.Station.{stationRefusal, stationStep}
-use Rattle.engine.specs.Step.{step}
+use Rattle.engine.specs.Calls.{step}
 use Rattle.engine.specs.Worked.{RightAnswers, answers}
 
 pub right-answers : RightAnswers

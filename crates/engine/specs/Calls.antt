@@ -1,68 +1,54 @@
--- What a call answers, and what it leaves.
+-- The calls at a replica or a station that was made, as data, and the step of each.
 use Prim.Native.Nat.{ℕ}
-use mathlib.Core.Bool.{Bool, cond}
-use mathlib.Core.List.{List}
-use lib.Dec.{eqb}
+use mathlib.Core.Bool.{cond}
+use mathlib.Core.List.{List, [], _∷_}
 use lib.IntN.{ℤ}
-use Rattle.engine.specs.declared.Report.{Report}
 use Rattle.memory.specs.Memory.{Memory, isStation}
+use Rattle.engine.specs.Answers.{Outcome, unlessStation}
+use Rattle.engine.specs.Classes.{loadRefusal, loadStep}
+use Rattle.engine.specs.Client.{rowNo, freeNo, beginRefusal, beginStep, readRefusal, readStep, writeRefusal, writeStep, askRefusal, askStep, withdrawRefusal, withdrawStep, reportStep}
+use Rattle.engine.specs.Moves.{sendRefusal, sendStep, deliverRefusal, deliverStep, workRefusal, workStep}
 
--- what a work did: whose writeset it committed (ticket 0 for a *next*), whether the turn moved, the tickets it aborted, rising, and the block to append to
--- the journal: another's, where the turn leaves its slot; else no byte
-pub record Step : Type 0 where
-  pub sender : ℕ
-  pub ticket : ℕ
-  pub moved : Bool
-  pub aborted : List ℕ
-  pub append : List ℕ
+-- tickets, items, values, the lent block of a send, the bytes of a deliver and the classes of a load are any
+pub data Call : Type 0 where
+  begin : Call
+  read : ℕ → ℕ → Call
+  write : ℕ → ℕ → ℤ → Call
+  ask : ℕ → Call
+  withdraw : ℕ → Call
+  report : Call
+  send : List ℕ → Call
+  deliver : List ℕ → Call
+  work : Call
+  load : List ℕ → Call
 
--- a refusal's number of document 01's table, or what an accepted call gives
-pub data Answer : Type 0 where
-  refused : ℕ → Answer
-  made : Answer
-  began : ℕ → Answer
-  got : ℤ → Answer
-  wrote : Answer
-  queued : Answer
-  readOnly : Answer
-  withdrew : Answer
-  reported : Report → Answer
-  sent : List ℕ → Answer
-  kept : Answer
-  worked : Step → Answer
-  -- a table of classes is loaded
-  loaded : Answer
-  -- how many blocks were committed, and the last own one of them, 512 zeros where there is none
-  restarted : ℕ → List ℕ → Answer
+-- a station neither writes nor sends; every other call is the same there
+unfoldable pub step : Memory → Call → Outcome
+step m begin = beginStep m
+step m (read ticket item) = readStep m ticket item
+step m (write ticket item value) = unlessStation m (writeStep m ticket item value)
+step m (ask ticket) = askStep m ticket
+step m (withdraw ticket) = withdrawStep m ticket
+step m report = reportStep m
+step m (send block) = unlessStation m (sendStep m block)
+step m (deliver bytes) = deliverStep m bytes
+step m work = workStep m
+step m (load classes) = loadStep m classes
 
--- document 01's number: 0 where the call is accepted
-abbrev pub numberOf : Answer → ℕ
-numberOf (refused n) = n
-numberOf made = 0
-numberOf (began t) = 0
-numberOf (got v) = 0
-numberOf wrote = 0
-numberOf queued = 0
-numberOf readOnly = 0
-numberOf withdrew = 0
-numberOf (reported r) = 0
-numberOf (sent b) = 0
-numberOf kept = 0
-numberOf (worked s) = 0
-numberOf loaded = 0
-numberOf (restarted c b) = 0
+-- the first refusal of each call's list that holds, 0 where none does
+unfoldable pub refusalOf : Memory → Call → ℕ
+refusalOf m begin = beginRefusal m (freeNo m)
+refusalOf m (read ticket item) = readRefusal m (rowNo m ticket) item
+refusalOf m (write ticket item value) = cond (isStation m) 25 (writeRefusal m (rowNo m ticket) item)
+refusalOf m (ask ticket) = askRefusal m (rowNo m ticket)
+refusalOf m (withdraw ticket) = withdrawRefusal m (rowNo m ticket)
+refusalOf m report = 0
+refusalOf m (send block) = cond (isStation m) 25 (sendRefusal m block)
+refusalOf m (deliver bytes) = deliverRefusal m bytes
+refusalOf m work = workRefusal m
+refusalOf m (load classes) = loadRefusal m classes
 
-pub record Outcome : Type 0 where
-  pub answer : Answer
-  pub memory : Memory
-
-abbrev pub outcome : Answer → Memory → Outcome
-outcome a m = record { answer = a; memory = m }
-
--- the refusal n, with the memory as it was, or where n is 0 what the call does
-abbrev pub unless : ℕ → Memory → Outcome → Outcome
-unless n m o = cond (eqb n 0) o (outcome (refused n) m)
-
--- 25 at a station, whatever else is wrong, with the memory as it was; at a replica what the call does
-abbrev pub unlessStation : Memory → Outcome → Outcome
-unlessStation m o = cond (isStation m) (outcome (refused 25) m) o
+-- the memory that a list of calls leaves
+unfoldable pub after : Memory → List Call → Memory
+after m [] = m
+after m (c ∷ cs) = after (step m c .memory) cs

@@ -10,11 +10,11 @@ use Rattle.block.specs.Theorems.{Accepted, TwoWordsChanged}
 use Rattle.memory.specs.declared.Txn.{Txn}
 use Rattle.memory.specs.Memory.{Memory}
 use Rattle.memory.specs.Rows.{openCount, freeRow}
-use Rattle.engine.specs.Calls.{Step}
-use Rattle.engine.specs.Calls.Answer.{refused, got, wrote, sent, worked}
+use Rattle.engine.specs.Answers.{WorkDone}
+use Rattle.engine.specs.Answers.Answer.{refused, got, wrote, sent, worked}
 use Rattle.engine.specs.Moves.{deliverLent}
-use Rattle.engine.specs.Step.{Call, step, after}
-use Rattle.engine.specs.Step.Call.{read, write, send, deliver, work}
+use Rattle.engine.specs.Calls.{Call, step, after}
+use Rattle.engine.specs.Calls.Call.{read, write, send, deliver, work}
 use Rattle.engine.specs.Shape.{Shape}
 use Rattle.engine.specs.Sent.{SentShape}
 
@@ -26,7 +26,7 @@ pub record Claims : Type 0 where
   pub read-other : {over : ℕ} (m : Memory) → Shape over m → (ticket item : ℕ) (value : ℤ) → step m (write ticket item value) .answer ≡ wrote
       → (t i : ℕ) → ((t ≡ ticket) × (i ≡ item) → ⊥) → step (step m (write ticket item value) .memory) (read t i) .answer ≡ step m (read t i) .answer
   -- the aborted tickets rise strictly
-  pub rising : {over : ℕ} (m : Memory) → Shape over m → (s : Step) → step m work .answer ≡ worked s
+  pub rising : {over : ℕ} (m : Memory) → Shape over m → (s : WorkDone) → step m work .answer ≡ worked s
       → (j k : ℕ) → j < k → k < length (s .aborted) → getD (s .aborted) j 0 < getD (s .aborted) k 0
   -- after a send the turn stays until the replica gets its block back: through any calls but a deliver of it
   pub turn-stays : {over : ℕ} (m : Memory) → Shape over m → SentShape m → (lent block : List ℕ) → step m (send lent) .answer ≡ sent block

@@ -9,8 +9,8 @@ use Rattle.block.specs.Message.{within}
 use Rattle.block.specs.Answers.{refuse, firstOf}
 use Rattle.memory.specs.Memory.{Memory, classesLent, withClasses}
 use Rattle.memory.specs.Turns.{isOn}
-use Rattle.engine.specs.Calls.{Outcome, outcome, unless}
-use Rattle.engine.specs.Calls.Answer.{loaded}
+use Rattle.engine.specs.Answers.{Outcome, outcome, unless}
+use Rattle.engine.specs.Answers.Answer.{loaded}
 use Rattle.engine.specs.Moves.{blockAtTurn, writesetAt}
 
 -- the applying mark is on

@@ -10,10 +10,11 @@ use lib.Seq.{paste}
 use Rattle.block.specs.Answers.{Refusal, refuse, firstOf}
 use Rattle.engine.specs.declared.Report.{Report}
 use Rattle.memory.specs.declared.Txn.{Txn}
-use Rattle.memory.specs.Memory.{Memory, maxTickets, bump, queueLent, writesLent, snapshotsLent, valuesLent, stampsLent, classesLent, placesLent, withTickets, withReadOnly, withAborted, withWithdrawn, withTable, withTxns}
+use Rattle.block.specs.Message.{maxTicket}
+use Rattle.memory.specs.Memory.{Memory, bump, queueLent, writesLent, snapshotsLent, valuesLent, stampsLent, classesLent, placesLent, withTickets, withReadOnly, withAborted, withWithdrawn, withTable, withTxns}
 use Rattle.memory.specs.Rows.{closed, openCount, rowOf, freeRow, rowAt, writeCount, itemsOf, indexOf, holderOf, isHeld, countBelow, insertAt}
-use Rattle.engine.specs.Calls.{Outcome, outcome, unless}
-use Rattle.engine.specs.Calls.Answer.{refused, began, got, wrote, queued, readOnly, withdrew, reported}
+use Rattle.engine.specs.Answers.{Outcome, outcome, unless}
+use Rattle.engine.specs.Answers.Answer.{refused, began, got, wrote, queued, readOnly, withdrew, reported}
 use Rattle.engine.specs.Classes.{mustWait}
 
 -- ---- what the calls look at
@@ -43,21 +44,17 @@ isOwn m r item = ltb (ownIndex m r item) (writeCount (rowIn m r))
 abbrev pub itemOut : ℕ → Bool
 itemOut item = leb 128 item
 
--- 3: no open transaction has this ticket, and so it has no row
-abbrev pub notOpen : ℕ → Bool
-notOpen r = leb 6 r
+-- a row's number that is none. 3: no open transaction has this ticket, and so it has no row; 5: 6 transactions are open, and no row is free
+abbrev pub noRow : ℕ → Bool
+noRow r = leb 6 r
 
 -- 4: it is asked or sent already
 abbrev pub notActive : Memory → ℕ → Bool
 notActive m r = not (eqb (rowIn m r .stage) 0)
 
--- 5: 6 transactions are open, and no row is free
-abbrev pub noRoom : ℕ → Bool
-noRoom r = leb 6 r
-
 -- 6: 100,000,000 tickets given
 abbrev pub ticketsSpent : Memory → Bool
-ticketsSpent m = leb maxTickets (m .counts .tickets)
+ticketsSpent m = leb maxTicket (m .counts .tickets)
 
 -- 8: another open transaction holds the item
 abbrev pub heldByOther : Memory → ℕ → ℕ → Bool
@@ -77,7 +74,7 @@ unfoldable pub beginRefusal : Memory → ℕ → ℕ
 beginRefusal m r =
     firstOf
     (refuse 1 (not (valuesLent m && snapshotsLent m))
-    ∷ refuse 5 (noRoom r)
+    ∷ refuse 5 (noRow r)
     ∷ refuse 6 (ticketsSpent m)
     ∷ [])
 
@@ -110,7 +107,7 @@ readRefusal m r item =
     firstOf
     (refuse 1 (not (writesLent m && snapshotsLent m))
     ∷ refuse 2 (itemOut item)
-    ∷ refuse 3 (notOpen r)
+    ∷ refuse 3 (noRow r)
     ∷ refuse 4 (notActive m r)
     ∷ [])
 
@@ -135,7 +132,7 @@ writeLent m = writesLent m && (stampsLent m && (classesLent m && placesLent m))
 
 -- the refusals before that of waiting; `lent` where the lent parts have their lengths
 abbrev pub earlyRefusals : Bool → Memory → ℕ → ℕ → List Refusal
-earlyRefusals lent m r item = refuse 1 (not lent) ∷ refuse 2 (itemOut item) ∷ refuse 3 (notOpen r) ∷ refuse 4 (notActive m r) ∷ []
+earlyRefusals lent m r item = refuse 1 (not lent) ∷ refuse 2 (itemOut item) ∷ refuse 3 (noRow r) ∷ refuse 4 (notActive m r) ∷ []
 
 -- and behind it: an item that the transaction holds already is accepted before 9, 8 and 10 are looked at; 9 stands before 8 (document 02, Req 07)
 abbrev pub lateRefusals : Memory → ℕ → ℕ → List Refusal
@@ -196,7 +193,7 @@ unfoldable pub askRefusal : Memory → ℕ → ℕ
 askRefusal m r =
     firstOf
     (refuse 1 (not (queueLent m))
-    ∷ refuse 3 (notOpen r)
+    ∷ refuse 3 (noRow r)
     ∷ refuse 4 (notActive m r)
     ∷ [])
 
@@ -227,7 +224,7 @@ askStep m ticket = askRow m (rowNo m ticket)
 -- ---- withdraw
 
 unfoldable pub withdrawRefusal : Memory → ℕ → ℕ
-withdrawRefusal m r = firstOf (refuse 3 (notOpen r) ∷ refuse 4 (notActive m r) ∷ [])
+withdrawRefusal m r = firstOf (refuse 3 (noRow r) ∷ refuse 4 (notActive m r) ∷ [])
 
 unfoldable pub withdrawAt : Memory → ℕ → Outcome
 withdrawAt m r = outcome withdrew (withTxns m (withWithdrawn (m .counts) (bump (m .counts .withdrawn))) (withTable (m .txns) (set (m .txns .table) r closed)))

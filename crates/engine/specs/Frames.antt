@@ -11,12 +11,12 @@ use Rattle.block.specs.Answers.{headerOf}
 use Rattle.memory.specs.Memory.{Memory, span, bump, withTickets, withReadOnly, withAborted, withWithdrawn, withTable, withTxns, withBlocks, withClasses}
 use Rattle.memory.specs.Rows.{closed, openCount, freeRow, rowAt, indexOf, has}
 use Rattle.memory.specs.Turns.{markApplying, advance, placeStart}
-use Rattle.engine.specs.Calls.{numberOf}
+use Rattle.engine.specs.Answers.{numberOf}
 use Rattle.engine.specs.Make.{madeMemory, makeRefusal, makeStep}
 use Rattle.engine.specs.Client.{rowNo}
 use Rattle.engine.specs.Moves.{blockAtTurn, writesetAt}
-use Rattle.engine.specs.Step.{Call, step, refusalOf}
-use Rattle.engine.specs.Step.Call.{begin, read, write, ask, withdraw, report, send, deliver, work, load}
+use Rattle.engine.specs.Calls.{Call, step, refusalOf}
+use Rattle.engine.specs.Calls.Call.{begin, read, write, ask, withdraw, report, send, deliver, work, load}
 
 abbrev pub isWrite : Call → Bool
 isWrite begin = false

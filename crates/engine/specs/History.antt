@@ -8,14 +8,14 @@ use lib.IntN.{ℤ}
 use lib.ListN.{length, getD}
 use Rattle.memory.specs.Memory.{Memory}
 use Rattle.engine.specs.declared.Report.{Report}
-use Rattle.engine.specs.Calls.{Answer, Step, numberOf, Outcome}
-use Rattle.engine.specs.Calls.Answer.{refused, made, began, got, wrote, queued, readOnly, withdrew, reported, sent, kept, worked, loaded, restarted}
+use Rattle.engine.specs.Answers.{Answer, WorkDone, numberOf, Outcome}
+use Rattle.engine.specs.Answers.Answer.{refused, made, began, got, wrote, queued, readOnly, withdrew, reported, sent, kept, worked, loaded, restarted}
 use Rattle.engine.specs.Make.{SettingOf, madeMemory}
 use Rattle.engine.specs.Client.{reportOf}
 use Rattle.engine.specs.Moves.{waiting, without}
-use Rattle.engine.specs.Step.{Call, step, after}
+use Rattle.engine.specs.Calls.{Call, step, after}
 use Rattle.engine.specs.Restart.{blocksIn, highestOwn, ownWritesets, repeated, restartedMemory, restartStep}
-use Rattle.engine.specs.Step.Call.{begin, read, write, ask, withdraw, report, send, deliver, work, load}
+use Rattle.engine.specs.Calls.Call.{begin, read, write, ask, withdraw, report, send, deliver, work, load}
 
 pub record Tally : Type 0 where
   pub turn : ℕ

@@ -12,8 +12,8 @@ use Rattle.memory.specs.declared.Counts.{Counts}
 use Rattle.memory.specs.declared.Turn.{Turn}
 use Rattle.memory.specs.Memory.{Transactions, Store, Blocks, Memory, groupOf, span, queueLent, itemsLent, snapshotsLent, valuesLent, stampsLent, classesLent, outboxLent}
 use Rattle.memory.specs.Rows.{closed}
-use Rattle.engine.specs.Calls.{Outcome, outcome, unless}
-use Rattle.engine.specs.Calls.Answer.{made}
+use Rattle.engine.specs.Answers.{Outcome, outcome, unless}
+use Rattle.engine.specs.Answers.Answer.{made}
 
 -- what a group is made with: 2 to 6 replicas, and 128 starting values
 pub record Setting (n : ℕ) (values : List ℤ) : Type 0 where

@@ -16,11 +16,11 @@ use Rattle.block.specs.Writing.{entriesFrom}
 use Rattle.memory.specs.declared.Counts.{Counts}
 use Rattle.memory.specs.declared.Turn.{Turn}
 use Rattle.memory.specs.declared.Txn.{Txn}
-use Rattle.memory.specs.Memory.{Transactions, Store, Blocks, Memory, ownerAt, span, maxSlots, bump, isBlock, queueLent, itemsLent, writesLent, valuesLent, stampsLent, placesLent, outboxLent, withDone, withCommit, withTable, withTxns, withBlocks, withTurn}
+use Rattle.memory.specs.Memory.{Transactions, Store, Blocks, Memory, ownerAt, span, slotLimit, bump, isBlock, queueLent, itemsLent, writesLent, valuesLent, stampsLent, placesLent, outboxLent, withDone, withCommit, withTable, withTxns, withBlocks, withTurn}
 use Rattle.memory.specs.Rows.{closed, isOpen, rowOf, rowAt, writeCount, itemsOf, has}
 use Rattle.memory.specs.Turns.{isOn, markSent, advance, stepTurn, placeStart, blockIn, isEmpty, emptied}
-use Rattle.engine.specs.Calls.{Step, Outcome, outcome, unless}
-use Rattle.engine.specs.Calls.Answer.{sent, kept, worked}
+use Rattle.engine.specs.Answers.{WorkDone, Outcome, outcome, unless}
+use Rattle.engine.specs.Answers.Answer.{sent, kept, worked}
 
 -- ---- send
 
@@ -55,7 +55,7 @@ sendLent m block = writesLent m && (queueLent m && (outboxLent m && isBlock bloc
 
 -- 13: slots spent
 abbrev pub slotsSpent : Memory → Bool
-slotsSpent m = leb maxSlots (m .turn .slot)
+slotsSpent m = leb slotLimit (m .turn .slot)
 
 -- 11: the turn is another's slot
 abbrev pub othersTurn : Memory → Bool

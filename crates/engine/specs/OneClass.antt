@@ -9,14 +9,14 @@ use lib.IntN.{ℤ}
 use lib.ListN.{replicate}
 use Rattle.block.specs.Answers.{refuse, firstOf}
 use Rattle.memory.specs.Memory.{Memory, isStation, writesLent, stampsLent}
-use Rattle.engine.specs.Calls.{Outcome}
-use Rattle.engine.specs.Calls.Answer.{loaded}
+use Rattle.engine.specs.Answers.{Outcome}
+use Rattle.engine.specs.Answers.Answer.{loaded}
 use Rattle.engine.specs.Make.{SettingOf, madeMemory}
 use Rattle.engine.specs.Classes.{isApplying}
 use Rattle.engine.specs.Client.{rowNo, earlyRefusals, lateRefusals, writeUnless}
 use Rattle.engine.specs.Restart.{blocksIn, restartedMemory}
-use Rattle.engine.specs.Step.{Call, step}
-use Rattle.engine.specs.Step.Call.{begin, read, write, ask, withdraw, report, send, deliver, work, load}
+use Rattle.engine.specs.Calls.{Call, step}
+use Rattle.engine.specs.Calls.Call.{begin, read, write, ask, withdraw, report, send, deliver, work, load}
 use Rattle.engine.specs.History.{AnyCall, afterAll}
 use Rattle.engine.specs.History.AnyCall.{call, restart}
 use Rattle.engine.specs.Shape.{Shape}

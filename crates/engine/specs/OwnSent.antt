@@ -10,12 +10,12 @@ use lib.ListN.{getD}
 use Rattle.block.specs.Message.{Record}
 use Rattle.memory.specs.Memory.{Memory, bump}
 use Rattle.memory.specs.Turns.{advance}
-use Rattle.engine.specs.Calls.{Outcome}
-use Rattle.engine.specs.Calls.Answer.{refused, worked}
+use Rattle.engine.specs.Answers.{Outcome}
+use Rattle.engine.specs.Answers.Answer.{refused, worked}
 use Rattle.engine.specs.Make.{SettingOf, madeMemory, makeStep}
 use Rattle.engine.specs.Moves.{blockAtTurn, writesetAt, applied, stamped, isSent, workLent, nothingWaits, turnBlocks, isLast}
-use Rattle.engine.specs.Step.{step}
-use Rattle.engine.specs.Step.Call.{work}
+use Rattle.engine.specs.Calls.{step}
+use Rattle.engine.specs.Calls.Call.{work}
 use Rattle.engine.specs.History.{AnyCall, anyStep, afterAll}
 
 -- the writeset to commit next, and whether it is the replica's own

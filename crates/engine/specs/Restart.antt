@@ -9,8 +9,8 @@ use Rattle.block.specs.Message.{Record}
 use Rattle.block.specs.Answers.{refuse, firstOf, blockRefusal, headerOf}
 use Rattle.memory.specs.Memory.{Store, Memory, groupOf, span, isBlock, bump}
 use Rattle.memory.specs.Rows.{closed}
-use Rattle.engine.specs.Calls.{Outcome, outcome, unless}
-use Rattle.engine.specs.Calls.Answer.{restarted}
+use Rattle.engine.specs.Answers.{Outcome, outcome, unless}
+use Rattle.engine.specs.Answers.Answer.{restarted}
 use Rattle.engine.specs.Make.{partsFit, sizeOut}
 use Rattle.engine.specs.Moves.{writesetAt, storeAfter}
 

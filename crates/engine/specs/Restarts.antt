@@ -5,7 +5,7 @@ use mathlib.Core.List.{List, []}
 use lib.IntN.{ℤ}
 use lib.ListN.{length}
 use Rattle.memory.specs.Memory.{Memory}
-use Rattle.engine.specs.Calls.{numberOf}
+use Rattle.engine.specs.Answers.{numberOf}
 use Rattle.engine.specs.Make.{madeMemory}
 use Rattle.engine.specs.Restart.{blocksIn, firstBlocks, restartedMemory, restartRefusal, restartStep}
 

@@ -11,7 +11,7 @@ use Rattle.memory.specs.Rows.{rowAt}
 use Rattle.memory.specs.Turns.{blockIn, isEmpty}
 use Rattle.engine.specs.Make.{madeMemory}
 use Rattle.engine.specs.Moves.{sentAlready, isSent}
-use Rattle.engine.specs.Step.{Call, step}
+use Rattle.engine.specs.Calls.{Call, step}
 use Rattle.engine.specs.Restart.{blocksIn, restartedMemory}
 use Rattle.engine.specs.Shape.{Shape}
 

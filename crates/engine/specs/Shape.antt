@@ -6,12 +6,13 @@ use mathlib.Core.List.{List, [], _++_}
 use lib.IntN.{ℤ}
 use lib.ListN.{length, getD, replicate}
 use Rattle.block.specs.Answers.{blockRefusal, headerOf}
-use Rattle.memory.specs.Memory.{Memory, span, maxTickets, maxSlots, isStation}
+use Rattle.block.specs.Message.{maxTicket}
+use Rattle.memory.specs.Memory.{Memory, span, slotLimit, isStation}
 use Rattle.memory.specs.Rows.{closed, openCount, rowOf, rowAt, writeCount, itemsOf, has}
 use Rattle.memory.specs.Turns.{isOn, blockIn, isEmpty}
 use Rattle.engine.specs.Make.{SettingOf, madeMemory}
 use Rattle.engine.specs.Moves.{waiting, blockAtTurn}
-use Rattle.engine.specs.Step.{Call, step}
+use Rattle.engine.specs.Calls.{Call, step}
 use Rattle.engine.specs.Restart.{blocksIn, repeated, restartedMemory}
 use Rattle.engine.specs.History.{AnyCall, afterAll, begun, history}
 
@@ -33,10 +34,10 @@ pub record Ranges (over : ℕ) (m : Memory) : Type 0 where
   pub most : m .group .replicas ≤ 6
   -- a replica's number is below N (`Numbered.stays`: a replica is no station); a station has none
   pub own : isStation m ≡ false → m .group .own < m .group .replicas
-  pub slot : m .turn .slot ≤ maxSlots
-  pub tickets : m .counts .tickets ≤ maxTickets
+  pub slot : m .turn .slot ≤ slotLimit
+  pub tickets : m .counts .tickets ≤ maxTicket
   pub commits : m .counts .commits ≤ 6 * m .turn .slot + m .counts .done
-  pub repeats : over ≤ 6 * maxSlots
+  pub repeats : over ≤ 6 * slotLimit
   -- tickets given equal open plus all endings
   pub endings : m .counts .tickets + over
       ≡ openCount (m .txns .table) + m .counts .committed + m .counts .«read_only» + m .counts .aborted + m .counts .withdrawn

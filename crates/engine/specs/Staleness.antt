@@ -7,12 +7,12 @@ use mathlib.Core.List.{[], _∷_, _++_}
 use lib.IntN.{ℤ}
 use Rattle.block.specs.Answers.{refuse, firstOf}
 use Rattle.memory.specs.Memory.{Memory, isStation}
-use Rattle.engine.specs.Calls.{Outcome, outcome, unlessStation}
-use Rattle.engine.specs.Calls.Answer.{refused}
+use Rattle.engine.specs.Answers.{Outcome, outcome, unlessStation}
+use Rattle.engine.specs.Answers.Answer.{refused}
 use Rattle.engine.specs.Classes.{mustWait}
-use Rattle.engine.specs.Client.{rowNo, itemOut, notOpen, notActive, isOwn, writeLent, earlyRefusals, heldByOther, isStale, isFull, staleAt, writeUnless}
-use Rattle.engine.specs.Step.{step}
-use Rattle.engine.specs.Step.Call.{write}
+use Rattle.engine.specs.Client.{rowNo, itemOut, noRow, notActive, isOwn, writeLent, earlyRefusals, heldByOther, isStale, isFull, staleAt, writeUnless}
+use Rattle.engine.specs.Calls.{step}
+use Rattle.engine.specs.Calls.Call.{write}
 
 -- the refusals of a write before Req 07: the lock is looked at first
 unfoldable pub lockFirstRefusal : Memory → ℕ → ℕ → ℕ
@@ -29,7 +29,7 @@ lockFirstWrite m ticket item value = unlessStation m (writeUnless (lockFirstRefu
 -- no refusal before 9 and 8 is met, and the item is not the transaction's own
 abbrev pub reachesLast : Memory → ℕ → ℕ → Bool
 reachesLast m r item =
-    not (isStation m) && (writeLent m && (not (itemOut item) && (not (notOpen r) && (not (notActive m r) && (not (mustWait m item) && not (isOwn m r item))))))
+    not (isStation m) && (writeLent m && (not (itemOut item) && (not (noRow r) && (not (notActive m r) && (not (mustWait m item) && not (isOwn m r item))))))
 
 -- both hold: the item is newer than the snapshot, and another open transaction holds it
 unfoldable pub staleAndHeld : Memory → ℕ → ℕ → Bool

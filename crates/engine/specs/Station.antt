@@ -1,4 +1,4 @@
--- Document 02's stations, Req 05: a make without a number, and what holds of a station. Its other calls are those of `Step.antt`, on its memory.
+-- Document 02's stations, Req 05: a make without a number, and what holds of a station. Its other calls are those of `Calls.antt`, on its memory.
 use Prim.Native.Nat.{ℕ, _+_, _<_}
 use mathlib.Core.Path.{_≡_}
 use mathlib.Core.Bool.{true, false, cond, not, _&&_}
@@ -10,14 +10,14 @@ use Rattle.block.specs.Answers.{refuse, firstOf}
 use Rattle.block.specs.Message.{within}
 use Rattle.memory.specs.Memory.{Memory, noNumber, isStation}
 use Rattle.memory.specs.Rows.{rowAt}
-use Rattle.engine.specs.Calls.{Step, numberOf, Outcome, outcome, unless}
-use Rattle.engine.specs.Calls.Answer.{refused, made, readOnly, worked}
+use Rattle.engine.specs.Answers.{WorkDone, numberOf, Outcome, outcome, unless}
+use Rattle.engine.specs.Answers.Answer.{refused, made, readOnly, worked}
 use Rattle.engine.specs.Make.{Setting, SettingOf, madeMemory, partsFit, makeRefusal, makeStep}
-use Rattle.engine.specs.Client.{rowNo, notOpen, reportOf}
+use Rattle.engine.specs.Client.{rowNo, noRow, reportOf}
 use Rattle.engine.specs.Moves.{waiting, sentAlready, blockAtTurn, nothingWaits}
 use Rattle.engine.specs.Restart.{restartRefusal, restartStep}
-use Rattle.engine.specs.Step.{Call, step, after}
-use Rattle.engine.specs.Step.Call.{write, ask, send, work}
+use Rattle.engine.specs.Calls.{Call, step, after}
+use Rattle.engine.specs.Calls.Call.{write, ask, send, work}
 use Rattle.engine.specs.Shape.{Shape}
 use Rattle.engine.specs.History.{AnyCall, anyStep, afterAll, noCalls, tally, reportFrom}
 
@@ -75,10 +75,10 @@ pub record Stations : Type 0 where
       → let m = after (stationMemory n values) cs in nothingWaits m ≡ false → eqb (getD (blockAtTurn m) 1 0) (m .group .own) ≡ false
   -- an ask of an open transaction is read-only, never queued; 4 never comes; nobody is aborted
   pub asks : (n : ℕ) (values : List ℤ) → Setting n values → (cs : List Call) (ticket : ℕ)
-      → let m = after (stationMemory n values) cs in step m (ask ticket) .answer ≡ cond (notOpen (rowNo m ticket)) (refused 3) readOnly
+      → let m = after (stationMemory n values) cs in step m (ask ticket) .answer ≡ cond (noRow (rowNo m ticket)) (refused 3) readOnly
   pub never-4 : (n : ℕ) (values : List ℤ) → Setting n values → (cs : List Call) (c : Call)
       → step (after (stationMemory n values) cs) c .answer ≡ refused 4 → ⊥
-  pub aborts : (n : ℕ) (values : List ℤ) → Setting n values → (cs : List Call) (s : Step)
+  pub aborts : (n : ℕ) (values : List ℤ) → Setting n values → (cs : List Call) (s : WorkDone)
       → step (after (stationMemory n values) cs) work .answer ≡ worked s → s .aborted ≡ []
 
 -- a replica is no station: no number that a make or a restart is lent gives one, and calls and restarts, from any journal, leave it a replica, with a number below N; so 25 is a station's alone

@@ -8,7 +8,7 @@ use Rattle.block.specs.Message.{Record}
 use Rattle.engine.specs.Make.{SettingOf}
 use Rattle.engine.specs.declared.Report.{Report}
 use Rattle.engine.specs.Client.{reportOf}
-use Rattle.engine.specs.Step.{Call, after}
+use Rattle.engine.specs.Calls.{Call, after}
 use Rattle.engine.specs.Restart.{blocksIn, writesetsIn, isFrom, highestOwn, ownWritesets, repeated, restartedMemory}
 
 -- in the blocks' order

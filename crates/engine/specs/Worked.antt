@@ -9,13 +9,13 @@ use lib.ListN.{replicate, drop, set}
 use Rattle.block.specs.Message.{Message}
 use Rattle.block.specs.Bytes.{blockOf}
 use Rattle.memory.specs.Memory.{Memory, withBlocks}
-use Rattle.engine.specs.Calls.{Answer, Outcome, numberOf}
-use Rattle.engine.specs.Calls.Answer.{refused, began, got, wrote, queued, reported, sent, kept, worked, restarted}
+use Rattle.engine.specs.Answers.{Answer, Outcome, numberOf}
+use Rattle.engine.specs.Answers.Answer.{refused, began, got, wrote, queued, reported, sent, kept, worked, restarted}
 use Rattle.engine.specs.Make.{madeMemory}
 use Rattle.engine.specs.Restart.{restartStep}
 use Rattle.engine.specs.Station.{stationMemory, stationStep}
-use Rattle.engine.specs.Step.{Call, step}
-use Rattle.engine.specs.Step.Call.{begin, read, write, ask, report, send, deliver, work, load}
+use Rattle.engine.specs.Calls.{Call, step}
+use Rattle.engine.specs.Calls.Call.{begin, read, write, ask, report, send, deliver, work, load}
 
 -- what each call of a list answers, one after the other
 unfoldable pub answers : Memory → List Call → List Answer

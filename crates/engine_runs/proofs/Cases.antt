@@ -15,7 +15,7 @@ use Rattle.engine.specs.Make.{madeMemory, placesFit, partsFit, makeRefusal, mak
 use Rattle.engine.specs.Classes.{hasClass, classFrom, classToCome, mustWait, areClasses, loadRefusal, loadStep}
 use Rattle.engine.specs.Client.{beginRefusal, beginAt, beginRow, readRefusal, valueFor, readRow, writeRefusal, rewriteAt, insertWrite, staleAt, writeRow, askRefusal, readOnlyAt, queueAt, askRow, withdrawRefusal, withdrawAt, withdrawRow}
 use Rattle.engine.specs.Moves.{waiting, writesetOf, messageFor, sendRefusal, sendNow, sendStep, sameBytes, deliverRefusal, deliverNow, deliverStep, entriesFor, applied, stamped, shares, afterAborts, insertRising, hitTickets, without, workRefusal, passNext, commitWriteset, workStep}
-use Rattle.engine.specs.Step.{step}
+use Rattle.engine.specs.Calls.{step}
 use Rattle.engine.specs.Worked.{answers}
 use Rattle.engine_runs.specs.Cases.{WorkedCases}
 

@@ -7,11 +7,11 @@ use lib.IntN.{pos, negsuc}
 use lib.ListN.{replicate, drop}
 use Rattle.block.specs.Bytes.{blockOf}
 use Rattle.block.specs.Worked.{WorkedBlocks, exampleCommit}
-use Rattle.engine.specs.Calls.{numberOf}
-use Rattle.engine.specs.Calls.Answer.{got, queued, sent, kept, worked}
+use Rattle.engine.specs.Answers.{numberOf}
+use Rattle.engine.specs.Answers.Answer.{got, queued, sent, kept, worked}
 use Rattle.engine.specs.Make.{makeStep}
-use Rattle.engine.specs.Step.{Call}
-use Rattle.engine.specs.Step.Call.{begin, read, write, ask, withdraw, send, deliver, work}
+use Rattle.engine.specs.Calls.{Call}
+use Rattle.engine.specs.Calls.Call.{begin, read, write, ask, withdraw, send, deliver, work}
 use Rattle.engine.specs.Worked.{answers, numbers, zeros, fresh, nextBlock}
 
 abbrev pub makeNumber : ℕ → ℕ

@@ -6,8 +6,8 @@ use lib.IntN.{ℤ, pos}
 use lib.ListN.{replicate, take}
 use Rattle.block.specs.Message.{Record}
 use Rattle.block.specs.Bytes.{blockOf}
-use Rattle.engine.specs.Calls.{numberOf, Outcome}
-use Rattle.engine.specs.Calls.Answer.{restarted}
+use Rattle.engine.specs.Answers.{numberOf, Outcome}
+use Rattle.engine.specs.Answers.Answer.{restarted}
 use Rattle.engine.specs.Client.{reportOf}
 use Rattle.engine.specs.Restart.{restartStep}
 use Rattle.engine.specs.Worked.{zeros, fresh, nextBlock}

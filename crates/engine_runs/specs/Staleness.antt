@@ -5,9 +5,9 @@ use mathlib.Core.Bool.{true}
 use mathlib.Core.List.{List, [], _∷_}
 use lib.IntN.{pos}
 use Rattle.memory.specs.Memory.{Memory}
-use Rattle.engine.specs.Calls.{numberOf}
-use Rattle.engine.specs.Step.{after}
-use Rattle.engine.specs.Step.Call.{withdraw}
+use Rattle.engine.specs.Answers.{numberOf}
+use Rattle.engine.specs.Calls.{after}
+use Rattle.engine.specs.Calls.Call.{withdraw}
 use Rattle.engine.specs.Staleness.{lockFirstWrite, staleAndHeld}
 use Rattle.engine.specs.Worked.{fresh, toStaleAndHeld}
 

@@ -7,10 +7,10 @@ use lib.IntN.{pos}
 use lib.ListN.{replicate}
 use Rattle.block.specs.Bytes.{blockOf}
 use Rattle.memory.specs.Memory.{Memory}
-use Rattle.engine.specs.Calls.{numberOf}
-use Rattle.engine.specs.Calls.Answer.{refused, began, got, readOnly, withdrew, reported, kept, worked}
-use Rattle.engine.specs.Step.{Call, after}
-use Rattle.engine.specs.Step.Call.{begin, read, write, ask, withdraw, report, send, deliver, work}
+use Rattle.engine.specs.Answers.{numberOf}
+use Rattle.engine.specs.Answers.Answer.{refused, began, got, readOnly, withdrew, reported, kept, worked}
+use Rattle.engine.specs.Calls.{Call, after}
+use Rattle.engine.specs.Calls.Call.{begin, read, write, ask, withdraw, report, send, deliver, work}
 use Rattle.engine.specs.Station.{stationMemory, stationStep}
 use Rattle.engine.specs.Worked.{answers, zeros, fresh, nextBlock}
 

@@ -10,12 +10,12 @@ use Rattle.block.specs.Answers.{firstOf}
 use Rattle.block.proofs.BoolLaws.{both, joined, not-so}
 use Rattle.memory.specs.Memory.{Memory}
 use Rattle.memory.specs.Rows.{openCount, rowAt}
-use Rattle.engine.specs.Calls.{Outcome}
-use Rattle.engine.specs.Calls.Answer.{refused}
+use Rattle.engine.specs.Answers.{Outcome}
+use Rattle.engine.specs.Answers.Answer.{refused}
 use Rattle.engine.specs.Make.{madeMemory}
 use Rattle.engine.specs.Client.{rowNo, withdrawRefusal, withdrawRow}
-use Rattle.engine.specs.Step.{Call, step}
-use Rattle.engine.specs.Step.Call.{withdraw}
+use Rattle.engine.specs.Calls.{Call, step}
+use Rattle.engine.specs.Calls.Call.{withdraw}
 use Rattle.engine.specs.Restart.{restartRefusal, restartedMemory}
 use Rattle.engine.specs.History.{AnyCall, anyStep, afterAll}
 use Rattle.engine.specs.History.AnyCall.{call, restart}

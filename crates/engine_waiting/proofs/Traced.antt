@@ -10,11 +10,11 @@ use borrow.Author.Tests.{eq-eqb, ne-eqb}
 use Rattle.memory.specs.declared.Txn.{Txn}
 use Rattle.memory.specs.Memory.{Memory}
 use Rattle.memory.specs.Rows.{closed, freeRow, rowAt}
-use Rattle.engine.specs.Calls.{Outcome}
+use Rattle.engine.specs.Answers.{Outcome}
 use Rattle.engine.specs.Client.{rowNo, rowIn, beginAt, rewriteAt, insertWrite, staleAt, readOnlyAt, queueAt, withdrawAt, reportStep}
 use Rattle.engine.specs.Moves.{sendNow, deliverNow}
-use Rattle.engine.specs.Step.{Call, step}
-use Rattle.engine.specs.Step.Call.{begin, read, write, ask, withdraw, report, send, deliver, work, load}
+use Rattle.engine.specs.Calls.{Call, step}
+use Rattle.engine.specs.Calls.Call.{begin, read, write, ask, withdraw, report, send, deliver, work, load}
 use Rattle.engine.specs.Shape.{Shape}
 use Rattle.engine.proofs.Tests.{same-by, less-by}
 use Rattle.engine.proofs.RowLaws.{others, sent-row}

@@ -13,12 +13,12 @@ use Rattle.block.proofs.BoolLaws.{both, not-so}
 use Rattle.memory.specs.declared.Txn.{Txn}
 use Rattle.memory.specs.Memory.{Memory}
 use Rattle.memory.specs.Rows.{closed, rowAt}
-use Rattle.engine.specs.Calls.{Answer, Outcome, numberOf}
-use Rattle.engine.specs.Calls.Answer.{queued}
+use Rattle.engine.specs.Answers.{Answer, Outcome, numberOf}
+use Rattle.engine.specs.Answers.Answer.{queued}
 use Rattle.engine.specs.Make.{madeMemory}
 use Rattle.engine.specs.Client.{rowNo, rowIn, readOnlyAt, queueAt}
-use Rattle.engine.specs.Step.{Call, step}
-use Rattle.engine.specs.Step.Call.{ask}
+use Rattle.engine.specs.Calls.{Call, step}
+use Rattle.engine.specs.Calls.Call.{ask}
 use Rattle.engine.specs.Restart.{restartRefusal}
 use Rattle.engine.specs.Shape.{Shape}
 use Rattle.engine.specs.History.{noCalls, counted, AnyCall, anyStep, afterAll}

@@ -12,13 +12,13 @@ use Rattle.block.specs.Writing.{entriesFrom}
 use Rattle.memory.specs.Memory.{bump}
 use Rattle.memory.specs.Rows.{openCount, rowFrom, rowOf, freeRow, indexFrom, has, holderFrom, countBelow}
 use Rattle.memory.specs.Turns.{placeStart}
-use Rattle.engine.specs.Calls.Answer.{queued}
+use Rattle.engine.specs.Answers.Answer.{queued}
 use Rattle.engine.specs.Make.{madeMemory, placesFit, partsFit, makeRefusal, makeStep}
 use Rattle.engine.specs.Classes.{hasClass, classFrom, classToCome, mustWait, areClasses, loadRefusal, loadStep}
 use Rattle.engine.specs.Client.{beginRefusal, beginAt, beginRow, readRefusal, valueFor, readRow, writeRefusal, rewriteAt, insertWrite, staleAt, writeRow, askRefusal, readOnlyAt, queueAt, askRow, withdrawRefusal, withdrawAt, withdrawRow}
 use Rattle.engine.specs.Moves.{waiting, writesetOf, messageFor, sendRefusal, sendNow, sendStep, sameBytes, deliverRefusal, deliverNow, deliverStep, entriesFor, applied, stamped, shares, afterAborts, insertRising, hitTickets, without, workRefusal, passNext, commitWriteset, workStep}
-use Rattle.engine.specs.Step.{step, after}
-use Rattle.engine.specs.Step.Call.{ask}
+use Rattle.engine.specs.Calls.{step, after}
+use Rattle.engine.specs.Calls.Call.{ask}
 use Rattle.engine.specs.History.{afterAll}
 use Rattle.engine_waiting.specs.Waiting.{openAfter}
 use Rattle.engine.proofs.Tests.{clash}

@@ -8,11 +8,11 @@ use lib.Dec.{eqb}
 use lib.IntN.{ℤ}
 use Rattle.memory.specs.Memory.{Memory, ownerAt, span}
 use Rattle.memory.specs.Rows.{openCount}
-use Rattle.engine.specs.Calls.Answer.{refused, queued}
+use Rattle.engine.specs.Answers.Answer.{refused, queued}
 use Rattle.engine.specs.Make.{SettingOf, madeMemory}
-use Rattle.engine.specs.Client.{rowNo, notOpen}
-use Rattle.engine.specs.Step.{step}
-use Rattle.engine.specs.Step.Call.{ask, withdraw}
+use Rattle.engine.specs.Client.{rowNo, noRow}
+use Rattle.engine.specs.Calls.{step}
+use Rattle.engine.specs.Calls.Call.{ask, withdraw}
 use Rattle.engine.specs.Restart.{restartRefusal}
 use Rattle.engine.specs.History.{AnyCall, anyStep, afterAll}
 use Rattle.engine.specs.History.AnyCall.{call, restart}
@@ -21,7 +21,7 @@ use Rattle.engine.specs.History.AnyCall.{call, restart}
 
 -- a row has the ticket
 abbrev pub isOpenAs : ℕ → Memory → Bool
-isOpenAs ticket m = not (notOpen (rowNo m ticket))
+isOpenAs ticket m = not (noRow (rowNo m ticket))
 
 -- an accepted restart ends every open transaction; the ticket may be given to another then
 abbrev pub endsAll : Memory → AnyCall → Bool

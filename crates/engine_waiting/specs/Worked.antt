@@ -5,9 +5,9 @@ use mathlib.Core.List.{List, [], _∷_}
 use lib.IntN.{pos}
 use lib.ListN.{replicate}
 use Rattle.memory.specs.Memory.{Memory}
-use Rattle.engine.specs.Calls.Answer.{queued}
-use Rattle.engine.specs.Step.{step, after}
-use Rattle.engine.specs.Step.Call.{begin, write, ask, send, deliver, work}
+use Rattle.engine.specs.Answers.Answer.{queued}
+use Rattle.engine.specs.Calls.{step, after}
+use Rattle.engine.specs.Calls.Call.{begin, write, ask, send, deliver, work}
 use Rattle.engine.specs.History.{AnyCall, afterAll}
 use Rattle.engine.specs.History.AnyCall.{call}
 use Rattle.engine_waiting.specs.Waiting.{openAfter, EndsBy}

@@ -39,11 +39,9 @@ pub record Memory : Type 0 where
   pub store : Store
   pub blocks : Blocks
 
-abbrev pub maxTickets : ℕ
-maxTickets = 100_000_000
-
-abbrev pub maxSlots : ℕ
-maxSlots = 100_000_000
+-- how many slots there are: one more than `maxSlot`, the highest
+abbrev pub slotLimit : ℕ
+slotLimit = 100_000_000
 
 -- stands in place of an own number where there is none, at document 02's *station*; no replica has it
 abbrev pub noNumber : ℕ

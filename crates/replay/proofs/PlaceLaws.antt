@@ -13,7 +13,7 @@ use Rattle.memory.specs.Memory.{numberless}
 use Rattle.memory.specs.declared.Group.{Group}
 use Rattle.replay_parse.specs.declared.Call.{Call}
 use Rattle.replay_journal.specs.declared.Held.{Held}
-use Rattle.replay_journal.specs.Journals.{Journal, changed, journalOf, hasPart, bytesGiven, Lends}
+use Rattle.replay_journal.specs.Journals.{Journal, journalOf, hasPart, bytesGiven, Lends, Keeps}
 use Rattle.replay_journal.proofs.JournalLaws.{take-there}
 use Rattle.replay_replica.specs.declared.Played.{Played}
 use Rattle.replay_replica.specs.declared.Replica.{Replica}
@@ -117,8 +117,8 @@ module _ (c : Call) (replica : Replica) (held : Held) (named lent page : List �
       → asked ≡ asMade c (replica .group)
       → given ≡ givenAt c named (journalOf held page)
       → Plays (sizeLent asked (replica .group)) replica p block (played asked given lent (memoryOf (sizeLent asked (replica .group)) replica))
-      → journalOf after left ≡ changed (length page) given block (p .change) (journalOf held page)
-      → PlaysAt c named lent (length page) (journalOf held page) replica (record { played = p; held = after }) left block
+      → Keeps (p .change) given block held page after left
+      → PlaysAt c named lent held page replica (record { played = p; held = after }) left block
   plays-at e g h k =
       let q = rw (e, g) at h in
-      record { plays = q; journal = rw (g, ap (λ (e : Effect). e .change) (q .is)) at k }
+      record { plays = q; keeps = rw (g, ap (λ (e : Effect). e .change) (q .is)) at k }

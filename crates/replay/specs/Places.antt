@@ -1,6 +1,5 @@
 -- What a call at a place does: at the replica or the station there, and with the journal that is kept of it.
 use Prim.Native.Nat.{ℕ}
-use mathlib.Core.Path.{_≡_}
 use mathlib.Core.Bool.{Bool, true, cond, not, _&&_, _||_}
 use mathlib.Core.List.{List}
 use lib.Dec.{eqb}
@@ -8,7 +7,8 @@ use lib.ListN.{take}
 use Rattle.memory.specs.Memory.{numberless}
 use Rattle.memory.specs.declared.Group.{Group}
 use Rattle.replay_parse.specs.declared.Call.{Call}
-use Rattle.replay_journal.specs.Journals.{Journal, changed, journalOf, hasPart, bytesGiven}
+use Rattle.replay_journal.specs.declared.Held.{Held}
+use Rattle.replay_journal.specs.Journals.{Journal, journalOf, hasPart, bytesGiven, Keeps}
 use Rattle.replay.specs.declared.Placed.{Placed}
 use Rattle.replay_replica.specs.declared.Replica.{Replica}
 use Rattle.replay_replica.specs.Effects.{memoryOf, Effect, Plays}
@@ -47,7 +47,7 @@ givenAt c named j = take 65_536 (bytesGiven c named j)
 abbrev pub effectAt : Call → List ℕ → List ℕ → Journal → Replica → Effect
 effectAt c named lent j replica = played (asMade c (replica .group)) (givenAt c named j) lent (memoryOf (sizeAt c replica) replica)
 
--- that effect, and with the block that is left the journal by its rule; `room` is what the page has room for. At a station the rule is the same, and no call asks for what is kept
-pub record PlaysAt (c : Call) (named lent : List ℕ) (room : ℕ) (j : Journal) (replica : Replica) (p : Placed) (page block : List ℕ) : Type 0 where
-  pub plays : Plays (sizeAt c replica) replica (p .played) block (effectAt c named lent j replica)
-  pub journal : journalOf (p .held) page ≡ changed room (givenAt c named j) block (effectAt c named lent j replica .change) j
+-- that effect, and the journal by its rule, with what it was given and the block that is left; no other bytes of the page change. At a station the rule is the same, and no call asks for what is kept
+pub record PlaysAt (c : Call) (named lent : List ℕ) (held : Held) (page : List ℕ) (replica : Replica) (p : Placed) (left block : List ℕ) : Type 0 where
+  pub plays : Plays (sizeAt c replica) replica (p .played) block (effectAt c named lent (journalOf held page) replica)
+  pub keeps : Keeps (effectAt c named lent (journalOf held page) replica .change) (givenAt c named (journalOf held page)) block held page (p .held) left

@@ -1,8 +1,11 @@
 // Plays a list of calls at eight places for replicas and stations, one call to a line, and prints each answer.
 ghost use Prim.Native.Nat.{_≤_, _<_};
 ghost use mathlib.Core.Path.{_≡_};
+ghost use mathlib.Core.Bool.{_&&_};
+ghost use lib.Dec.{ltb};
 ghost use lib.ListN.{length, take};
 ghost use Rattle.replay_print.specs.Text.{answerText, Holds};
+ghost use Rattle.replay.specs.Answers.{noPlace, shownIf, blockShown, isSent, keptAfter, Says, AnswersAt, Replies};
 use input::Source;
 use memory::bytes::copy_bytes;
 use output::Output;
@@ -64,7 +67,9 @@ struct Replied {
 }
 
 // A place where nothing was made.
-fn nowhere() -> Place {
+fn nowhere() -> Place
+    ensures { λ r. ⌜ r ≡ noPlace ⌝ }
+{
     Place {
         replica: nobody(),
         held: Held::Bytes(0),
@@ -79,7 +84,9 @@ fn at_most_seven(k: usize) -> usize
 }
 
 // Whether the line names a place, and bytes.
-fn is_known(place: usize, known: bool) -> bool {
+fn is_known(place: usize, known: bool) -> bool
+    ensures { λ r. ⌜ r ≡ (ltb place 8 && known) ⌝ }
+{
     if place < 8 { known } else { false }
 }
 
@@ -139,24 +146,26 @@ fn put_played(played: Played, block: &[u8], out: &mut [u8]) -> usize
 
 // A whole block, where the call is accepted.
 fn shown_if(number: u8) -> usize
-    ensures { λ r. ⌜ r ≤ 512 ⌝ }
+    ensures { λ r. ⌜ r ≡ shownIf number ⌝ }
 {
     if number == 0 { 512 } else { 0 }
 }
 
 // How many bytes of a block the answer shows: those of a block that was sent, given back or asked for.
 fn block_shown(letter: u8, number: u8) -> usize
-    ensures { λ r. ⌜ r ≤ 512 ⌝ }
+    ensures { λ r. ⌜ r ≡ blockShown letter number ⌝ }
 {
     match letter {
-        b'J' | b'S' => shown_if(number),
-        b'Y' | b'Z' => shown_if(number),
+        b'J' | b'Y' => shown_if(number),
+        b'S' | b'Z' => shown_if(number),
         _ => 0,
     }
 }
 
 // Keeps a block that was sent; whether one was.
-fn keep_sent(letter: u8, number: u8, block: &[u8], kept: &mut [u8]) -> bool {
+fn keep_sent(letter: u8, number: u8, block: &[u8], kept: &mut [u8]) -> bool
+    ensures { λ r. ⌜ (r ≡ isSent letter number) × (now (kept .exit) ≡ keptAfter letter number (now (block .entry)) (now (kept .entry))) ⌝ }
+{
     if letter != b'S' {
         return false;
     }
@@ -170,7 +179,8 @@ fn keep_sent(letter: u8, number: u8, block: &[u8], kept: &mut [u8]) -> bool {
 // The answer put as a line; a block that was sent goes into `kept`.
 fn put_answer(letter: u8, played: Played, block: &[u8], kept: &mut [u8], out: &mut [u8]) -> Said
     requires { ⌜ (played .count ≤ 10) × (played .shown ≤ 128) × (length (now block) ≡ 512) ⌝ }
-    ensures { λ r. ⌜ r .length ≤ length (now (out .exit)) ⌝ }
+    ensures { λ r. ⌜ Says letter (played .number) (take (played .count) (played .numbers)) (take (played .shown) (played .values)) (now (block .entry))
+        (now (kept .entry)) (now (out .entry)) (r .length) (r .sent) (now (kept .exit)) (now (out .exit)) ⌝ }
 {
     let shown = block_shown(letter, played.number);
     Said {
@@ -188,7 +198,8 @@ fn play_line(
     out: &mut [u8],
 ) -> Answered
     requires { ⌜ request .count ≤ 2100 ⌝ }
-    ensures { λ r. ⌜ r .said .length ≤ length (now (out .exit)) ⌝ }
+    ensures { λ r. ⌜ AnswersAt (request .call) (take (request .count) (request .bytes)) place (now (page .entry)) (now (kept .entry)) (now (out .entry))
+        (r .place) (r .said .length) (r .said .sent) (now (page .exit)) (now (kept .exit)) (now (out .exit)) ⌝ }
 {
     let call = request.call;
     let bytes = request.bytes;
@@ -216,7 +227,8 @@ fn answer(
     out: &mut [u8],
 ) -> Answered
     requires { ⌜ request .count ≤ 2100 ⌝ }
-    ensures { λ r. ⌜ r .said .length ≤ length (now (out .exit)) ⌝ }
+    ensures { λ r. ⌜ Replies (request .known) (request .call) (take (request .count) (request .bytes)) place (now (page .entry)) (now (kept .entry)) (now (out .entry))
+        (r .place) (r .said .length) (r .said .sent) (now (page .exit)) (now (kept .exit)) (now (out .exit)) ⌝ }
 {
     let call = request.call;
     if places::is_answered(request.known, call, place, &*page) {
@@ -306,7 +318,9 @@ fn play() {
 }
 
 fn main() {
-    if usage::answered() {
+    let count = os::arg_count();
+    if 1 < count {
+        usage::answer(count);
         return;
     }
     play();

@@ -1,6 +1,5 @@
 // A call at a place: at the replica or the station there, with the journal that is kept of it.
 ghost use mathlib.Core.Path.{_≡_};
-ghost use lib.ListN.{length};
 ghost use Rattle.replay_journal.specs.Journals.{journalOf};
 ghost use Rattle.replay.specs.Places.{isReplica, isThere, isAnswered, asMade, PlaysAt};
 use super::Place;
@@ -68,7 +67,7 @@ fn as_made(call: Call, group: Group) -> Call
 
 // The call, and the journal after it. `bytes` are those that the line names.
 pub fn run(call: Call, place: Place, bytes: &[u8], page: &mut [u8], block: &mut [u8]) -> Placed
-    ensures { λ r. ⌜ PlaysAt call (now (bytes .entry)) (now (block .entry)) (length (now (page .entry))) (journalOf (place .held) (now (page .entry))) (place .replica) r
+    ensures { λ r. ⌜ PlaysAt call (now (bytes .entry)) (now (block .entry)) (place .held) (now (page .entry)) (place .replica) r
         (now (page .exit)) (now (block .exit)) ⌝ }
 {
     let replica = place.replica;

@@ -19,18 +19,13 @@ fn tell(word: &[u8]) {
     );
 }
 
-// Whether there were arguments, which are answered then.
-pub fn answered() -> bool {
-    let count = os::arg_count();
-    if count < 2 {
-        return false;
-    }
+// Answers a command of `count` words: the program's name, and arguments.
+pub fn answer(count: usize) {
     let mut word = [0u8; 16];
     let n = os::arg(1, &mut word);
     if 2 < count {
         tell(b"");
-        return true;
+        return;
     }
     tell(&word[..n]);
-    true
 }

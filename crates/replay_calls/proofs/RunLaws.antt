@@ -6,9 +6,9 @@ use mathlib.Core.Logic.{_⊎_, inl, inr}
 use borrow.Author.Tests.{ne-eqb}
 use lib.ListN.{replicate}
 use Rattle.memory.specs.Memory.{Memory}
-use Rattle.engine.specs.Calls.{Outcome}
-use Rattle.engine.specs.Step.{step}
-use Rattle.engine.specs.Step.Call.{write, send}
+use Rattle.engine.specs.Answers.{Outcome}
+use Rattle.engine.specs.Calls.{step}
+use Rattle.engine.specs.Calls.Call.{write, send}
 use Rattle.engine.specs.Make.{makeStep}
 use Rattle.engine.specs.Classes.{loadStep}
 use Rattle.engine.specs.Client.{beginStep, readStep, askStep, withdrawStep, reportStep}

@@ -11,8 +11,8 @@ use Rattle.engine.specs.Make.{makeStep}
 use Rattle.engine.specs.Moves.{workStep}
 use Rattle.engine.specs.Restart.{restartStep}
 use Rattle.engine.specs.Station.{stationStep}
-use Rattle.engine.specs.Step.{step}
-use Rattle.engine.specs.Step.Call.{begin, read, write, ask, withdraw, report, send, deliver, load}
+use Rattle.engine.specs.Calls.{step}
+use Rattle.engine.specs.Calls.Call.{begin, read, write, ask, withdraw, report, send, deliver, load}
 use Rattle.call_reply.specs.Called.{withBlock}
 use Rattle.replay_parse.specs.declared.Call.{Call}
 use Rattle.replay_journal.specs.declared.Change.the-variants.{Stays}

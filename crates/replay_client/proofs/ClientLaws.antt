@@ -8,11 +8,11 @@ use lib.IntN.{ℤ}
 use lib.ListN.{take, replicate}
 use Rattle.memory.specs.Memory.{Memory, numberless}
 use Rattle.memory.specs.Rows.{writeCount}
-use Rattle.engine.specs.Calls.{Outcome}
+use Rattle.engine.specs.Answers.{Outcome}
 use Rattle.engine.specs.Classes.{loadRefusal, loadStep}
 use Rattle.engine.specs.Client.{rowIn, isOwn, beginRow, beginRefusal, beginAt, readRow, readRefusal, writeRow, writeRefusal, staleAt, rewriteAt, insertWrite, askRow, askRefusal, readOnlyAt, queueAt, withdrawRow, withdrawRefusal, withdrawAt, reportStep, writeStep}
-use Rattle.engine.specs.Step.{step}
-use Rattle.engine.specs.Step.Call.{write}
+use Rattle.engine.specs.Calls.{step}
+use Rattle.engine.specs.Calls.Call.{write}
 use Rattle.call_reply.specs.declared.BeginReply.{BeginReply}
 use Rattle.call_reply.specs.declared.ReadReply.{ReadReply}
 use Rattle.call_reply.specs.declared.AskReply.{AskReply}

@@ -10,11 +10,11 @@ use lib.IntN.{ℤ}
 use lib.ListN.{length, getD, take, replicate, length-append, length-replicate}
 use lib.Seq.{take-append-seam}
 use Rattle.memory.specs.Memory.{Memory, numberless}
-use Rattle.engine.specs.Calls.{Step, Outcome, outcome}
-use Rattle.engine.specs.Calls.Answer.{refused, made, worked, restarted}
+use Rattle.engine.specs.Answers.{WorkDone, Outcome, outcome}
+use Rattle.engine.specs.Answers.Answer.{refused, made, worked, restarted}
 use Rattle.engine.specs.Make.{makeRefusal, makeStep}
-use Rattle.engine.specs.Step.{step}
-use Rattle.engine.specs.Step.Call.{send}
+use Rattle.engine.specs.Calls.{step}
+use Rattle.engine.specs.Calls.Call.{send}
 use Rattle.engine.specs.Moves.{deliverRefusal, deliverNow, deliverStep, sendRefusal, sendNow, sendStep, blockAtTurn, workRefusal, writesetAt, passNext, commitWriteset, workStep}
 use Rattle.engine.specs.Restart.{restartRefusal, restartStep}
 use Rattle.engine.proofs.Restarts.{restarts}
@@ -167,7 +167,7 @@ module _ (m : Memory) (lent : List ℕ) where
         change = cond (not (eqb (length (s .append)) 0)) Grows Stays;
       } ≡ effect lent o
 
-  worked-shows : (s : Step) (left : Memory) → work-shows (outcome (worked s) left)
+  worked-shows : (s : WorkDone) (left : Memory) → work-shows (outcome (worked s) left)
   unfolding work-shows
   worked-shows s left =
       let l = s .aborted in

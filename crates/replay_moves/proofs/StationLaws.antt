@@ -8,8 +8,8 @@ use borrow.Author.Tests.{eq-eqb}
 use lib.Dec.{eqb}
 use lib.IntN.{ℤ}
 use Rattle.memory.specs.Memory.{Memory, noNumber, groupOf}
-use Rattle.engine.specs.Calls.{numberOf, outcome}
-use Rattle.engine.specs.Calls.Answer.{refused, made}
+use Rattle.engine.specs.Answers.{numberOf, outcome}
+use Rattle.engine.specs.Answers.Answer.{refused, made}
 use Rattle.engine.specs.Make.{madeMemory, makeRefusal, makeStep}
 use Rattle.engine.specs.Station.{stationStep}
 use Rattle.engine.proofs.Stations.{stations}

@@ -8,8 +8,8 @@ use lib.Dec.{eqb}
 use lib.IntN.{ℤ}
 use lib.ListN.{take, drop}
 use Rattle.memory.specs.Memory.{Memory, numberless}
-use Rattle.engine.specs.Calls.{Outcome, outcome, unless, unlessStation}
-use Rattle.engine.specs.Calls.Answer.{refused}
+use Rattle.engine.specs.Answers.{Outcome, outcome, unless, unlessStation}
+use Rattle.engine.specs.Answers.Answer.{refused}
 use Rattle.call_reply.specs.Replies.{number, Gives, blockLeft}
 use Rattle.replay_replica.specs.declared.Played.{Played}
 use Rattle.replay_replica.specs.declared.Replica.{Replica}

@@ -9,8 +9,8 @@ use lib.ListN.{length, take, drop, replicate}
 use Rattle.memory.specs.Memory.{Memory, groupOf}
 use Rattle.memory.specs.Rows.{closed}
 use Rattle.engine.specs.declared.Report.{Report}
-use Rattle.engine.specs.Calls.{Step, Answer, numberOf, Outcome}
-use Rattle.engine.specs.Calls.Answer.{refused, made, began, got, wrote, queued, readOnly, withdrew, reported, sent, kept, worked, loaded, restarted}
+use Rattle.engine.specs.Answers.{WorkDone, Answer, numberOf, Outcome}
+use Rattle.engine.specs.Answers.Answer.{refused, made, began, got, wrote, queued, readOnly, withdrew, reported, sent, kept, worked, loaded, restarted}
 use Rattle.engine.specs.Make.{turnZero, countsZero}
 use Rattle.call_reply.specs.Parts.{allParts}
 use Rattle.call_reply.specs.Replies.{blockLeft}
@@ -53,7 +53,7 @@ memoryOf size r =
 abbrev pub reportNumbers : Report → List ℕ
 reportNumbers r = r .turn ∷ (r .commits ∷ (r .tickets ∷ (r .«open_count» ∷ (r .committed ∷ (r .«read_only» ∷ (r .aborted ∷ (r .withdrawn ∷ [])))))))
 
-abbrev pub stepNumbers : Step → List ℕ
+abbrev pub stepNumbers : WorkDone → List ℕ
 stepNumbers s = s .sender ∷ (s .ticket ∷ (cond (s .moved) 1 0 ∷ (length (s .aborted) ∷ s .aborted)))
 
 abbrev pub numbersOf : Answer → List ℕ

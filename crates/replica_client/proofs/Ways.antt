@@ -12,8 +12,8 @@ use Rattle.memory.specs.declared.Counts.{Counts}
 use Rattle.memory.specs.declared.Txn.{Txn}
 use Rattle.memory.specs.Memory.{Memory, withTickets, withReadOnly, withWithdrawn}
 use Rattle.memory.specs.Rows.{closed, rowFrom, rowOf, freeRow, rowAt, writeCount}
-use Rattle.engine.specs.Calls.{Outcome, outcome}
-use Rattle.engine.specs.Calls.Answer.{refused}
+use Rattle.engine.specs.Answers.{Outcome, outcome}
+use Rattle.engine.specs.Answers.Answer.{refused}
 use Rattle.engine.specs.Client.{beginRefusal, beginAt, beginRow, beginStep, askRefusal, readOnlyAt, queueAt, askRow, askStep, withdrawRefusal, withdrawAt, withdrawRow, withdrawStep}
 use Rattle.engine.proofs.Tests.{cond-by, unless-by}
 use Rattle.call_reply.specs.declared.BeginReply.{BeginReply}

@@ -12,7 +12,7 @@ use Rattle.memory.specs.declared.Turn.{Turn}
 use Rattle.memory.specs.declared.Txn.{Txn}
 use Rattle.memory.specs.Memory.{Memory}
 use Rattle.memory.specs.Rows.{endRows}
-use Rattle.engine.specs.Calls.{unlessStation}
+use Rattle.engine.specs.Answers.{unlessStation}
 use Rattle.engine.specs.Moves.{sendStep, deliverStep, workStep}
 use Rattle.call_reply.specs.Parts.{sendParts, deliverParts, workParts}
 use Rattle.call_reply.specs.Replies.{number, workReply, Gives, GivesWith}

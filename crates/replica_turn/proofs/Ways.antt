@@ -16,8 +16,8 @@ use Rattle.memory.specs.declared.Txn.{Txn}
 use Rattle.memory.specs.Memory.{Memory}
 use Rattle.memory.specs.Rows.{endRows}
 use Rattle.memory.specs.Turns.{markSent, stepTurn}
-use Rattle.engine.specs.Calls.{Outcome, outcome, unlessStation}
-use Rattle.engine.specs.Calls.Answer.{refused}
+use Rattle.engine.specs.Answers.{Outcome, outcome, unlessStation}
+use Rattle.engine.specs.Answers.Answer.{refused}
 use Rattle.engine.specs.Moves.{sendRow, sendRefusal, sendNow, sendStep, blockAtTurn, workRefusal, passNext, commitWriteset, workStep}
 use Rattle.engine.proofs.Tests.{cond-by, unless-by}
 use Rattle.call_reply.specs.declared.Sent.{Sent}

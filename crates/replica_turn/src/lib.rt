@@ -2,7 +2,7 @@
 // The table is lent as a slice of records, group, turn and counts behind references. Each call copies what it needs of the lent parts, makes the call by value, and writes what changed where it
 // lies. Its contract: what the call gives is what the engine's step gives, on every memory with the lent parts.
 ghost use Rattle.memory.specs.Memory.{Memory};
-ghost use Rattle.engine.specs.Calls.{unlessStation};
+ghost use Rattle.engine.specs.Answers.{unlessStation};
 ghost use Rattle.engine.specs.Moves.{sendStep, deliverStep, workStep};
 ghost use Rattle.call_reply.specs.Parts.{sendParts, deliverParts, workParts};
 ghost use Rattle.call_reply.specs.Replies.{number, workReply, Gives, GivesWith, GivesBlock};

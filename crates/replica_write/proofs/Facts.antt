@@ -10,7 +10,7 @@ use Rattle.memory.specs.declared.Group.{Group}
 use Rattle.memory.specs.declared.Turn.{Turn}
 use Rattle.memory.specs.declared.Txn.{Txn}
 use Rattle.memory.specs.Memory.{Memory}
-use Rattle.engine.specs.Calls.{unlessStation}
+use Rattle.engine.specs.Answers.{unlessStation}
 use Rattle.engine.specs.Client.{writeRow, writeStep}
 use Rattle.engine.specs.Classes.{loadStep}
 use Rattle.call_reply.specs.Parts.{writeParts, loadParts}

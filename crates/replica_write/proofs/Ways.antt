@@ -15,8 +15,8 @@ use Rattle.memory.specs.declared.Turn.{Turn}
 use Rattle.memory.specs.declared.Txn.{Txn}
 use Rattle.memory.specs.Memory.{Memory, withAborted}
 use Rattle.memory.specs.Rows.{closed, rowOf, rowAt, writeCount}
-use Rattle.engine.specs.Calls.{Outcome, outcome, unlessStation}
-use Rattle.engine.specs.Calls.Answer.{refused}
+use Rattle.engine.specs.Answers.{Outcome, outcome, unlessStation}
+use Rattle.engine.specs.Answers.Answer.{refused}
 use Rattle.engine.specs.Client.{isOwn, ownIndex, writeRefusal, rewriteAt, insertWrite, staleAt, writeRow, writeStep}
 use borrow.Author.Tests.{eqb-false, ne-eqb}
 use Rattle.engine.proofs.Tests.{cond-by, unless-by}

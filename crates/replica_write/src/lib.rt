@@ -1,6 +1,6 @@
 // A write, and the load of document 02's classes, as a host makes them; lent and given as the other calls of a client (`replica_client`) are.
 ghost use Rattle.memory.specs.Memory.{Memory};
-ghost use Rattle.engine.specs.Calls.{unlessStation};
+ghost use Rattle.engine.specs.Answers.{unlessStation};
 ghost use Rattle.engine.specs.Client.{writeStep};
 ghost use Rattle.engine.specs.Classes.{loadStep};
 ghost use Rattle.call_reply.specs.Parts.{writeParts, loadParts};

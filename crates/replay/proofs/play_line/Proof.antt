@@ -3,8 +3,9 @@ use Prim.Native.Nat.{_≤_}
 use mathlib.Core.Path.{_≡_, sym}
 use native.Mathlib.Omega.{arith}
 use borrow.Author.Needs.{needs}
-use lib.ListN.{length}
+use lib.ListN.{length, take}
 use lib.Seq.{length-take-le}
+use Rattle.replay.proofs.AnswerLaws.{answers-at}
 use Rattle.replay.proofs.play_line.Statement.{statement}
 use Rattle.replay.proofs.play_line.Tie as tie
 
@@ -41,7 +42,9 @@ same-length-3 : tie.Need-same-length-3
 same-length-3 c = search needs
 
 returns : tie.Need-returns
-returns c = search needs
+returns c =
+    let a = c .before .before .before .before .before .before .before .before .before .before .before .before .before .before .before .before .before .before .before .before .before .before .args in
+    answers-at (a .request .call) (take (a .request .count) (a .request .bytes)) (a .place) (a .page .now) (c .before .before .before .before .before .before .before .before .before .before .before .before .before .run .ensures) (c .before .before .before .before .put-answer .ensures)
 
 pub play-line-spec : {M : Type 1} → statement M
 play-line-spec =

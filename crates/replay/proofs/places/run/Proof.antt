@@ -46,7 +46,7 @@ same-length-2 c = search needs
 returns : tie.Need-returns
 returns c =
     let a = c .before .before .before .before .before .before .before .before .before .before .before .before .before .before .before .before .before .before .before .before .before .before .args in
-    plays-at (a .call) (a .place .replica) (a .place .held) (a .bytes .now) (a .block .now) (a .page .now) (c .before .before .before .before .before .before .before .before .before .before .before .as-made .ensures) (given-at (a .call) (a .bytes .now) (journalOf (a .place .held) (a .page .now)) (c .before .before .before .before .before .before .before .before .before .before .before .before .before .before .before .before .large-buffer .ensures) (c .before .before .before .before .before .before .before .before .before .before .before .before .before .give .ensures)) (c .before .before .before .before .before .before .before .before .run .ensures) (c .before .before .keep .ensures .journal)
+    plays-at (a .call) (a .place .replica) (a .place .held) (a .bytes .now) (a .block .now) (a .page .now) (c .before .before .before .before .before .before .before .before .before .before .before .as-made .ensures) (given-at (a .call) (a .bytes .now) (journalOf (a .place .held) (a .page .now)) (c .before .before .before .before .before .before .before .before .before .before .before .before .before .before .before .before .large-buffer .ensures) (c .before .before .before .before .before .before .before .before .before .before .before .before .before .give .ensures)) (c .before .before .before .before .before .before .before .before .run .ensures) (c .before .before .keep .ensures)
 
 pub run-spec : {M : Type 1} → statement M
 run-spec =

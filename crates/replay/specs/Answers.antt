@@ -1,0 +1,79 @@
+-- What is said of a call, and which blocks are kept of those sent.
+use Prim.Native.Nat.{ℕ, _≤_, min}
+use mathlib.Core.Path.{_≡_}
+use mathlib.Core.Bool.{Bool, true, false, cond, _&&_, _||_}
+use mathlib.Core.List.{List}
+use mathlib.Core.Logic.{_⊎_}
+use lib.Dec.{eqb}
+use lib.IntN.{ℤ}
+use lib.ListN.{length, take, drop, replicate}
+use lib.Seq.{paste}
+use Rattle.replay_journal.specs.declared.Held.the-variants.{Bytes}
+use Rattle.replay_journal.specs.Journals.{journalOf, Keeps}
+use Rattle.replay_parse.specs.declared.Call.{Call}
+use Rattle.replay_replica.specs.Effects.{noReplica, memoryOf, Effect}
+use Rattle.replay_print.specs.Text.{answerText, unknownText, Holds}
+use Rattle.replay.specs.Places.{isAnswered, sizeAt, givenAt, effectAt}
+use Rattle.replay.specs.declared.Place.{Place}
+
+-- where nothing was made
+abbrev pub noPlace : Place
+noPlace = record { replica = noReplica; held = Bytes 0 }
+
+-- ---- what is said
+
+-- of an accepted call the whole block
+abbrev pub shownIf : ℕ → ℕ
+shownIf number = cond (eqb number 0) 512 0
+
+-- S sends a block, Y and Z give one back, J asks for one; no other call's answer shows one
+abbrev pub showsBlock : ℕ → Bool
+showsBlock letter = (eqb letter 74 || eqb letter 89) || (eqb letter 83 || eqb letter 90)
+
+unfoldable pub blockShown : ℕ → ℕ → ℕ
+blockShown letter number = cond (showsBlock letter) (shownIf number) 0
+
+-- ---- blocks sent
+
+abbrev pub isSent : ℕ → ℕ → Bool
+isSent letter number = eqb letter 83 && eqb number 0
+
+-- a block that was sent, over what its bytes among those kept held
+unfoldable pub keptAfter : ℕ → ℕ → List ℕ → List ℕ → List ℕ
+keptAfter letter number block kept = cond (isSent letter number) (paste kept 0 block (min (length block) (length kept))) kept
+
+-- the line of the answer put, and the block kept where one was sent
+pub record Says (letter number : ℕ) (numbers : List ℕ) (values : List ℤ) (block kept out : List ℕ) (n : ℕ) (sent : Bool) (keptLeft outLeft : List ℕ) : Type 0 where
+  pub text : Holds out (answerText number numbers values (take (blockShown letter number) block)) outLeft n
+  pub within : n ≤ length outLeft
+  pub sends : sent ≡ isSent letter number
+  pub keeps : keptLeft ≡ keptAfter letter number block kept
+
+abbrev pub SaysOf : ℕ → Effect → List ℕ → List ℕ → ℕ → Bool → List ℕ → List ℕ → Type 0
+SaysOf letter e kept out n sent keptLeft outLeft = Says letter (e .number) (e .numbers) (e .values) (e .block) kept out n sent keptLeft outLeft
+
+-- ---- a line
+
+abbrev pub effectFor : Call → List ℕ → Place → List ℕ → Effect
+effectFor c named place page = effectAt c named (replicate 512 0) (journalOf (place .held) page) (place .replica)
+
+-- the call at its place, lent a block of zeros, and its answer
+pub record AnswersAt (c : Call) (named : List ℕ) (place : Place) (page kept out : List ℕ) (after : Place) (n : ℕ) (sent : Bool) (left keptLeft outLeft : List ℕ) : Type 0 where
+  pub memory : memoryOf (sizeAt c (place .replica)) (after .replica) ≡ effectFor c named place page .memory
+  pub rest : drop (sizeAt c (place .replica)) (after .replica .places) ≡ drop (sizeAt c (place .replica)) (place .replica .places)
+  pub journal : Keeps (effectFor c named place page .change) (givenAt c named (journalOf (place .held) page)) (effectFor c named place page .block) (place .held) page (after .held) left
+  pub says : SaysOf (c .letter) (effectFor c named place page) kept out n sent keptLeft outLeft
+
+-- no call: all stays, and the answer is the line of what is none
+pub record Unanswered (place : Place) (page kept out : List ℕ) (after : Place) (n : ℕ) (sent : Bool) (left keptLeft outLeft : List ℕ) : Type 0 where
+  pub stays : after ≡ place
+  pub journal : left ≡ page
+  pub text : Holds out unknownText outLeft n
+  pub sends : sent ≡ false
+  pub keeps : keptLeft ≡ kept
+
+-- the one or the other
+pub record Replies (known : Bool) (c : Call) (named : List ℕ) (place : Place) (page kept out : List ℕ) (after : Place) (n : ℕ) (sent : Bool) (left keptLeft outLeft : List ℕ) : Type 0 where
+  pub does : ((isAnswered known c (place .replica .group) (journalOf (place .held) page) ≡ true) × AnswersAt c named place page kept out after n sent left keptLeft outLeft)
+      ⊎ ((isAnswered known c (place .replica .group) (journalOf (place .held) page) ≡ false) × Unanswered place page kept out after n sent left keptLeft outLeft)
+  pub within : n ≤ length outLeft
