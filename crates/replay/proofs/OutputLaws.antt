@@ -4,7 +4,7 @@ use mathlib.Core.Path.{_≡_, ap}
 use mathlib.Core.Bool.{Bool, true, false, cond}
 use native.Mathlib.Omega.{arith}
 use borrow.Author.Tests.{lt-ltb, le-ltb, le-leb, lt-leb}
-use Rattle.replay.specs.declared.input.Source.{Source}
+use Rattle.text_lines.specs.declared.input.Source.{Source}
 use Rattle.replay.specs.declared.output.Output.{Output}
 use Rattle.replay.specs.Outputs.{asWritten, isDue}
 

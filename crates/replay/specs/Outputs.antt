@@ -2,7 +2,7 @@
 use Prim.Native.Nat.{ℕ, _+_, _%_, _^_}
 use mathlib.Core.Bool.{Bool, false, cond, _||_}
 use lib.Dec.{ltb, leb}
-use Rattle.replay.specs.declared.input.Source.{Source}
+use Rattle.text_lines.specs.declared.input.Source.{Source}
 use Rattle.replay.specs.declared.output.Output.{Output}
 
 -- all written, or not, as the system says

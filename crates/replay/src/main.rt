@@ -6,7 +6,6 @@ ghost use lib.Dec.{ltb};
 ghost use lib.ListN.{length, take};
 ghost use Rattle.replay_print.specs.Text.{answerText, Holds};
 ghost use Rattle.replay.specs.Answers.{noPlace, shownIf, blockShown, isSent, keptAfter, Says, AnswersAt, Replies};
-use input::Source;
 use memory::bytes::copy_bytes;
 use output::Output;
 use replay_journal::Held;
@@ -14,8 +13,8 @@ use replay_parse::Call;
 use replay_replica::Played;
 use replay_replica::Replica;
 use replay_replica::nobody;
+use text_lines::input::Source;
 
-mod input;
 mod output;
 mod places;
 mod usage;
@@ -116,7 +115,7 @@ fn next_request(source: Source, sent: u64, buffer: &mut [u8], kept: &[u8]) -> As
 {
     // One byte more than the longest call has, `Y k `, three numbers and 2,100 bytes: a longer line is no call.
     let mut line = [0u8; 4239];
-    let read = input::next_line(source, &mut *buffer, &mut line);
+    let read = text_lines::input::next_line(source, &mut *buffer, &mut line);
     let n = read.length;
     let after = read.source;
     Asked {

@@ -2,10 +2,10 @@
 ghost use mathlib.Core.Path.{_≡_};
 ghost use mathlib.Core.Bool.{cond};
 ghost use Rattle.replay.specs.Outputs.{asWritten, isDue, withLine};
-use super::input::Source;
 use libc::STDERR_FILENO;
 use libc::STDOUT_FILENO;
 use memory::rows::lesser;
+use text_lines::input::Source;
 
 // How many bytes of answers are held, to how many lines there is an answer, how many of these are written, and how many blocks were sent. `failed` where the system could
 // not write.

@@ -1,4 +1,4 @@
-//! The second model: what document 01 says, and of document 02 Req 01, 02, 04 and 05, in plain Rust.
+//! The second model: what document 01 says, and of document 02 Req 01, 02, 04, 05, 07, 08 and 09, in plain Rust.
 //!
 //! It is written from the documents alone, so that it can check the proved library from outside.
 //! The benchmark takes it as its baseline.
@@ -15,4 +15,5 @@ pub mod replica;
 pub mod samples;
 pub mod scenes;
 pub mod trace;
+pub mod week;
 pub mod workload;

@@ -51,7 +51,7 @@
 //!   outgrown.
 //! - `Z`, `J` and `P` at a station.
 
-mod parse;
+pub(crate) mod parse;
 mod place;
 
 use std::collections::VecDeque;

@@ -118,7 +118,7 @@ fn call(letter: &[u8], arguments: &[&[u8]]) -> Option<Call> {
 }
 
 /// A number of the type's range, written as it would be printed.
-fn number<T: FromStr + ToString>(field: &[u8]) -> Option<T> {
+pub(crate) fn number<T: FromStr + ToString>(field: &[u8]) -> Option<T> {
     let text = str::from_utf8(field).ok()?;
     let number: T = text.parse().ok()?;
     (number.to_string() == text).then_some(number)

@@ -9,7 +9,7 @@ use std::sync::Once;
 
 use crate::c::{printed, say};
 
-const FILES: [&str; 10] = [
+const FILES: [&str; 11] = [
     "include/stemline.h",
     "include/stemline_calls.h",
     "include/stemline_journal.h",
@@ -19,6 +19,7 @@ const FILES: [&str; 10] = [
     "lib/libstemline.a",
     "lib/pkgconfig/stemline.pc",
     "share/man/man1/replay.1",
+    "share/man/man1/week.1",
     "share/stemline/installed",
 ];
 
@@ -107,6 +108,7 @@ fn a_folder_before_the_prefix() {
     assert!(package.starts_with("prefix=/prefix\n"), "{package}");
     for (program, built) in [
         ("replay", "target/bin/replay"),
+        ("week", "target/bin/week"),
         ("journal", "host/target/release/journal"),
     ] {
         let built = top().join(built).is_file();

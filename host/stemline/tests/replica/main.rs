@@ -32,6 +32,7 @@ mod stations;
 mod story;
 mod takes;
 mod twins;
+mod week;
 
 // What a soak shares with the tests.
 use soak::{both, lines, studio};

@@ -1,0 +1,2 @@
+-- The blocks of a week that are kept.
+pub mod Blocks

@@ -1,0 +1,3 @@
+-- The laws that the functions' proofs cite, and the lines worked out.
+pub mod WeekLaws
+pub mod Worked

@@ -1,0 +1,115 @@
+//! The marks of a picture, and those that a list has by its calls and answers alone.
+
+use std::collections::BTreeMap;
+
+use crate::lists::List;
+
+/// The elements of a picture with this start, each up to its first `>`.
+pub fn elements<'a>(picture: &'a str, start: &str) -> Vec<&'a str> {
+    let parts = picture.split(start).skip(1);
+    parts.map(|part| part.split('>').next().unwrap()).collect()
+}
+
+pub fn attribute<'a>(element: &'a str, name: &str) -> &'a str {
+    let value = element.split(&format!(" {name}=\"")).nth(1).expect(element);
+    value.split('"').next().unwrap()
+}
+
+/// The marks of a picture: what and at which line, in order.
+pub fn marks(picture: &str) -> Vec<(String, usize)> {
+    let found = elements(picture, "<g class=\"mark ")
+        .into_iter()
+        .map(|element| {
+            let kind = element.split('"').next().unwrap();
+            (
+                kind.to_string(),
+                attribute(element, "data-line").parse().unwrap(),
+            )
+        });
+    // A transaction that a restart ends stands in no answer.
+    let mut found: Vec<(String, usize)> = found.filter(|(kind, _)| kind != "lost").collect();
+    found.sort();
+    found
+}
+
+/// The marks of these lines, counted from the calls and answers alone.
+pub fn due(list: &List, first: usize, last: usize) -> Vec<(String, usize)> {
+    let mut found = Vec::new();
+    for (at, (call, answer)) in list.calls.iter().zip(&list.answers).enumerate() {
+        let letter = call.split(' ').next().unwrap();
+        let answer: Vec<&str> = answer.split(' ').collect();
+        let kinds: &[&str] = match (letter, answer[0]) {
+            (_, "?") if call.starts_with('#') => &[],
+            (_, "?") => &["unknown"],
+            ("W", "9") => &["refusal", "stale"],
+            (_, number) if number != "0" => &["refusal"],
+            ("S", _) => &["send"],
+            ("D" | "F" | "H", _) => &["deliver"],
+            ("K", _) if answer[2] == "0" => &["pass"],
+            ("K", _) => &["commit"],
+            ("M" | "A", _) => &["make"],
+            ("Z" | "Y", _) => &["restart"],
+            ("V" | "Q" | "J" | "P", _) => &["look"],
+            ("X", _) => &["withdrawn"],
+            ("C", _) if answer[1] == "1" => &["read-only"],
+            _ => &[],
+        };
+        let aborted = if letter == "K" && answer[0] == "0" {
+            answer.len() - 5
+        } else {
+            0
+        };
+        let kinds = kinds.iter().chain(&["aborted"; 6][..aborted]);
+        if (first..=last).contains(&(at + 1)) {
+            found.extend(kinds.map(|kind| (kind.to_string(), at + 1)));
+        }
+    }
+    found.sort();
+    found
+}
+
+/// How often each refusal number stands in the picture with words.
+pub fn words_of_refusals(picture: &str) -> BTreeMap<String, usize> {
+    let mut counts = BTreeMap::new();
+    for text in picture.split("class=\"small halo wrong\">").skip(1) {
+        let text = text.split('<').next().unwrap();
+        let (number, words) = text.split_once(' ').unwrap();
+        if number.parse::<u32>().is_ok() && !words.is_empty() {
+            *counts.entry(number.to_string()).or_default() += 1;
+        }
+    }
+    counts
+}
+
+/// How often each refusal number is answered in these lines.
+pub fn refusals(list: &List, first: usize, last: usize) -> BTreeMap<String, usize> {
+    let mut counts = BTreeMap::new();
+    for answer in &list.answers[first - 1..last] {
+        let number = answer.split(' ').next().unwrap();
+        if number != "0" && number != "?" {
+            *counts.entry(number.to_string()).or_default() += 1;
+        }
+    }
+    counts
+}
+
+/// How many marks of each kind there are.
+pub fn counts(marks: &[(String, usize)]) -> BTreeMap<&str, usize> {
+    let mut counts = BTreeMap::new();
+    for (kind, _) in marks {
+        *counts.entry(kind.as_str()).or_default() += 1;
+    }
+    counts
+}
+
+/// The value that an item has at a place at the end of a picture, by item and place.
+pub fn last_values(picture: &str) -> BTreeMap<(usize, usize), i64> {
+    let values = elements(picture, "<g class=\"value\"")
+        .into_iter()
+        .map(|element| {
+            let number = |name| attribute(element, name).parse::<i64>().unwrap();
+            let at = (number("data-item") as usize, number("data-place") as usize);
+            (at, number("data-value"))
+        });
+    values.collect()
+}

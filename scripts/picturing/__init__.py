@@ -1,0 +1,1 @@
+"""A list of calls with its answers as a picture: see scripts/picture."""

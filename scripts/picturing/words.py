@@ -1,0 +1,45 @@
+"""What is said of bad input, and what the refusal numbers stand for."""
+
+# Document 01, "Answers when a call is turned away", in few words; 7 and 23 to 27 as of document 02.
+REFUSALS = {
+    1: "length",
+    2: "out of range",
+    3: "not open",
+    4: "asked or sent",
+    5: "6 are open",
+    6: "tickets spent",
+    7: "class to come",
+    8: "item is held",
+    9: "stale, aborted",
+    10: "a ninth item",
+    11: "another's slot",
+    12: "sent already",
+    13: "slots spent",
+    14: "bad check",
+    15: "bad form",
+    16: "another size",
+    17: "slot is past",
+    18: "too far ahead",
+    19: "not what it sent",
+    20: "waits already",
+    21: "nothing waits",
+    23: "half applied",
+    25: "only reads",
+    26: "not kept",
+    27: "no call",
+}
+
+STALE = 9
+
+
+class Bad(Exception):
+    """Input that cannot be drawn; its text is one line."""
+
+
+def at(line, text):
+    """Bad input at a line of the list, counted from 1."""
+    return Bad(f"line {line} {text}")
+
+
+def plural(count, word):
+    return f"{count} {word}" if count == 1 else f"{count} {word}s"
