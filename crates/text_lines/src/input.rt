@@ -1,7 +1,7 @@
 // The lines of standard input.
 ghost use Prim.Native.Nat.{_+_, _≤_, min};
 ghost use mathlib.Core.Path.{_≡_};
-ghost use mathlib.Core.Bool.{_||_};
+ghost use mathlib.Core.Bool.{false, _||_};
 ghost use lib.Dec.{eqb};
 ghost use lib.ListN.{length, set};
 use libc::STDIN_FILENO;
@@ -22,7 +22,9 @@ pub struct Line {
 }
 
 // Before the first byte.
-pub fn start() -> Source {
+pub fn start() -> Source
+    ensures { λ r. ⌜ r ≡ record { at = 0; end = 0; failed = false } ⌝ }
+{
     Source {
         at: 0,
         end: 0,

@@ -1,7 +1,7 @@
 // The answers, held until they are written to standard output.
-ghost use Prim.Native.Nat.{_≤_};
 ghost use mathlib.Core.Path.{_≡_};
-ghost use lib.ListN.{length};
+ghost use mathlib.Core.Bool.{false, cond};
+ghost use Rattle.text_lines.specs.Outputs.{asWritten, isDue, withLine};
 use super::input::Source;
 use libc::STDERR_FILENO;
 use libc::STDOUT_FILENO;
@@ -16,7 +16,9 @@ pub struct Output {
 }
 
 // Before the first answer.
-pub fn nothing() -> Output {
+pub fn nothing() -> Output
+    ensures { λ r. ⌜ r ≡ record { held = 0; answered = 0; written = 0; failed = false } ⌝ }
+{
     Output {
         held: 0,
         answered: 0,
@@ -35,7 +37,7 @@ fn complain(program: &[u8], what: &[u8], lines: u64) {
 
 // The answers held, written.
 fn written(output: Output, program: &[u8], out: &[u8]) -> Output
-    ensures { λ r. ⌜ r .held ≡ 0 ⌝ }
+    ensures { λ r. ⌜ r ≡ asWritten output (r .failed) ⌝ }
 {
     let held = lesser(output.held, out.len());
     let done = io::write_all(STDOUT_FILENO, &out[..held]);
@@ -54,9 +56,9 @@ fn written(output: Output, program: &[u8], out: &[u8]) -> Output
     }
 }
 
-// Room for another line: the answers are written before more input is waited for, and where there may be no room.
+// The answers are written before more input is waited for, and where there may be no room for another line.
 pub fn with_room(output: Output, source: Source, program: &[u8], out: &[u8]) -> Output
-    ensures { λ r. ⌜ r .held ≤ 61440 ⌝ }
+    ensures { λ r. ⌜ r ≡ cond (isDue output source) (asWritten output (r .failed)) output ⌝ }
 {
     if source.end <= source.at {
         return written(output, program, out);
@@ -83,7 +85,9 @@ pub fn finish(output: Output, failed: bool, program: &[u8], out: &[u8]) {
 }
 
 // With the answer to one line more.
-pub fn with_line(output: Output, length: usize) -> Output {
+pub fn with_line(output: Output, length: usize) -> Output
+    ensures { λ r. ⌜ r ≡ withLine output length ⌝ }
+{
     Output {
         held: std::num::wrapping_add_usize(output.held, length),
         answered: std::num::wrapping_add_u64(output.answered, 1),
