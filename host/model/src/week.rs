@@ -34,7 +34,7 @@ use crate::block::BLOCK;
 use crate::replay::parse::number;
 use crate::replica::{Replica, ITEMS};
 
-pub use self::weeks::{every_refusal, forgotten_blocks, seeded, stored, SEVEN};
+pub use self::weeks::{every_refusal, examples, forgotten_blocks, seeded, stored, SEVEN};
 
 /// The blocks that are kept.
 pub const KEPT: usize = 16;

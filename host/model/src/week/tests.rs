@@ -1,6 +1,10 @@
 use super::*;
 use crate::block;
 
+/// The shortest write, and how many lengths there are up to the longest.
+const SHORTEST: usize = "W 0 1 5 7".len();
+const LENGTHS: usize = "W 0 4294967295 4294967295 -2147483648".len() + 1 - SHORTEST;
+
 fn print(input: &[u8]) -> String {
     let mut output = Vec::new();
     run(input, &mut output).unwrap();
@@ -44,12 +48,15 @@ fn lines_end_at_line_feeds() {
     assert_eq!(print(long.as_bytes()), "27\n0\n0 0 0 1\n1 0 0 0\n");
 }
 
-/// Beside the limits, each line is 27, and leaves one transaction, without writes.
+/// Beside the writes of every length and the limits, each line is 27, and leaves one transaction, without
+/// writes.
 #[test]
 fn every_way_of_being_no_line() {
     let text = every_refusal();
     let lines: Vec<&[u8]> = text.split(|&byte| byte == b'\n').collect();
-    let (limits, others) = (&lines[lines.len() - 10..], &lines[2..lines.len() - 10]);
+    let (lines, limits) = lines.split_at(lines.len() - 10);
+    let (lines, lengths) = lines.split_at(lines.len() - LENGTHS * 5);
+    let others = &lines[2..];
     assert!(others.len() > 250);
     let mut week = Week::begin(lines[0]).unwrap();
     assert_eq!(week.answer(lines[1]), 0);
@@ -63,6 +70,18 @@ fn every_way_of_being_no_line() {
         );
     }
     assert!(week == before);
+    for (line, length) in lengths.chunks(5).zip(SHORTEST..) {
+        assert_eq!(line[0].len(), length);
+        let due = match length {
+            ..=19 => 0,
+            ..=29 => 3,
+            _ => 2,
+        };
+        // A digit more is another value, until there are too many.
+        let digit = if length < 19 { due } else { NO_LINE };
+        let answers: Vec<u8> = line.iter().map(|line| week.answer(line)).collect();
+        assert_eq!(answers, [due, NO_LINE, digit, NO_LINE, NO_LINE], "{length}");
+    }
     let answers: Vec<u8> = limits.iter().map(|line| week.answer(line)).collect();
     assert_eq!(answers, [3, 2, 2, 3, 3, NOT_KEPT, 0, 0, 0, 0]);
 }

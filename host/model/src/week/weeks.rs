@@ -9,7 +9,17 @@ pub const SEVEN: &str = "N 2\nB 0\nW 0 1 5 40\nC 0 1\nS 0\nD 1 0\nK 1\n";
 
 /// The seed of the stored week, and its lines behind the first.
 const STORED_SEED: u64 = 6;
-const STORED_LINES: usize = 6_000;
+const STORED_LINES: usize = 21_000;
+
+/// Weeks about the first line: too many replicas, no line at all, and nothing behind a good one.
+const FIVE: &str = "N 5\nB 0\n";
+const NONE: &str = "";
+const THREE: &str = "N 3";
+const TWO: &str = "N 2\n";
+
+/// The lines of the week of empty ones. They are read at once, 65,536 bytes at most, and their answers are
+/// more than the program holds, so that it writes twice before it reads again.
+const EMPTY_LINES: usize = 45_000;
 
 /// Lines with a wrong letter, wrong fields, or something else than single spaces between them, for a week
 /// of two; the calls of the program `replay` that are none of the six are among them.
@@ -79,8 +89,8 @@ impl Lines {
     }
 }
 
-/// Each way of being no line, between lines that just are one, and lines longer than any call. None
-/// changes anything: at the end one transaction is open.
+/// Each way of being no line, between lines that just are one, and lines longer than any call, which change
+/// nothing; then writes of every length, and the limits. At the end one transaction is open.
 pub fn every_refusal() -> Vec<u8> {
     let mut lines = Lines::begin(2);
     lines.call("B 0");
@@ -109,10 +119,27 @@ pub fn every_refusal() -> Vec<u8> {
     }
     // Longer than a buffer, with what would be a line wherever it is cut.
     lines.call(&"B 0 ".repeat(17_500));
+    every_length(&mut lines);
     // The limits, which go to the engine, or are blocks not kept.
     lines.calls("W 0 4294967295 5 7, W 0 1 4294967295 7, W 0 1 128 7, C 0 4294967295, C 0 0, D 0 4294967295");
     lines.calls("W 0 1 5 2147483647, W 0 1 5 -2147483648, W 0 1 5 0, W 0 1 127 -1");
     lines.cut()
+}
+
+/// Writes of every length, each also with one byte more: cut to any length that is too short for a call,
+/// some line would get another answer. The value grows first, then the ticket, then the item, so that they
+/// are accepted, then refused by 3, then by 2.
+fn every_length(lines: &mut Lines) {
+    let (number, value) = (u32::MAX.to_string(), i32::MIN.to_string());
+    let values = (2..=value.len()).map(|end| format!("1 5 {}", &value[..end]));
+    let tickets = (2..=number.len()).map(|end| format!("{} 5 {value}", &number[..end]));
+    let items = (2..=number.len()).map(|end| format!("{number} {} {value}", &number[..end]));
+    let shortest = std::iter::once("1 5 7".to_string());
+    for fields in shortest.chain(values).chain(tickets).chain(items) {
+        for end in ["", " ", "0", "x", "\r"] {
+            lines.call(&format!("W 0 {fields}{end}"));
+        }
+    }
 }
 
 /// Blocks that are kept, and forgotten with the 16th send after theirs: until then a deliver of one that is
@@ -230,4 +257,27 @@ fn misspelt(random: &mut Random, k: usize) -> String {
 /// The week that is stored as the input of the program: four replicas, and a last line without line feed.
 pub fn stored() -> Vec<u8> {
     seeded(STORED_SEED, STORED_LINES)
+}
+
+/// Nothing but empty lines behind the first.
+fn empty_lines() -> Vec<u8> {
+    let mut lines = Lines::begin(2);
+    for _ in 0..EMPTY_LINES {
+        lines.call("");
+    }
+    lines.text
+}
+
+/// The weeks that are stored as examples, by name.
+pub fn examples() -> [(&'static str, Vec<u8>); 8] {
+    [
+        ("seven", SEVEN.into()),
+        ("refusals", every_refusal()),
+        ("forgotten", forgotten_blocks()),
+        ("empty", empty_lines()),
+        ("five", FIVE.into()),
+        ("none", NONE.into()),
+        ("three", THREE.into()),
+        ("two", TWO.into()),
+    ]
 }

@@ -1,5 +1,6 @@
 //! The proved program `week` beside the model's, and its manual page.
 
+use std::fs::{File, OpenOptions};
 use std::io::Write;
 use std::path::{Path, PathBuf};
 use std::process::{Command, Stdio};
@@ -99,6 +100,47 @@ fn first_and_long_lines() {
                 "{line}, {length}"
             );
         }
+    }
+}
+
+/// Input that cannot be read, a folder: the answer is that of no first line, and no line was answered.
+#[test]
+fn input_that_cannot_be_read() {
+    let Some(program) = program() else { return };
+    let folder = File::open("/").unwrap();
+    let mut command = Command::new(program);
+    let ran = command.stdin(Stdio::from(folder)).output().unwrap();
+    assert_eq!(ran.stdout, due(b""));
+    let said = String::from_utf8(ran.stderr).unwrap();
+    let words = "week: cannot read standard input; lines answered: 0\n";
+    assert_eq!(said, words);
+}
+
+/// On a full disk: one line on standard error, whether the answers are first written at the end of the week,
+/// before another read, or when too many are held.
+#[test]
+fn output_that_cannot_be_written() {
+    let Some(program) = program() else { return };
+    let full = || OpenOptions::new().write(true).open("/dev/full");
+    if full().is_err() {
+        say("week on a full disk: NOT tried, there is no /dev/full");
+        return;
+    }
+    let top = Path::new(env!("CARGO_MANIFEST_DIR")).join("../..");
+    for stored in [
+        "examples/week-none.lines",
+        "examples/week-two.lines",
+        "examples/week-seven.lines",
+        "examples/week-empty.lines",
+        "crates/week/stdin",
+    ] {
+        let input = File::open(top.join(stored)).unwrap();
+        let mut command = Command::new(&program);
+        command.stdin(Stdio::from(input));
+        let ran = command.stdout(Stdio::from(full().unwrap())).output();
+        let said = String::from_utf8(ran.unwrap().stderr).unwrap();
+        let words = "week: cannot write standard output; lines answered: 0\n";
+        assert_eq!(said, words, "{stored}");
     }
 }
 
