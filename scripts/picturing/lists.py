@@ -4,7 +4,7 @@ import re
 
 from . import blocks
 from .history import ITEMS, Call, History
-from .words import REFUSALS, STALE, at
+from .words import REFUSED_BY, STALE, at
 
 PLACES = 8
 NUMBER = re.compile(r"0|[1-9][0-9]*")
@@ -55,10 +55,10 @@ def fields(texts, form):
     return None if None in found else found
 
 
-def refusal(line, text):
-    """The number of a refused call's answer."""
+def refusal(line, text, numbers):
+    """The number of a refused call's answer, which is one of these."""
     number = field(text, "u")
-    if number not in REFUSALS:
+    if number not in numbers:
         raise at(line, f"is answered {shown(text)}, which is no answer to it")
     return number
 
@@ -97,7 +97,7 @@ class Lists:
         if letter not in "MAY" and call.place not in self.history.places:
             raise at(call.line, "is at a place where nothing is made, and is not answered by ?")
         if answer[0] != "0":
-            return self.refused(call, letter, given, refusal(call.line, " ".join(answer)))
+            return self.refused(call, letter, given, refusal(call.line, " ".join(answer), REFUSED_BY[letter]))
         got = fields(answer[1:], form)
         if got is None:
             raise at(call.line, f"is answered {shown(' '.join(answer))}, which is no answer to it")
