@@ -107,7 +107,7 @@ class Lists:
         history = self.history
         if letter in "DFH":
             data = self.delivered(call, letter, given)
-            return history.deliver_refused(call, self.block(data) or self.intended(letter, given), number)
+            return history.deliver_refused(call, self.named(letter, given) or self.block(data), number)
         if letter == "W" and number == STALE:
             return history.stale(call, given[0])
         return history.refuse(call, number)
@@ -129,9 +129,9 @@ class Lists:
         """The block sent with these bytes, the last of them."""
         return next((block for sent, block in reversed(self.sent) if sent == data), None)
 
-    def intended(self, letter, given):
-        """The block that a line delivers damaged."""
-        return self.sent[given[0]][1] if letter == "F" else None
+    def named(self, letter, given):
+        """The block that a line names: of two sends of the same bytes, the right one."""
+        return self.sent[given[0]][1] if letter in "DF" else None
 
     # The accepted calls.
 
@@ -167,7 +167,8 @@ class Lists:
 
     def call_d(self, call, given, got, letter="D"):
         data = self.delivered(call, letter, given)
-        block = self.block(data) or blocks.read(data)
+        # A damaged block that is accepted is another than the one it names.
+        block = (self.named(letter, given) if letter == "D" else self.block(data)) or blocks.read(data)
         if block is None:
             raise at(call.line, f"delivers {len(data)} bytes, and is accepted")
         self.history.deliver(call, block)

@@ -2,6 +2,7 @@
 //! replicas hold. It needs `python3`; where there is none, that is said, and nothing is tested.
 
 mod bad;
+mod blocks;
 mod docs;
 mod lists;
 mod marks;
@@ -89,6 +90,8 @@ fn check_marks(test: &str, list: &List, first: usize, last: usize, picture: &str
     assert_eq!(marks(picture), due(list, first, last), "{lines}");
     let found = words_of_refusals(picture);
     assert_eq!(found, refusals(list, first, last), "{lines}");
+    let found = blocks::drawn(picture);
+    assert_eq!(found, blocks::due(list, first, last), "{lines}");
 }
 
 /// The value of an item at each place that is made.
