@@ -15,8 +15,15 @@ def draw(lanes):
         if not one.refused:
             points += [None, *wait(lanes, one)]
             dash, kind = svg.DASHES[one.block.sender % len(svg.DASHES)] or None, "block"
-        drawn.append(svg.path(points, ink, 1.4, class_=kind, stroke_dasharray=dash))
+        drawn.append(svg.path(points, ink, 1.4, class_=kind, stroke_dasharray=dash, **told(one)))
     return drawn
+
+
+def told(delivery):
+    """From which line of the list to which: so that a line can be looked up, and tested."""
+    sent = delivery.block.line if delivery.block else None
+    step = delivery.worked[-1] if delivery.worked else None
+    return {"data_send": sent, "data_delivery": delivery.line, "data_step": step, "data_place": delivery.place}
 
 
 def arrival(lanes, delivery):

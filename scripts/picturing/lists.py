@@ -4,7 +4,7 @@ import re
 
 from . import blocks
 from .history import ITEMS, Call, History
-from .words import REFUSALS, STALE, at
+from .words import REFUSED_BY, STALE, at
 
 PLACES = 8
 NUMBER = re.compile(r"0|[1-9][0-9]*")
@@ -55,10 +55,10 @@ def fields(texts, form):
     return None if None in found else found
 
 
-def refusal(line, text):
-    """The number of a refused call's answer."""
+def refusal(line, text, numbers):
+    """The number of a refused call's answer, which is one of these."""
     number = field(text, "u")
-    if number not in REFUSALS:
+    if number not in numbers:
         raise at(line, f"is answered {shown(text)}, which is no answer to it")
     return number
 
@@ -97,7 +97,7 @@ class Lists:
         if letter not in "MAY" and call.place not in self.history.places:
             raise at(call.line, "is at a place where nothing is made, and is not answered by ?")
         if answer[0] != "0":
-            return self.refused(call, letter, given, refusal(call.line, " ".join(answer)))
+            return self.refused(call, letter, given, refusal(call.line, " ".join(answer), REFUSED_BY[letter]))
         got = fields(answer[1:], form)
         if got is None:
             raise at(call.line, f"is answered {shown(' '.join(answer))}, which is no answer to it")
@@ -107,7 +107,7 @@ class Lists:
         history = self.history
         if letter in "DFH":
             data = self.delivered(call, letter, given)
-            return history.deliver_refused(call, self.block(data) or self.intended(letter, given), number)
+            return history.deliver_refused(call, self.named(letter, given) or self.block(data), number)
         if letter == "W" and number == STALE:
             return history.stale(call, given[0])
         return history.refuse(call, number)
@@ -129,9 +129,9 @@ class Lists:
         """The block sent with these bytes, the last of them."""
         return next((block for sent, block in reversed(self.sent) if sent == data), None)
 
-    def intended(self, letter, given):
-        """The block that a line delivers damaged."""
-        return self.sent[given[0]][1] if letter == "F" else None
+    def named(self, letter, given):
+        """The block that a line names: of two sends of the same bytes, the right one."""
+        return self.sent[given[0]][1] if letter in "DF" else None
 
     # The accepted calls.
 
@@ -167,7 +167,8 @@ class Lists:
 
     def call_d(self, call, given, got, letter="D"):
         data = self.delivered(call, letter, given)
-        block = self.block(data) or blocks.read(data)
+        # A damaged block that is accepted is another than the one it names.
+        block = (self.named(letter, given) if letter == "D" else self.block(data)) or blocks.read(data)
         if block is None:
             raise at(call.line, f"delivers {len(data)} bytes, and is accepted")
         self.history.deliver(call, block)

@@ -5,8 +5,8 @@ import re
 
 from .blocks import Block
 from .history import Call, History
-from .lists import field, refusal
-from .words import STALE, Bad, at
+from .lists import field, refusal, shown
+from .words import REFUSED_BY, STALE, Bad, at
 
 FIRST = re.compile(r"N ([234])")
 # What stands behind the place.
@@ -29,14 +29,14 @@ class Week:
 
     def play(self, number, line, answer):
         given = self.given(line)
-        said = 0 if answer == "0" else refusal(number, answer)
         call = Call(number, given and given[1], line, answer)
-        if (given is None) != (said == NO_CALL):
-            raise at(number, f"is answered {answer}, and is {'no call' if given is None else 'a call'}")
+        if (given is None) != (answer == str(NO_CALL)):
+            raise at(number, f"is answered {shown(answer)}, and is {'no call' if given is None else 'a call'}")
         self.history.calls.append(call)
         if given is None:
-            return self.history.refuse(call, said)
+            return self.history.refuse(call, NO_CALL)
         letter, _, *given = given
+        said = 0 if answer == "0" else refusal(number, answer, REFUSED_BY[letter] | ({NOT_KEPT} if letter == "D" else set()))
         if said:
             return self.refused(call, letter, given, said)
         return getattr(self, f"call_{letter.lower()}")(call, *given)

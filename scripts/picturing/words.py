@@ -1,6 +1,6 @@
 """What is said of bad input, and what the refusal numbers stand for."""
 
-# Document 01, "Answers when a call is turned away", in few words; 7 and 23 to 27 as of document 02.
+# Document 01, "Answers when a call is turned away", in few words; 7, 23 and 25 to 27 as of document 02.
 REFUSALS = {
     1: "length",
     2: "out of range",
@@ -27,6 +27,22 @@ REFUSALS = {
     25: "only reads",
     26: "not kept",
     27: "no call",
+}
+
+# The numbers that can refuse a call, by its letter: docs/SPECIFICATION.md, S2.1. V and J are no calls at a replica, and
+# nothing refuses them. 26 and 27 are of weeks alone.
+REFUSED_BY = {
+    **dict.fromkeys("MAZY", {1, 2}),
+    "B": {1, 5, 6},
+    "R": {1, 2, 3, 4},
+    "W": {1, 2, 3, 4, 7, 8, 9, 10, 25},
+    **dict.fromkeys("CX", {1, 3, 4}),
+    "Q": {1},
+    "P": {1, 2, 23},
+    "S": {1, 11, 12, 13, 25},
+    **dict.fromkeys("DFH", {1, 14, 15, 16, 17, 18, 19, 20}),
+    "K": {1, 21},
+    **dict.fromkeys("VJ", set()),
 }
 
 STALE = 9

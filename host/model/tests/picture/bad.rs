@@ -2,9 +2,10 @@
 
 use std::fs;
 use std::path::Path;
+use std::process::Command;
 use std::sync::atomic::{AtomicUsize, Ordering};
 
-use crate::{python, room};
+use crate::{file, python, room, top};
 
 const CALLS: &str = "M 0 2 0 0\nM 1 2 1 0\nB 0\nW 0 1 5 40\nC 0 1\n";
 const ANSWERS: &str = "0\n0\n0 1\n0\n0 0\n";
@@ -72,6 +73,13 @@ fn answers_that_do_not_fit() {
             "line 6 is answered 22, which is no answer to it",
         ),
         ("B 0", "-1", "which is no answer to it"),
+        (
+            "B 0",
+            "21",
+            "line 6 is answered 21, which is no answer to it",
+        ),
+        ("D 0 0", "26", "line 6 is answered 26, which is no answer"),
+        ("V 0", "1", "line 6 is answered 1, which is no answer to it"),
         ("B 0", "", "line 6 is answered by an empty line"),
         ("B 5", "5", "line 6 is at a place where nothing is made"),
         ("B 8", "0 1", "line 6 is no call of the format"),
@@ -132,6 +140,11 @@ fn weeks_that_do_not_fit() {
         ("B 2", "5", "line 8 is answered 5, and is no call"),
         ("B 0", "27", "line 8 is answered 27, and is a call"),
         ("B 0", "x", "which is no answer to it"),
+        (
+            "B 0",
+            "26",
+            "line 8 is answered 26, which is no answer to it",
+        ),
     ] {
         let (before, table) = answers.split_at(12);
         refused(
@@ -141,6 +154,55 @@ fn weeks_that_do_not_fit() {
             due,
         );
     }
+}
+
+/// The numbers that each call is refused by are those of the specification.
+#[test]
+fn refusals_by_call() {
+    let text = file("docs/SPECIFICATION.md");
+    let rows = text
+        .split("| Call | Refused by, in this order |\n|---|---|\n")
+        .nth(1);
+    let rows = rows
+        .unwrap()
+        .lines()
+        .take_while(|line| line.starts_with('|'));
+    let mut due = vec!["J".to_string(), "V".to_string()];
+    for row in rows {
+        let fields: Vec<&str> = row.split('|').map(str::trim).collect();
+        let letters = match fields[1] {
+            "make, restart, a station's make" => "MZYA",
+            "begin" => "B",
+            "read" => "R",
+            "write" => "W",
+            "ask, withdraw" => "CX",
+            "report" => "Q",
+            "load" => "P",
+            "send" => "S",
+            "deliver" => "DFH",
+            "work" => "K",
+            other => panic!("{other} is a call that pictures do not know"),
+        };
+        let numbers = fields[2].split(|sign: char| !sign.is_ascii_digit());
+        let mut numbers: Vec<u32> = numbers.filter_map(|number| number.parse().ok()).collect();
+        numbers.sort();
+        let numbers: String = numbers.iter().map(|number| format!(" {number}")).collect();
+        due.extend(letters.chars().map(|letter| format!("{letter}{numbers}")));
+    }
+    due.sort();
+    let script =
+        "import sys; sys.path.insert(0, 'scripts'); from picturing.words import REFUSED_BY\n\
+        for letter in sorted(REFUSED_BY): print(letter, *sorted(REFUSED_BY[letter]))";
+    let mut command = Command::new("python3");
+    let Ok(said) = command
+        .args(["-B", "-c", script])
+        .current_dir(top())
+        .output()
+    else {
+        return;
+    };
+    let said = String::from_utf8(said.stdout).unwrap();
+    assert!(said.lines().eq(&due), "{said}{due:?}");
 }
 
 #[test]

@@ -69,8 +69,12 @@ fn pictures() {
             drawn == stored,
             "docs/pictures/{name} is another today; scripts/pictures writes it anew"
         );
+        // An image, which is more than a link.
+        let end = format!("](docs/pictures/{name})");
+        let readme = file("README.md");
+        let mut lines = readme.lines();
         assert!(
-            file("README.md").contains(&format!("docs/pictures/{name}")),
+            lines.any(|line| line.starts_with("![") && line.ends_with(&end)),
             "{name}"
         );
         count += 1;

@@ -2,14 +2,18 @@
 
 use model::block::{self, BLOCK};
 use model::replay::{hex, Replay};
-use model::replica::{Replica, ITEMS};
+use model::replica::Replica;
 use model::samples::Random;
+use model::week::{Week, NOT_KEPT, NO_LINE};
 
-/// Calls and answers, a line to each.
+/// Calls and answers.
 #[derive(Default)]
 pub struct List {
     pub calls: Vec<String>,
+    /// What is printed.
     pub answers: Vec<String>,
+    /// What is answered to each call in full. A week prints the number alone.
+    pub told: Vec<String>,
 }
 
 impl List {
@@ -20,8 +24,26 @@ impl List {
             list.answers.push(replay.answer(call.as_bytes()));
             list.calls.push(call);
         }
+        list.told.clone_from(&list.answers);
         list
     }
+
+    /// Lines with what the program `replay` prints of them.
+    pub fn stored(calls: &str, answers: &str) -> List {
+        let answers: Vec<String> = answers.lines().map(str::to_string).collect();
+        List {
+            // A line ends at a line feed and nowhere else.
+            calls: calls.split_terminator('\n').map(str::to_string).collect(),
+            told: answers.clone(),
+            answers,
+        }
+    }
+}
+
+/// The bytes that these digits stand for.
+pub fn bytes(digits: &str) -> Vec<u8> {
+    let byte = |at| u8::from_str_radix(&digits[at..at + 2], 16).unwrap();
+    (0..digits.len() / 2).map(|i| byte(2 * i)).collect()
 }
 
 /// Item and ticket of a call at a transaction, mostly one that is open, and the slot of a block that comes: mostly
@@ -105,8 +127,7 @@ pub fn recorded(list: &List, place: usize) -> List {
     let mut lines = Vec::new();
     for (call, answer) in list.calls.iter().zip(&list.answers) {
         if let (true, Some(digits)) = (call.starts_with("S "), answer.strip_prefix("0 ")) {
-            let byte = |at| u8::from_str_radix(&digits[at..at + 2], 16).unwrap();
-            blocks.push((0..BLOCK).map(|i| byte(2 * i)).collect());
+            blocks.push(bytes(digits));
         }
         let fields: Vec<&str> = call.split(' ').collect();
         if answer == "?" || fields[1] != place.to_string() {
@@ -124,79 +145,36 @@ pub fn recorded(list: &List, place: usize) -> List {
     List::of(lines)
 }
 
-/// A week: its replicas, and the blocks sent.
-#[derive(Clone)]
-struct Week {
-    replicas: Vec<Replica>,
-    sent: Vec<[u8; BLOCK]>,
-}
-
-impl Week {
-    /// A line, and what it prints.
-    fn step(&mut self, random: &mut Random) -> (String, Result<(), u8>) {
-        let n = self.replicas.len();
-        let mut k = random.below(n);
-        let (item, ticket, slot) = chosen(random, &self.replicas[k]);
-        let kind = random.below(100);
-        if (38..50).contains(&kind) {
-            k = self.replicas[k].turn as usize % n;
-        }
-        let replica = &mut self.replicas[k];
-        match kind {
-            0..10 => (format!("B {k}"), replica.begin().map(drop)),
-            10..28 => {
-                let value = random.below(90) as i32 - 9;
-                let call = format!("W {k} {ticket} {item} {value}");
-                (call, replica.write(ticket, item as u32, value))
-            }
-            28..38 => (format!("C {k} {ticket}"), replica.ask(ticket).map(drop)),
-            38..50 => {
-                let sent = replica.send();
-                self.sent.extend(sent);
-                (format!("S {k}"), sent.map(drop))
-            }
-            50..74 => {
-                let mut kept = self.sent.iter().rev().take(16);
-                let found = kept.find(|sent| block::header(sent).slot == slot);
-                let answer = found.map_or(Err(26), |block| replica.deliver(block));
-                (format!("D {k} {slot}"), answer)
-            }
-            74..97 => (format!("K {k}"), replica.work().map(drop)),
-            97 => (format!("W {k} {ticket} {item}"), Err(27)),
-            98 => (format!("B {n}"), Err(27)),
-            _ => (String::new(), Err(27)),
-        }
+/// A week of the model with what it prints, and its replicas in the end. What its calls did is told by the program
+/// `replay`: in a week the accepted sends are those of the slots in order, so that a slot is a block's number there.
+pub fn week(input: &[u8]) -> (List, Week) {
+    let mut lines: Vec<&[u8]> = input.split(|&byte| byte == b'\n').collect();
+    if input.ends_with(b"\n") {
+        lines.pop();
     }
-}
-
-/// A week with what document 02's Req 09 has it print, and its replicas in the end.
-pub fn week(seed: u64) -> (List, Vec<Replica>) {
-    let mut random = Random::new(seed);
-    let n = 2 + random.below(3) as u32;
-    let made = (0..n).map(|own| Replica::make(n, own, &[0; ITEMS]).unwrap());
-    let mut week = Week {
-        replicas: made.collect(),
-        sent: Vec::new(),
-    };
+    let mut week = Week::begin(lines[0]).unwrap();
+    let mut replay = Replay::default();
+    let n = week.replicas().len();
+    for k in 0..n {
+        assert_eq!(replay.answer(format!("M {k} {n} {k} 0").as_bytes()), "0");
+    }
     let mut list = List::default();
-    list.calls.push(format!("N {n}"));
-    for _ in 0..300 {
-        for left in (0..TRIES).rev() {
-            let mut next = week.clone();
-            let (call, answer) = next.step(&mut random);
-            if left > 0 && answer.is_err_and(|number| number < 26) {
-                continue;
-            }
-            week = next;
-            list.calls.push(call);
-            list.answers.push(answer.err().unwrap_or(0).to_string());
-            break;
+    for (at, line) in lines.into_iter().enumerate() {
+        list.calls.push(String::from_utf8_lossy(line).into_owned());
+        if at == 0 {
+            list.told.push("0".to_string());
+            continue;
         }
+        let number = week.answer(line);
+        list.answers.push(number.to_string());
+        list.told.push(match number {
+            NOT_KEPT | NO_LINE => number.to_string(),
+            _ => replay.answer(line),
+        });
+        let told = list.told[at].split(' ').next();
+        assert_eq!(told, Some(&list.answers[at - 1][..]), "line {}", at + 1);
     }
-    for (k, replica) in week.replicas.iter().enumerate() {
-        let report = replica.report();
-        let line = format!("{k} {} {} {}", report.turn, report.commits, report.open);
-        list.answers.push(line);
-    }
-    (list, week.replicas)
+    list.answers
+        .extend(week.table().lines().map(str::to_string));
+    (list, week)
 }

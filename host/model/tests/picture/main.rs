@@ -2,6 +2,7 @@
 //! replicas hold. It needs `python3`; where there is none, that is said, and nothing is tested.
 
 mod bad;
+mod blocks;
 mod docs;
 mod lists;
 mod marks;
@@ -13,9 +14,10 @@ use std::process::{Command, Output};
 use std::{fs, io};
 
 use model::replay::{Replay, PLACES};
+use model::week::{self, Week};
 
 use crate::lists::List;
-use crate::marks::{counts, due, last_values, marks, refusals, words_of_refusals};
+use crate::marks::{counts, due, last_values, marks, refusals, words_of_refusals, Mark};
 
 fn top() -> PathBuf {
     let top = Path::new(env!("CARGO_MANIFEST_DIR")).join("../..");
@@ -52,7 +54,13 @@ fn room(name: &str) -> String {
 fn drawn(test: &str, list: &List, options: &[&str]) -> Option<String> {
     let [calls, answers, picture] =
         ["calls", "out", "svg"].map(|kind| room(&format!("{test}.{kind}")));
-    fs::write(&calls, list.calls.join("\n")).unwrap();
+    // A last line without line feed counts, but not an empty one.
+    let end = if list.calls.last().is_some_and(String::is_empty) {
+        "\n"
+    } else {
+        ""
+    };
+    fs::write(&calls, list.calls.join("\n") + end).unwrap();
     fs::write(&answers, list.answers.join("\n") + "\n").unwrap();
     let _ = fs::remove_file(&picture);
     let words = [&[&calls[..], &answers, &picture], options].concat();
@@ -82,6 +90,8 @@ fn check_marks(test: &str, list: &List, first: usize, last: usize, picture: &str
     assert_eq!(marks(picture), due(list, first, last), "{lines}");
     let found = words_of_refusals(picture);
     assert_eq!(found, refusals(list, first, last), "{lines}");
+    let found = blocks::drawn(picture);
+    assert_eq!(found, blocks::due(list, first, last), "{lines}");
 }
 
 /// The value of an item at each place that is made.
@@ -127,20 +137,12 @@ fn check_values(test: &str, list: &List, first: usize, last: usize, picture: &st
     }
 }
 
-/// Files of the repository as a list.
-fn stored(calls: &str, answers: &str) -> List {
-    let lines = |name| file(name).lines().map(str::to_string).collect();
-    List {
-        calls: lines(calls),
-        answers: lines(answers),
-    }
-}
-
 #[test]
 fn stored_lists() {
     for name in ["stems", "early", "sends"] {
-        let [calls, answers] = ["calls", "out"].map(|kind| format!("examples/{name}.{kind}"));
-        check(name, &stored(&calls, &answers));
+        let [calls, answers] =
+            ["calls", "out"].map(|kind| file(&format!("examples/{name}.{kind}")));
+        check(name, &List::stored(&calls, &answers));
     }
     let story = file("examples/story.calls");
     check("story", &List::of(story.lines().map(str::to_string)));
@@ -150,16 +152,10 @@ fn stored_lists() {
 #[test]
 fn parts_of_the_stored_list() {
     let input = fs::read(top().join("crates/replay/stdin")).unwrap();
-    let calls = input.split(|&byte| byte == b'\n');
-    let list = List {
-        calls: calls
-            .map(|line| String::from_utf8_lossy(line).into_owned())
-            .collect(),
-        answers: file("crates/replay/stdout")
-            .lines()
-            .map(str::to_string)
-            .collect(),
-    };
+    let list = List::stored(
+        &String::from_utf8_lossy(&input),
+        &file("crates/replay/stdout"),
+    );
     for first in [1, 20_000, list.calls.len() - 999] {
         let lines = [first, first + 999].map(|line| line.to_string());
         if let Some(picture) = drawn("part", &list, &["--from", &lines[0], "--to", &lines[1]]) {
@@ -187,52 +183,43 @@ fn seeded_lists() {
     assert!(counts.values().all(|&count| count >= 3), "{counts:?}");
 }
 
-/// Weeks print numbers alone: what was committed is in the table at their end, and in the model.
+/// That the picture of a week has what the week has, and ends with the values of its replicas. It gives the marks.
+fn check_week(test: &str, list: &List, week: &Week) -> Vec<Mark> {
+    let name = format!("week-{test}");
+    let Some(picture) = drawn(&name, list, &["--items", "0,1,2,3,4,5,127"]) else {
+        return Vec::new();
+    };
+    check_marks(test, list, 1, list.calls.len(), &picture);
+    let values = last_values(&picture);
+    assert_eq!(values.len(), 7 * week.replicas().len(), "{test}");
+    for ((item, place), value) in values {
+        let held = week.replicas()[place].values()[item];
+        assert_eq!(value, held.into(), "{test}, item {item} at {place}");
+    }
+    marks(&picture)
+}
+
+/// Seeded weeks. They print numbers alone, and every kind of mark that a week can have is in them.
 #[test]
 fn weeks() {
+    let mut all = Vec::new();
     for seed in 0..5 {
-        let (list, replicas) = lists::week(seed);
-        let Some(picture) = drawn("week", &list, &["--items", "0,1,2,3,4,5"]) else {
-            return;
-        };
-        let marks = marks(&picture);
-        let counts = counts(&marks);
-        println!("{counts:?}");
-        let count = |kind| counts.get(kind).copied().unwrap_or(0);
-        let accepted = |letter: &str| {
-            let pairs = list.calls[1..].iter().zip(&list.answers);
-            let found = pairs.filter(|(call, answer)| call.starts_with(letter) && *answer == "0");
-            found.count()
-        };
-        let said = list.answers[..list.calls.len() - 1].iter();
-        let refused = said.filter(|answer| *answer != "0").count();
-        assert_eq!(count("send"), accepted("S"), "seed {seed}");
-        assert_eq!(count("deliver"), accepted("D"), "seed {seed}");
-        assert_eq!(
-            count("commit") + count("pass"),
-            accepted("K"),
-            "seed {seed}"
-        );
-        assert_eq!(count("refusal"), refused, "seed {seed}");
-        assert_eq!(
-            words_of_refusals(&picture).values().sum::<usize>(),
-            refused,
-            "seed {seed}"
-        );
+        let (list, week) = lists::week(&week::seeded(seed, 400));
+        all.extend(check_week(&format!("seed-{seed}"), &list, &week));
+    }
+    let counts = counts(&all);
+    println!("{counts:?}");
+    // None where there is no python3.
+    assert!(counts.len() == 8 || all.is_empty(), "{counts:?}");
+}
 
-        let reports = replicas.iter().map(|replica| replica.report());
-        let (commits, aborted) = reports.fold((0, 0), |sum, report| {
-            (sum.0 + report.commits, sum.1 + report.aborted)
-        });
-        assert!(commits > 5, "seed {seed}");
-        assert_eq!(count("commit"), commits as usize, "seed {seed}");
-        assert_eq!(
-            count("aborted") + count("stale"),
-            aborted as usize,
-            "seed {seed}"
-        );
-        for ((item, place), value) in last_values(&picture) {
-            assert_eq!(value, replicas[place].values()[item].into(), "seed {seed}");
-        }
+#[test]
+fn stored_weeks() {
+    for name in ["seven", "refusals", "forgotten"] {
+        let input = fs::read(top().join(format!("examples/week-{name}.lines"))).unwrap();
+        let (list, week) = lists::week(&input);
+        let printed = file(&format!("examples/week-{name}.out"));
+        assert!(printed.lines().eq(&list.answers), "{name}");
+        check_week(name, &list, &week);
     }
 }

@@ -15,28 +15,36 @@ pub fn attribute<'a>(element: &'a str, name: &str) -> &'a str {
     value.split('"').next().unwrap()
 }
 
-/// The marks of a picture: what and at which line, in order.
-pub fn marks(picture: &str) -> Vec<(String, usize)> {
+/// What it is, its line, and its lane where it has one.
+pub type Mark = (String, usize, Option<usize>);
+
+/// The number of an attribute, where the element has it.
+pub fn number(element: &str, name: &str) -> Option<usize> {
+    let has = element.contains(&format!(" {name}=\""));
+    has.then(|| attribute(element, name).parse().unwrap())
+}
+
+/// The marks of a picture, in order.
+pub fn marks(picture: &str) -> Vec<Mark> {
     let found = elements(picture, "<g class=\"mark ")
         .into_iter()
         .map(|element| {
             let kind = element.split('"').next().unwrap();
-            (
-                kind.to_string(),
-                attribute(element, "data-line").parse().unwrap(),
-            )
+            let line = number(element, "data-line").expect(element);
+            (kind.to_string(), line, number(element, "data-place"))
         });
     // A transaction that a restart ends stands in no answer.
-    let mut found: Vec<(String, usize)> = found.filter(|(kind, _)| kind != "lost").collect();
+    let mut found: Vec<Mark> = found.filter(|(kind, ..)| kind != "lost").collect();
     found.sort();
     found
 }
 
 /// The marks of these lines, counted from the calls and answers alone.
-pub fn due(list: &List, first: usize, last: usize) -> Vec<(String, usize)> {
+pub fn due(list: &List, first: usize, last: usize) -> Vec<Mark> {
     let mut found = Vec::new();
-    for (at, (call, answer)) in list.calls.iter().zip(&list.answers).enumerate() {
-        let letter = call.split(' ').next().unwrap();
+    for (at, (call, answer)) in list.calls.iter().zip(&list.told).enumerate() {
+        let fields: Vec<&str> = call.split(' ').collect();
+        let letter = fields[0];
         let answer: Vec<&str> = answer.split(' ').collect();
         let kinds: &[&str] = match (letter, answer[0]) {
             (_, "?") if call.starts_with('#') => &[],
@@ -60,8 +68,13 @@ pub fn due(list: &List, first: usize, last: usize) -> Vec<(String, usize)> {
             0
         };
         let kinds = kinds.iter().chain(&["aborted"; 6][..aborted]);
+        // A line that is no call is at no place, whatever its fields are.
+        let place = match answer[0] {
+            "?" | "27" => None,
+            _ => fields[1].parse().ok(),
+        };
         if (first..=last).contains(&(at + 1)) {
-            found.extend(kinds.map(|kind| (kind.to_string(), at + 1)));
+            found.extend(kinds.map(|kind| (kind.to_string(), at + 1, place)));
         }
     }
     found.sort();
@@ -84,7 +97,7 @@ pub fn words_of_refusals(picture: &str) -> BTreeMap<String, usize> {
 /// How often each refusal number is answered in these lines.
 pub fn refusals(list: &List, first: usize, last: usize) -> BTreeMap<String, usize> {
     let mut counts = BTreeMap::new();
-    for answer in &list.answers[first - 1..last] {
+    for answer in &list.told[first - 1..last] {
         let number = answer.split(' ').next().unwrap();
         if number != "0" && number != "?" {
             *counts.entry(number.to_string()).or_default() += 1;
@@ -94,9 +107,9 @@ pub fn refusals(list: &List, first: usize, last: usize) -> BTreeMap<String, usiz
 }
 
 /// How many marks of each kind there are.
-pub fn counts(marks: &[(String, usize)]) -> BTreeMap<&str, usize> {
+pub fn counts(marks: &[Mark]) -> BTreeMap<&str, usize> {
     let mut counts = BTreeMap::new();
-    for (kind, _) in marks {
+    for (kind, ..) in marks {
         *counts.entry(kind.as_str()).or_default() += 1;
     }
     counts
