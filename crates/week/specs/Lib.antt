@@ -1,2 +1,3 @@
--- What a line does to a week, and what a week begins with.
+-- What a line does to a week, what a week begins with, and what it prints.
 pub mod Weeks
+pub mod Texts

@@ -5,7 +5,9 @@ ghost use mathlib.Core.Bool.{cond};
 ghost use lib.ListN.{length, getD, set, take};
 ghost use Rattle.replay_replica.specs.Effects.{noReplica};
 ghost use Rattle.week_lines.specs.Weeks.{groupOf, lineOf};
+ghost use Rattle.text_lines.specs.Outputs.{withLine};
 ghost use Rattle.week.specs.Weeks.{Begins, Replies};
+ghost use Rattle.week.specs.Texts.{HasRoom, numberText, withText, tableText, endText, Prints};
 use memory::rows::lesser;
 use replay_replica::Replica;
 use replay_replica::nobody;
@@ -100,8 +102,11 @@ fn reply(week: Week, line: &[u8]) -> Replied
 }
 
 // The number as a line, behind what is held.
-fn put_number(output: Output, number: u8, out: &mut [u8]) -> Output {
-    let end = lesser(output.held, out.len());
+fn put_number(output: Output, number: u8, out: &mut [u8]) -> Output
+    requires { ⌜ HasRoom output (now out) ⌝ }
+    ensures { λ r. ⌜ (r ≡ withLine output (length (numberText number))) × Prints (numberText number) output (now (out .entry)) r (now (out .exit)) ⌝ }
+{
+    let end = output.held;
     let none = [0u32; 0];
     let values = [0i32; 0];
     let length = replay_print::put_answer(&mut out[end..], number, &none, &values, b"");
@@ -109,28 +114,32 @@ fn put_number(output: Output, number: u8, out: &mut [u8]) -> Output {
 }
 
 // A line for each replica, behind what is held.
-fn put_table(week: Week, output: Output, out: &mut [u8]) -> Output {
+fn put_table(week: Week, output: Output, out: &mut [u8]) -> Output
+    requires { ⌜ HasRoom output (now out) ⌝ }
+    ensures { λ r. ⌜ (r ≡ withText output (tableText week)) × Prints (tableText week) output (now (out .entry)) r (now (out .exit)) ⌝ }
+{
     let replicas = week.replicas;
     let n = lesser(week.n, 4);
     let mut after = output;
     let mut k: usize = 0;
     while k < n {
-        let end = lesser(after.held, out.len());
+        let end = after.held;
         let length = put_row(replica_at(replicas, k), k as u8, &mut out[end..]);
-        after.held = std::num::wrapping_add_usize(after.held, length);
+        after.held = end + length;
         k += 1;
     }
     after
 }
 
 // The input has ended: the replicas, unless it could not be read to its end.
-fn end(week: Week, failed: bool, output: Output, out: &mut [u8]) {
+fn end(week: Week, failed: bool, output: Output, out: &mut [u8]) -> Output
+    requires { ⌜ HasRoom output (now out) ⌝ }
+    ensures { λ r. ⌜ (r ≡ withText output (endText failed week)) × Prints (endText failed week) output (now (out .entry)) r (now (out .exit)) ⌝ }
+{
     if failed {
-        finish(output, true, b"week", &*out);
-        return;
+        return output;
     }
-    let last = put_table(week, output, &mut *out);
-    finish(last, false, b"week", &*out);
+    put_table(week, output, &mut *out)
 }
 
 // The lines behind the first, in their order, and then the replicas.
@@ -149,7 +158,8 @@ fn play(first: Week, from: Source, buffer: &mut [u8]) {
         let read = next_line(source, &mut *buffer, &mut line);
         source = read.source;
         if read.ended {
-            end(week, source.failed, output, &mut out);
+            let last = end(week, source.failed, output, &mut out);
+            finish(last, source.failed, b"week", &out);
             return;
         }
         let n = read.length;

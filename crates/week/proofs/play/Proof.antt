@@ -1,17 +1,18 @@
--- `play` is safe: the line lies within its buffer. The measure is the number of turns that are left.
+-- `play` is safe: the line lies within its buffer, and what is held leaves room for a line and for the table. The measure is the number of turns that are left.
 use mathlib.Core.Path.{_≡_, sym, _∙_}
 use native.Mathlib.Omega.{arith}
 use borrow.Author.Needs.{needs}
 use lib.ListN.{length}
 use lib.Seq.{length-take-le}
+use Rattle.text_lines.proofs.OutputLaws.{room-then}
 use Rattle.week.proofs.play.Statement.{statement}
 use Rattle.week.proofs.play.Tie as tie
 
 abbrev Inv-loop : tie.InvT-loop
-Inv-loop buffer₀ out₀ line₀ week₀ source₀ output₀ turns₀ t13 buffer out line week source output turns = (length out ≡ 65536) × (length line ≡ 64) × (length buffer ≡ length buffer₀)
+Inv-loop buffer₀ out₀ line₀ week₀ source₀ output₀ turns₀ t14 t15 buffer out line week source output turns = (length out ≡ 65536) × (length line ≡ 64) × (length buffer ≡ length buffer₀)
 
 abbrev μ-loop : tie.MeasureT-loop
-μ-loop buffer₀ out₀ line₀ week₀ source₀ output₀ turns₀ t13 buffer out line week source output turns = turns
+μ-loop buffer₀ out₀ line₀ week₀ source₀ output₀ turns₀ t14 t15 buffer out line week source output turns = turns
 
 large-buffer-requires : tie.Need-large-buffer-requires Inv-loop μ-loop
 large-buffer-requires c κs = search needs
@@ -47,10 +48,21 @@ slice-aggregate-end : tie.Need-slice-aggregate-end Inv-loop μ-loop
 slice-aggregate-end c = sym (c .before .before .before .before .before .before .before .before .before .before .before .before .before .before .loop .inv .0)
 
 end-requires : tie.Need-end-requires Inv-loop μ-loop
-end-requires c κs = search needs
+end-requires c κs =
+    let l = c .before .before .before .before .before .before .before .before .before .before .before .before .before .before .loop in
+    (room-then (l .output) (l .source) (c .before .before .before .before .before .before .before .before .before .before .with-room .ensures), l .inv .0)
+
+slice-aggregate-finish : tie.Need-slice-aggregate-finish Inv-loop μ-loop
+slice-aggregate-finish c = search needs
+
+slice-aggregate-finish-2 : tie.Need-slice-aggregate-finish-2 Inv-loop μ-loop
+slice-aggregate-finish-2 c = search needs
+
+finish-requires : tie.Need-finish-requires Inv-loop μ-loop
+finish-requires c κs = search needs
 
 same-length-2 : tie.Need-same-length-2 Inv-loop μ-loop
-same-length-2 c = search needs
+same-length-2 c = c .before .before .before .before .before .before .before .before .before .before .before .next-line .kept .1 .0 ∙ c .before .before .before .before .before .before .before .before .before .before .before .before .before .before .before .before .before .before .before .loop .inv .2
 
 returns-2 : tie.Need-returns-2 Inv-loop μ-loop
 returns-2 c = search needs
@@ -68,7 +80,9 @@ slice-aggregate-put-number : tie.Need-slice-aggregate-put-number Inv-loop μ-loo
 slice-aggregate-put-number c = sym (c .before .before .before .before .before .before .before .before .before .before .before .before .before .before .before .before .loop .inv .0)
 
 put-number-requires : tie.Need-put-number-requires Inv-loop μ-loop
-put-number-requires c κs = search needs
+put-number-requires c κs =
+    let l = c .before .before .before .before .before .before .before .before .before .before .before .before .before .before .before .before .loop in
+    (room-then (l .output) (l .source) (c .before .before .before .before .before .before .before .before .before .before .before .before .with-room .ensures), l .inv .0)
 
 sub-turns : tie.Need-sub-turns Inv-loop μ-loop
 sub-turns c = omega (arith, c .before .before .before .before .before .before .before .before .before .before .before .before .before .before .before .before .before .before .loop-test .taken)
@@ -103,6 +117,9 @@ play-spec =
     next-line-requires
     slice-aggregate-end
     end-requires
+    slice-aggregate-finish
+    slice-aggregate-finish-2
+    finish-requires
     same-length-2
     returns-2
     array-share-prefix-line
