@@ -113,7 +113,7 @@ sendTwo =
 
 -- replica 0 of 2 restarts from its own block and the *next* behind it
 abbrev pub restartOfTwo : Outcome
-restartOfTwo = restartStep (fresh 2 0) 2 0 zeros (twoThenOne ++ nextBlock 2 1 1) (replicate 512 0)
+restartOfTwo = restartStep (fresh 2 0) 2 0 zeros (twoThenOne ++ nextBlock 2 1 1) [] (replicate 512 0)
 
 pub record RightAnswers : Type 0 where
   -- another's block: the asked transaction that wrote an item of its second writeset is aborted by that one, another is not, and meets 9 at the item
