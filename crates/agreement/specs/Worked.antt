@@ -45,11 +45,11 @@ calls = at 0 (begin ∷ write 1 5 (pos 7) ∷ ask 1 ∷ begin ∷ write 2 6 (pos
 
 -- a restart of replica 1 from both blocks, with a torn one behind
 abbrev pub tornRestart : CallAt
-tornRestart = record { at = 1; does = restart 3 1 start (block0 ++ (block1 ++ take 100 block0)) noBlock }
+tornRestart = record { at = 1; does = restart 3 1 start (block0 ++ (block1 ++ take 100 block0)) [] noBlock }
 
 -- a restart of replica 1 from no journal, lent this number and these values
 abbrev pub restartWith : ℕ → List ℤ → List CallAt
-restartWith own values = record { at = 1; does = restart 3 own values [] noBlock } ∷ []
+restartWith own values = record { at = 1; does = restart 3 own values [] [] noBlock } ∷ []
 
 -- replica 0 sends at once, a *next*
 abbrev pub nextBlock : List ℕ
