@@ -22,6 +22,7 @@ pub mod Sendable
 pub mod SendStep
 pub mod DeliverStep
 pub mod WorkStep
+pub mod NoticeStep
 pub mod RestartView
 pub mod RestartAnswers
 pub mod RestartStep
