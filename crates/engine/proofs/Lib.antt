@@ -10,6 +10,7 @@ pub mod HitLaws
 pub mod QueueLaws
 pub mod PlaceLaws
 pub mod BlockFacts
+pub mod NoticeLaws
 -- what a call does, and what its tests say
 pub mod Steps
 pub mod Passed
@@ -27,6 +28,7 @@ pub mod ShapeDeliver
 pub mod ShapeTurn
 pub mod ShapeWriteset
 pub mod ShapeWork
+pub mod ShapeNotice
 -- a restart
 pub mod RestartLaws
 pub mod ShapeRestart
