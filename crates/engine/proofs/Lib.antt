@@ -40,12 +40,13 @@ pub mod Shapes
 pub mod Rising
 pub mod ReadBack
 pub mod SentLaws
-pub mod TurnStays
-pub mod Claims
 pub mod SentClient
 pub mod SentSend
 pub mod SentWork
+pub mod SentNotice
 pub mod Sent
+pub mod TurnStays
+pub mod Claims
 pub mod Reports
 pub mod Queues
 pub mod Histories
