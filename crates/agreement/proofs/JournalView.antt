@@ -12,6 +12,7 @@ use lib.IntN.{ℤ}
 use lib.ListN.{length, getD, take, drop}
 use lib.Seq.{take-add}
 use borrow.Author.Tests.{eq-eqb, ne-eqb}
+use Rattle.block.specs.Message.{ownerOf}
 use Rattle.block.specs.Bytes.{blockOf}
 use Rattle.block.specs.Form.{messageOf}
 use Rattle.block.specs.Answers.{blockRefusal, headerOf, recordAt}
@@ -39,7 +40,7 @@ use Rattle.protocol.specs.Writesets.{Message}
 use Rattle.protocol.specs.Moves.{outHere}
 use Rattle.protocol.specs.Replica.{Event}
 use Rattle.protocol.specs.Journal as model
-use Rattle.protocol.specs.Journal.{Journal, journal, append, Cut, appended}
+use Rattle.protocol.specs.Journal.{Journal, journal, append, Cut, nextOf, appended}
 use Rattle.protocol.specs.Blocks.{allBytes, readBlocks}
 use Rattle.protocol.proofs.BlockLaws.{cut-of-bytes}
 use Rattle.protocol.proofs.SequenceLaws.{map-append}
@@ -136,13 +137,22 @@ module _ (n : ℕ) (start : List ℤ) (m : Memory) (s : Sound n m) where
   out-here = out-same n start m (s .size) (m .turn .slot)
 
   -- an out slot is passed
-  out-appends : outAtTurn m ≡ true → Appends work (passOut m)
-  unfolding passOut heard appended headerOf messageOf messageIn
-  out-appends u =
-      let r = theorems .round-trip (nextAtTurn m) (next-sendable m (s .shape) u) in
-      rw (out-here ∙ u, bumps m (s .shape) .slot, ne-eqb (suc (m .turn .slot)) (m .turn .slot) (λ d. omega arith))
-      (subst (λ (x : Message ℤ). OnDisk n (blockOf (nextAtTurn m)) (x ∷ [])) (rw (r .message) refl)
-      (one-block n (blockOf (nextAtTurn m)) (is-good n (blockOf (nextAtTurn m)) (r .taken) (ap (λ (x : Rattle.block.specs.Message.Message). x .replicas) (r .message) ∙ s .size))))
+  module _ (u : outAtTurn m ≡ true) where
+    next-good : isGood n (blockOf (nextAtTurn m)) ≡ true
+    unfolding headerOf messageOf
+    next-good =
+        let r = theorems .round-trip (nextAtTurn m) (next-sendable m (s .shape) u) in
+        is-good n (blockOf (nextAtTurn m)) (r .taken) (ap (λ (x : Rattle.block.specs.Message.Message). x .replicas) (r .message) ∙ s .size)
+
+    next-says : messageIn (blockOf (nextAtTurn m)) ≡ nextOf (m .turn .slot) (ownerOf (m .group .replicas) (m .turn .slot))
+    unfolding messageIn
+    next-says = rw (theorems .round-trip (nextAtTurn m) (next-sendable m (s .shape) u) .message) refl
+
+    out-appends : Appends work (passOut m)
+    unfolding passOut heard appended
+    out-appends =
+        rw (out-here ∙ u, bumps m (s .shape) .slot, ne-eqb (suc (m .turn .slot)) (m .turn .slot) (λ d. omega arith))
+        (subst (λ (x : Message ℤ). OnDisk n (blockOf (nextAtTurn m)) (x ∷ [])) next-says (one-block n (blockOf (nextAtTurn m)) next-good))
 
   module _ (k : Working m) (live : outAtTurn m ≡ false) where
     waits : (blockRefusal b ≡ 0) × (headerOf b .slot ≡ m .turn .slot) × (headerOf b .replicas ≡ m .group .replicas)

@@ -33,6 +33,7 @@ pub mod JournalView
 pub mod Replicas
 pub mod Runs
 pub mod Premises
+pub mod OneList
 pub mod Agreement
 pub mod Theorem
 pub mod JournalLength

@@ -116,10 +116,10 @@ module _ (n : ℕ) (start : List ℤ) (most : n ≤ 6) (k : ℕ) (m : Memory) (s
       rw (← q) (sender-among n b any-replica (rw (s .size) at (w .0)) (rw (s .size) at (w .2))))
 
   under : (c : Call) (o : Outcome) → Foreign (setup n start) (m .group .own) (view m) (meant c) → Foreign (setup n start) k (view m) (meant c) → Owed n start m c o → OwedAt n start k m (call c) o
-  under c o d e (refuses i h q L) = refuses-at i h q (alike-numbered k (view m) (view (o .memory)) L)
+  under c o d e (refuses i h q L) = refuses-at i h q (alike-numbered (setup n start) k (view m) (view (o .memory)) L)
   under c o d e (follows q L) =
       let z = step-under (setup n start) k (view m) (meant c) d e in
-      follows-at (rw z q) (rw z (alike-numbered k _ (view (o .memory)) L))
+      follows-at (rw z q) (rw z (alike-numbered (setup n start) k _ (view (o .memory)) L))
 
   pub station-owes : (c : Call) → Owed n start m c (step m c) → OwedAt n start k m (call c) (step m c)
   station-owes begin O = under begin _ tt tt O

@@ -7,8 +7,8 @@ use native.Mathlib.Nat.{mod-lt}
 use native.Mathlib.Omega.{arith}
 use lib.Dec.{eqb, ltb, leb}
 use lib.IntN.{ℤ}
-use lib.ListN.{length, getD, getD-set-same, getD-set-other}
-use lib.Seq.{slice}
+use lib.ListN.{length, getD}
+use lib.Seq.{slice, getD-set-same, getD-set-other}
 use borrow.Author.Tests.{eq-eqb, ne-eqb, lt-leb, le-ltb}
 use Rattle.block.specs.Message.{ownerOf}
 use Rattle.memory.specs.declared.Group.{Group}

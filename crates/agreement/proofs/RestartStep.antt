@@ -23,6 +23,7 @@ use Rattle.engine.proofs.Tests.{cond-by, same-by, not-first}
 use Rattle.engine.proofs.Steps.{restart-by}
 use Rattle.engine.proofs.Passed.{restart-passed, restart-places}
 use Rattle.engine.proofs.ShapeMade.{getD-zeros}
+use Rattle.engine.proofs.NoticeLaws.{notices-kept}
 use Rattle.engine.proofs.RestartLaws.{AllGood, reads-good, reads-few, count-few}
 use Rattle.engine.proofs.ShapeRestart.{shape-restarted}
 use Rattle.engine.proofs.Sent.{sent-shapes}
@@ -69,17 +70,6 @@ outages-same (c ∷ l) g f a b h k q =
     (λ d. rw (ne-eqb j (c .about) d) (h j u)))
     k q
 
--- number and own number are no matter of notices
-own-kept : (l : List Notice) (g : Group) → withNotices g l .own ≡ g .own
-unfolding withNotices
-own-kept [] g = refl
-own-kept (a ∷ l) g = own-kept l (withNotice g a)
-
-size-kept : (l : List Notice) (g : Group) → withNotices g l .replicas ≡ g .replicas
-unfolding withNotices
-size-kept [] g = refl
-size-kept (a ∷ l) g = size-kept l (withNotice g a)
-
 module _ (n k : ℕ) (start : List ℤ) (six : n ≤ 6) (some-replica : 0 < n) (notices : List Notice) (bs : List (List ℕ)) (good : AllGood n bs) (few : length bs ≤ 100_000_000) where
   start-same : Same (startReplay start) (startStore (setup n start))
   start-same = record { commits = refl; values = refl; stamps = λ i. getD-zeros 128 i; long = length-replicate {A = ℕ} 128 0 }
@@ -90,7 +80,7 @@ module _ (n k : ℕ) (start : List ℤ) (six : n ≤ 6) (some-replica : 0 < n) (
       let c = count-few n bs good in
       let s = blocks-same n bs good (startReplay start) (startStore (setup n start)) start-same (omega arith) in
       record {
-        own = own-kept notices (groupOf n k);
+        own = notices-kept (groupOf n k) notices .own;
         cursor = rw (length-map bs messageIn);
         commits = s .commits;
         values = s .values;
@@ -148,7 +138,7 @@ sound-restarted n k start g journal notices = record {
   over = repeated k (blocksIn n journal);
   shape = shape-restarted n k start g journal notices;
   sent = sent-shapes .restarted n k start journal notices;
-  size = size-kept notices (groupOf n k);
+  size = notices-kept (groupOf n k) notices .replicas;
   fits = fits-zeros 48;
 }
 

@@ -262,7 +262,7 @@ module _ (start : List ℤ) {over : ℕ} (m : Memory) (S : Shape over m) (Q : Se
 -- ---- an out slot
 
 out-owes : (start : List ℤ) {over : ℕ} (m : Memory) → Shape over m → outAtTurn m ≡ true → Owed (m .group .replicas) start m work (passOut m)
-unfolding passOut heard
+unfolding passOut heard workStep
 out-owes start m S u =
     owed-by (m .group .replicas) start m (passOut m) _ passes refl
     (record {
@@ -280,7 +280,6 @@ out-owes start m S u =
     })
   where
     passes : workStep (setup (m .group .replicas) start) (view m) ≡ model.passOut (setup (m .group .replicas) start) (view m)
-    unfolding workStep
     passes = rw (out-same (m .group .replicas) start m refl (m .turn .slot) ∙ u)
 
 never-nine : (m : Memory) → workRefusal m ≡ 9 → ⊥

@@ -27,12 +27,14 @@ least p (suc k) a h =
     bool-by (p a)
     (λ e. (a, record { above = omega arith; passes = e; others = λ u l g. absurd (omega arith) }))
     (λ e. let z : a + suc k ≡ suc a + k = omega arith in
-    let f = least p k (suc a) (rw z at h) in
-    (f .0, record {
-      above = let l = f .1 .above in omega arith;
-      passes = f .1 .passes;
-      others = λ u l g. same-by u a (λ y. rw y e) (λ y. f .1 .others u (omega (arith, y)) g);
-    }))
+    let f = least p k (suc a) (rw z at h) in (
+      f .0,
+      record {
+        above = let l = f .1 .above in omega arith;
+        passes = f .1 .passes;
+        others = λ u l g. same-by u a (λ y. rw y e) (λ y. f .1 .others u (omega (arith, y)) g);
+      },
+    ))
 
 -- above every turn that the calls come by, and so above every slot that they pass
 unfoldable ceiling : Memory → List AnyCall → ℕ
@@ -69,10 +71,12 @@ module _ (m : Memory) (below : m .group .own < m .group .replicas) (t : ℕ) (cs
   pub first-slot : (s : ℕ) × FirstSlot m t cs s
   first-slot =
       let f = some-slot in
-      let b = both (eqb (ownerAt (m .group) (f .0)) (m .group .own)) (not (passedOut (f .0) m cs)) (f .1 .passes) in
-      (f .0, record {
-        above = f .1 .above;
-        own = eqb-true (ownerAt (m .group) (f .0)) (m .group .own) (b .left);
-        counts = not-true (passedOut (f .0) m cs) (b .right);
-        first = λ u l g o. bool-by (passedOut u m cs) (λ e. e) (λ e. clash (is-counted u o e) (f .1 .others u l g));
-      })
+      let b = both (eqb (ownerAt (m .group) (f .0)) (m .group .own)) (not (passedOut (f .0) m cs)) (f .1 .passes) in (
+        f .0,
+        record {
+          above = f .1 .above;
+          own = eqb-true (ownerAt (m .group) (f .0)) (m .group .own) (b .left);
+          counts = not-true (passedOut (f .0) m cs) (b .right);
+          first = λ u l g o. bool-by (passedOut u m cs) (λ e. e) (λ e. clash (is-counted u o e) (f .1 .others u l g));
+        },
+      )
