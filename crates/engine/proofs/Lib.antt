@@ -52,6 +52,8 @@ pub mod Queues
 pub mod Histories
 pub mod Restarts
 pub mod Tickets
+-- out slots, and what a notice leaves alone
+pub mod NoticeClaims
 -- with restarts among the calls: own writesets that a work meets
 pub mod Reached
 -- a station; a replica is none; a write with no table of classes, and the lock before staleness

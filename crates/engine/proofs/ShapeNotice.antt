@@ -1,6 +1,7 @@
 -- A notice keeps the shape: no block waits for a slot that it puts out. Assumes nothing.
 use Prim.Native.Nat.{ℕ, zero, suc, _+_, _*_, _%_, _≤_, _<_}
 use mathlib.Core.Path.{_≡_, refl, sym, _∙_}
+use mathlib.Core.Logic.{_⊎_, inl, inr}
 use mathlib.Core.Bool.{Bool, true, false, not, _&&_, _||_}
 use native.Mathlib.Nat.{mod-lt, not-suc-le-zero}
 use native.Mathlib.Omega.{arith}
@@ -9,7 +10,7 @@ use lib.ListN.{getD}
 use lib.Seq.{slice}
 use borrow.Author.Tests.{eq-eqb, le-leb}
 use Rattle.block.specs.Answers.{headerOf}
-use Rattle.memory.specs.Memory.{Memory, ownerAt, span, slotLimit, withGroup}
+use Rattle.memory.specs.Memory.{Memory, ownerAt, span, withGroup}
 use Rattle.memory.specs.Notices.{Notice, isOut, withNotice}
 use Rattle.memory.specs.Turns.{placeStart, blockIn, isEmpty}
 use Rattle.engine.specs.Notices.{placedFrom, noticeRefusal}
@@ -51,22 +52,29 @@ module _ {over : ℕ} (m : Memory) (S : Shape over m) where
     pub about-few : a .about < 6
     about-few = let h = notice-passed m a e .about in omega (arith, S .ranges .most)
 
-    -- of the slots from the turn on, one out before or one that an Out puts out, with nothing waiting for it
-    clear : (s : ℕ) → m .turn .slot ≤ s → s < m .turn .slot + span (m .group) → isOut (withNotice (m .group) a) s ≡ true → isEmpty (span (m .group)) s (m .blocks .places) ≡ true
-    clear s lo hi u =
+    -- a slot that is out then was out before, or the notice is an Out of its owner from it or an earlier one on
+    pub newly-out : (s : ℕ) → isOut (withNotice (m .group) a) s ≡ true
+        → (isOut (m .group) s ≡ true) ⊎ ((a .out ≡ true) × (ownerAt (m .group) s ≡ a .about) × (a .slot ≤ s))
+    newly-out s u =
         let o = in-outage (withNotice (m .group) a) s u in
         same-by (ownerAt (m .group) s) (a .about)
         (λ q. bool-by (a .out)
-        (λ b. bool-by (isEmpty (span (m .group)) s (m .blocks .places)) (λ z. z)
-        (λ z. clash (placed-for (a .slot) s lo hi (let f = from-out (m .group) a b (let h = about-few in omega (arith, S .lengths .from)) in rw (q, f) at (o .low)) z)
-        (rw q (out-passed m a e b .unplaced))))
-        (λ b. let k = back-passed m a e b in
-        S .places .clear s lo hi (is-out (m .group) s (record {
+        (λ b. let f = from-out (m .group) a b (let h = about-few in omega (arith, S .lengths .from)) in inr (b, q, rw (q, f) at (o .low)))
+        (λ b. inl (is-out (m .group) s (record {
           slot = o .slot;
           low = rw (from-back (m .group) a b) at (o .low);
-          high = rw (q, k .endless) (o .slot);
+          high = rw (q, back-passed m a e b .endless) (o .slot);
         }))))
-        (λ d. S .places .clear s lo hi (sym (out-other (m .group) a s d) ∙ u))
+        (λ d. inl (sym (out-other (m .group) a s d) ∙ u))
+
+    clear : (s : ℕ) → m .turn .slot ≤ s → s < m .turn .slot + span (m .group) → isOut (withNotice (m .group) a) s ≡ true → isEmpty (span (m .group)) s (m .blocks .places) ≡ true
+    clear s lo hi u = go (newly-out s u)
+      where
+        go : (isOut (m .group) s ≡ true) ⊎ ((a .out ≡ true) × (ownerAt (m .group) s ≡ a .about) × (a .slot ≤ s)) → isEmpty (span (m .group)) s (m .blocks .places) ≡ true
+        go (inl v) = S .places .clear s lo hi v
+        go (inr n) =
+            bool-by (isEmpty (span (m .group)) s (m .blocks .places)) (λ z. z)
+            (λ z. clash (placed-for (a .slot) s lo hi (n .2) z) (rw (n .1) (out-passed m a e (n .0) .unplaced)))
 
     pub shape-noticed : Shape over (withGroup m (withNotice (m .group) a))
     shape-noticed =
