@@ -232,4 +232,5 @@ pub record RightAnswers : Type 0 where
       ≡ restarted 4 (nextBlock 2 1 1)
       ∷ restarted 4 (replicate 512 0)
       ∷ []
-  pub restart-in-force : numbers (restartNoticed (outFrom 0 4 ∷ []) .memory) (work ∷ work ∷ []) ≡ 0 ∷ 21 ∷ []
+  -- 11 is before 29
+  pub restart-in-force : numbers (restartNoticed (outFrom 0 4 ∷ []) .memory) (send (replicate 512 0) ∷ work ∷ work ∷ []) ≡ 11 ∷ 0 ∷ 21 ∷ []
