@@ -1,18 +1,17 @@
 -- There is a first own slot after a turn that a list of calls does not pass as out. Assumes nothing.
 use Prim.Native.Nat.{ℕ, zero, suc, _+_, _-_, _≤_, _<_, max}
-use mathlib.Core.Path.{_≡_, refl, sym, ap, _∙_}
+use mathlib.Core.Path.{_≡_, refl}
 use mathlib.Core.Bool.{Bool, true, false, not, _&&_}
 use mathlib.Core.List.{List, [], _∷_}
 use native.Mathlib.Omega.{arith}
 use lib.Dec.{eqb}
-use borrow.Author.Tests.{eqb-true, eq-eqb, ne-eqb, not-true, not-false}
+use borrow.Author.Tests.{eqb-true, eq-eqb, not-true}
 use Rattle.block.proofs.BoolLaws.{both, joined, not-so}
 use Rattle.memory.specs.Memory.{Memory, ownerAt}
 use Rattle.engine.specs.History.{AnyCall, anyStep}
 use Rattle.engine.specs.History.AnyCall.{call, restart}
 use Rattle.engine.proofs.Tests.{bool-by, same-by, clash}
 use Rattle.engine.proofs.PlaceLaws.{own-slot}
-use Rattle.engine.proofs.Passed.{neither}
 use Rattle.engine_waiting.specs.Waiting.{leavesOut, passedOut, FirstSlot}
 
 -- the first number from a on that passes a test
@@ -27,12 +26,14 @@ least p (suc k) a h =
     bool-by (p a)
     (λ e. (a, record { above = omega arith; passes = e; others = λ u l g. absurd (omega arith) }))
     (λ e. let z : a + suc k ≡ suc a + k = omega arith in
-    let f = least p k (suc a) (rw z at h) in
-    (f .0, record {
-      above = let l = f .1 .above in omega arith;
-      passes = f .1 .passes;
-      others = λ u l g. same-by u a (λ y. rw y e) (λ y. f .1 .others u (omega (arith, y)) g);
-    }))
+    let f = least p k (suc a) (rw z at h) in (
+      f .0,
+      record {
+        above = let l = f .1 .above in omega arith;
+        passes = f .1 .passes;
+        others = λ u l g. same-by u a (λ y. rw y e) (λ y. f .1 .others u (omega (arith, y)) g);
+      },
+    ))
 
 -- above every turn that the calls come by, and so above every slot that they pass
 unfoldable ceiling : Memory → List AnyCall → ℕ
@@ -69,10 +70,12 @@ module _ (m : Memory) (below : m .group .own < m .group .replicas) (t : ℕ) (cs
   pub first-slot : (s : ℕ) × FirstSlot m t cs s
   first-slot =
       let f = some-slot in
-      let b = both (eqb (ownerAt (m .group) (f .0)) (m .group .own)) (not (passedOut (f .0) m cs)) (f .1 .passes) in
-      (f .0, record {
-        above = f .1 .above;
-        own = eqb-true (ownerAt (m .group) (f .0)) (m .group .own) (b .left);
-        counts = not-true (passedOut (f .0) m cs) (b .right);
-        first = λ u l g o. bool-by (passedOut u m cs) (λ e. e) (λ e. clash (is-counted u o e) (f .1 .others u l g));
-      })
+      let b = both (eqb (ownerAt (m .group) (f .0)) (m .group .own)) (not (passedOut (f .0) m cs)) (f .1 .passes) in (
+        f .0,
+        record {
+          above = f .1 .above;
+          own = eqb-true (ownerAt (m .group) (f .0)) (m .group .own) (b .left);
+          counts = not-true (passedOut (f .0) m cs) (b .right);
+          first = λ u l g o. bool-by (passedOut u m cs) (λ e. e) (λ e. clash (is-counted u o e) (f .1 .others u l g));
+        },
+      )
