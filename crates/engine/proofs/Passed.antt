@@ -112,7 +112,7 @@ withdraw-passed m t e =
     let a = passes _ _ refl e in
     row-passed m t (a .0) (passes _ _ refl (a .1) .0)
 
-neither : (a b : Bool) → a || b ≡ false → (a ≡ false) × (b ≡ false)
+pub neither : (a b : Bool) → a || b ≡ false → (a ≡ false) × (b ≡ false)
 neither true b h = clash {b = true} refl h
 neither false b h = (refl, h)
 

@@ -20,3 +20,4 @@ pub mod OwnSent
 pub mod Station
 pub mod Restarts
 pub mod Tickets
+pub mod NoticeClaims
