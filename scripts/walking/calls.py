@@ -211,8 +211,8 @@ CALLS = {
             "restart", "call_restart.restart", "Restarted", "RestartReply",
             [("table", TABLE_MUT), ("group", GROUP_MUT), ("turn", TURN_MUT), ("counts", COUNTS_MUT), ("size", U32), ("me", U32), ("start", shared("i32")), ("queue", mut("u32")),
              ("items", mut("u8")), ("writes", mut("i32")), ("snapshots", mut("i32")), ("values", mut("i32")), ("stamps", mut("u32")),
-             ("classes", mut("u8")), ("places", mut("u8")), ("outbox", mut("u8")), ("journal", shared("u8")), ("block", mut("u8"))],
-            "no_restart", "allParts {g} {h} {c} {t} " + ALL, "restartStep {m} size me start journal block", "", "allParts {g} {h} {c} {t} " + LATER, "restartReply",
+             ("classes", mut("u8")), ("places", mut("u8")), ("outbox", mut("u8")), ("journal", shared("u8")), ("notices", shared("u32")), ("block", mut("u8"))],
+            "no_restart", "allParts {g} {h} {c} {t} " + ALL, "restartLent {m} size me start journal notices block", "", "allParts {g} {h} {c} {t} " + LATER, "restartReply",
         ),
         Call(
             "begin", "call_client.begin", "Begun", "BeginReply",

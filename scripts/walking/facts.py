@@ -162,8 +162,9 @@ BESIDE = {
     "write": "(6 ≤ at → r .row ≡ t)",
     "make": "(r .group ≡ ifMade (r .number) (groupOf size me) (groupOf 0 0)) × (r .turn ≡ turnZero) × (r .counts ≡ countsZero)",
     "station": "(r .group ≡ ifMade (r .number) (groupOf size noNumber) (groupOf 0 0)) × (r .turn ≡ turnZero) × (r .counts ≡ countsZero)",
-    "restart": "(r .group ≡ ifMade (r .reply .number) (groupOf size me) (groupOf 0 0)) × (r .turn ≡ ifMade (r .reply .number) (restartedMemory size me start (blocksIn size journal) .turn) turnZero)"
-               " × (r .counts ≡ ifMade (r .reply .number) (restartedMemory size me start (blocksIn size journal) .counts) countsZero)",
+    "restart": "(r .group ≡ ifMade (r .reply .number) (withNotices (groupOf size me) (noticesIn notices)) (groupOf 0 0))"
+               " × (r .turn ≡ ifMade (r .reply .number) (restartedMemory size me start (noticesIn notices) (blocksIn size journal) .turn) turnZero)"
+               " × (r .counts ≡ ifMade (r .reply .number) (restartedMemory size me start (noticesIn notices) (blocksIn size journal) .counts) countsZero)",
 }
 
 # what a call that is lent no table says
@@ -181,11 +182,12 @@ SAYS = "-- What each call says by value (`On`), what it says of the lent parts (
 
 # the modules that the facts may use, and what of each; a file uses what it names
 MODULES = [
+    ("Rattle.memory.specs.Notices", "withNotices"),
     ("Rattle.memory.specs.Rows", "closed, endRows, rowOf, rowAt"),
     ("Rattle.engine.specs.Make", "turnZero, countsZero, makeStep"),
     ("Rattle.engine.specs.Station", "stationStep"),
     ("Rattle.engine.specs.Answers", "unlessStation"),
-    ("Rattle.engine.specs.Restart", "blocksIn, restartedMemory, restartStep"),
+    ("Rattle.engine.specs.Restart", "blocksIn, restartedMemory"),
     ("Rattle.engine.specs.Client", "beginRow, beginStep, readRow, readStep, writeRow, writeStep, askRow, askStep, withdrawRow, withdrawStep, reportStep"),
     ("Rattle.engine.specs.Moves", "sendStep, deliverStep, workStep"),
     ("Rattle.engine.specs.Classes", "loadStep"),
@@ -194,6 +196,7 @@ MODULES = [
     *((f"Rattle.call_reply.specs.declared.{t}", t) for t in
       ["BeginReply", "ReadReply", "AskReply", "ReportReply", "WorkReply", "RestartReply", "Changed", "Begun", "Asked", "Made", "Restarted", "Sent", "Worked"]),
     ("Rattle.call_reply.specs.Called", "called, withBlock"),
+    ("Rattle.call_reply.specs.Notices", "noticesIn, restartLent"),
     ("Rattle.call_make.specs.Made", "ifMade"),
     ("Rattle.call_work.specs.Works", "endedMarks"),
     ("Rattle.host_table.specs.Table", "loaded"),
