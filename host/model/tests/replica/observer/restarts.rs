@@ -45,6 +45,7 @@ fn lent(k: usize, journal: Vec<u8>) -> Restart {
         own: k as u32,
         values: start_values().to_vec(),
         journal,
+        notices: Vec::new(),
     }
 }
 
