@@ -130,7 +130,8 @@ impl<S: Subject> Group<S> {
         self.seen.feed(n, &self.tallies[k], call, &answer);
         let before = (self.tallies[k].report.turn, self.tallies[k].is_out(n));
         self.tallies[k].feed(call, &answer);
-        self.waits.feed(n, k, before, call, &answer, &self.tallies[k]);
+        self.waits
+            .feed(n, k, before, call, &answer, &self.tallies[k]);
         self.feed_delivery(k, call, &answer);
         if let Ok(Answer::Block(block)) = &answer {
             let slot = block::header(block).slot;

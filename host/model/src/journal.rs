@@ -107,12 +107,7 @@ impl Journal {
 
     /// Takes in one call and its answer. `out` is the *next* of the turn's slot, where the notices taken
     /// put that out.
-    pub fn feed(
-        &mut self,
-        call: &Call,
-        answer: &Result<Answer, u8>,
-        out: Option<&[u8; BLOCK]>,
-    ) {
+    pub fn feed(&mut self, call: &Call, answer: &Result<Answer, u8>, out: Option<&[u8; BLOCK]>) {
         match (call, answer) {
             (_, Ok(Answer::Block(block))) => {
                 self.bytes.extend_from_slice(&**block);

@@ -229,7 +229,13 @@ pub fn notice(random: &mut Random, n: u32, turn: u32, taken: &[Notice]) -> Notic
     let behind = last.map_or(turn, |last| last.slot) + random.below(3) as u32;
     let near = turn + random.below(2 * n as usize) as u32;
     let slot = match random.below(30) {
-        0 => random.pick(&[MAX_SLOT, MAX_SLOT + 1, MAX_SLOT + 1, near + (1 << 27), u32::MAX]),
+        0 => random.pick(&[
+            MAX_SLOT,
+            MAX_SLOT + 1,
+            MAX_SLOT + 1,
+            near + (1 << 27),
+            u32::MAX,
+        ]),
         1..4 => turn.saturating_sub(1 + random.below(2) as u32),
         4..10 => behind,
         10..16 => turn,

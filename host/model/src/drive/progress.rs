@@ -48,7 +48,9 @@ impl<S: Subject> Group<S> {
             open.iter().all(|&other| {
                 let taken = &self.tallies[other].notices;
                 let last = notice::about(taken, k).next_back();
-                let from = last.filter(|last| last.kind == Kind::Out).map(|last| last.slot);
+                let from = last
+                    .filter(|last| last.kind == Kind::Out)
+                    .map(|last| last.slot);
                 // A group that begins late has no blocks of before.
                 let first = self.blocks.keys().next().copied().unwrap_or(0);
                 let passed = |slot: &u32| {

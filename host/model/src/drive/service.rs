@@ -195,8 +195,8 @@ impl<S: Subject> Group<S> {
             2 if self.is_closed(k) => self.open(k),
             2 => drop(self.close(k)),
             _ if self.is_closed(member) => {}
-            3 => self.refused_notice(random, member),
-            4..8 => self.take_all(member),
+            3..6 => self.refused_notice(random, member),
+            6..8 => self.take_all(member),
             _ => drop(self.take_next(member, about, u32::MAX)),
         }
     }

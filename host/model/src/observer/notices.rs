@@ -52,9 +52,14 @@ impl Observer {
             // The longest one does, if any does: each must be a beginning of it.
             let list = self.longest(replica);
             self.beginnings(replica, &list)?;
-            let mut slots = self.sent.keys().filter(|&slot| slot % self.replicas() == replica);
+            let mut slots = self
+                .sent
+                .keys()
+                .filter(|&slot| slot % self.replicas() == replica);
             if let Some(slot) = slots.find(|&&s| notice::puts_out(&list, self.replicas(), s)) {
-                return Err(format!("a block was handed out for slot {slot}, which is out"));
+                return Err(format!(
+                    "a block was handed out for slot {slot}, which is out"
+                ));
             }
         }
         Ok(())

@@ -277,7 +277,11 @@ impl<P: Player, M: Fn(u32, Option<u32>, &[i32; ITEMS]) -> Result<P, u8>> Playing
             own: k as u32,
             values: vec![self.start; ITEMS],
             journal,
-            notices: self.notices.get(&Who::Replica(k)).cloned().unwrap_or_default(),
+            notices: self
+                .notices
+                .get(&Who::Replica(k))
+                .cloned()
+                .unwrap_or_default(),
         };
         let answer = self.players[k].restart(&restart);
         let restarted = answer.map_err(|number| format!("the restart is refused by {number}"))?;

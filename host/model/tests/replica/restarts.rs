@@ -33,7 +33,8 @@ fn four_blocks() -> Vec<u8> {
 #[test]
 fn refused_as_a_make() {
     let values = start_values();
-    let refused = |n, own, values: &[i32]| Replica::restart(n, own, values, &four_blocks(), &[]).err();
+    let refused =
+        |n, own, values: &[i32]| Replica::restart(n, own, values, &four_blocks(), &[]).err();
     for (n, own) in [(0, 0), (1, 0), (7, 0), (2, 2), (6, 6), (258, 0), (2, 256)] {
         assert_eq!(refused(n, own, &values), Some(2), "{n}, {own}");
         assert_eq!(refused(n, own, &values[1..]), Some(1), "{n}, {own}");

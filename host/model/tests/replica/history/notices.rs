@@ -28,7 +28,10 @@ impl Historical {
             return Err(2);
         }
         let (from, until) = self.outage(notice.about);
-        let of_it = self.received.iter().filter(|m| u32::from(m.sender) == notice.about);
+        let of_it = self
+            .received
+            .iter()
+            .filter(|m| u32::from(m.sender) == notice.about);
         // What is received and not worked off.
         let placed = { of_it }.any(|m| m.slot >= turn && m.slot >= slot);
         let sent = self.own == Some(notice.about) && self.present_block().is_some() && turn >= slot;
