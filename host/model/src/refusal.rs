@@ -47,6 +47,6 @@ pub const LOAD_WHILE_APPLYING: u8 = 23;
 pub const STATION_ONLY_READS: u8 = 25;
 /// A notice that comes too late, or does not follow on those about its replica, or puts a slot out for
 /// which a block of it is here.
-pub const NOTICE_DOES_NOT_FIT: u8 = 28;
+pub const NOTICE_REFUSED: u8 = 28;
 /// The slot is out: nothing is sent or delivered for it.
-pub const OUT_SLOT: u8 = 29;
+pub const SLOT_OUT: u8 = 29;

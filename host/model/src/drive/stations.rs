@@ -3,7 +3,7 @@
 
 use super::{Group, Subject, Tally};
 use crate::block;
-use crate::refusal::{FAR_SLOT, OUT_SLOT};
+use crate::refusal::{FAR_SLOT, SLOT_OUT};
 use crate::samples::Random;
 use crate::trace::{Answer, Call};
 
@@ -50,7 +50,7 @@ impl<S: Subject> Group<S> {
             return;
         }
         // Who may still have to take it was not given it.
-        if !matches!(answer, Err(FAR_SLOT | OUT_SLOT)) {
+        if !matches!(answer, Err(FAR_SLOT | SLOT_OUT)) {
             self.given.insert((k, slot));
         }
         match answer {

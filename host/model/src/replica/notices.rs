@@ -3,7 +3,7 @@
 use super::{Replica, Work};
 use crate::block::{self, Message, BLOCK, MAX_SLOT};
 use crate::notice::{self, Kind, Notice};
-use crate::refusal::{NOTICE_DOES_NOT_FIT, OUT_OF_RANGE};
+use crate::refusal::{NOTICE_REFUSED, OUT_OF_RANGE};
 
 impl Replica {
     /// Takes a notice. Nothing but the list of those taken changes. Refused by 2, 28.
@@ -16,7 +16,7 @@ impl Replica {
             Kind::Back => self.may_come_back(notice),
         };
         if self.turn > notice.slot || !fits {
-            return Err(NOTICE_DOES_NOT_FIT);
+            return Err(NOTICE_REFUSED);
         }
         self.notices.push(notice);
         Ok(())

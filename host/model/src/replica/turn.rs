@@ -3,8 +3,8 @@
 use super::{Replica, Stage, Transaction, Work, ITEMS, SLOTS};
 use crate::block::{self, Header, Message, Record, BLOCK, NEXT, TO_COMMIT};
 use crate::refusal::{
-    ALREADY_SENT, FAR_SLOT, NOTHING_WAITS, NOT_OUR_TURN, NOT_SENT, OUT_SLOT, PAST_SLOT,
-    SLOTS_SPENT, SLOT_TAKEN, STATION_ONLY_READS, WRONG_GROUP, WRONG_LENGTH,
+    ALREADY_SENT, FAR_SLOT, NOTHING_WAITS, NOT_OUR_TURN, NOT_SENT, PAST_SLOT, SLOTS_SPENT,
+    SLOT_OUT, SLOT_TAKEN, STATION_ONLY_READS, WRONG_GROUP, WRONG_LENGTH,
 };
 
 impl Replica {
@@ -19,7 +19,7 @@ impl Replica {
             return Err(NOT_OUR_TURN);
         }
         if self.is_out(self.turn) {
-            return Err(OUT_SLOT);
+            return Err(SLOT_OUT);
         }
         if self.outbox.is_some() {
             return Err(ALREADY_SENT);
@@ -72,7 +72,7 @@ impl Replica {
             return Err(PAST_SLOT);
         }
         if self.is_out(header.slot) {
-            return Err(OUT_SLOT);
+            return Err(SLOT_OUT);
         }
         if header.slot >= self.turn + replicas as u32 {
             return Err(FAR_SLOT);

@@ -12,8 +12,8 @@ use crate::replica::ITEMS;
 use crate::samples::{block_of, Writes};
 use crate::trace::{Answer, Call, Restart};
 
-/// The most passes of one `stabilize`: far more than any scene needs.
-const PASSES: usize = 1_000;
+/// The most passes of one `stabilize`, and the most works in a row: far more than any scene needs.
+const PASSES: usize = 200;
 
 pub(super) struct Playing<P, M> {
     make: M,
