@@ -56,7 +56,7 @@ fn said<T>(given: Result<T, Failure>) -> String {
 
 /// The blocks of slots 0 to `slots` − 1 of a group of 2, by replica 0 and its peer.
 fn fill(replica: &mut Durable, slots: u32) -> Vec<[u8; BLOCK]> {
-    let (mut peer, _) = Replica::restart(2, 1, &[0; ITEMS], &[]).unwrap();
+    let (mut peer, _) = Replica::restart(2, 1, &[0; ITEMS], &[], &[]).unwrap();
     let mut blocks = Vec::new();
     for slot in 0..slots {
         let block = match slot % 2 {
@@ -132,7 +132,7 @@ fn a_failed_append() {
     let block = replica.send().unwrap();
     replica.take(&block).unwrap();
     // A work that cannot append.
-    let (mut peer, _) = Replica::restart(2, 1, &[0; ITEMS], &writable[HEAD..]).unwrap();
+    let (mut peer, _) = Replica::restart(2, 1, &[0; ITEMS], &writable[HEAD..], &[]).unwrap();
     peer.take(&block).unwrap();
     let next = peer.send().unwrap();
     replica.journal.disk.file = File::open(room.journal()).unwrap();

@@ -109,7 +109,7 @@ fn over_used_parts(random: &mut Random, restart: &Restart, both: &Both) {
     };
     let answer = used.call("restart");
     let values = &start_values();
-    let given = Replica::restart(restart.n, restart.own, values, &restart.journal);
+    let given = Replica::restart(restart.n, restart.own, values, &restart.journal, &[]);
     let (fresh, restarted) = given.unwrap();
     let due = format!("RestartReply {{ number: 0, count: {} }}", restarted.blocks);
     assert_eq!(answer, (0, due));

@@ -16,7 +16,7 @@ impl Simulated {
     /// Takes in the steps of the journal, and gives the disk as it was before each.
     fn steps(&mut self) -> Vec<Simulated> {
         let mut before = Vec::new();
-        for step in told::taken() {
+        for (_, step) in told::taken() {
             before.push(Simulated {
                 sure: self.sure.clone(),
                 since: self.since.clone(),
@@ -231,7 +231,8 @@ fn behind_a_failed_sync() {
     replica.send().unwrap_err();
     drop(replica);
     let since = told::taken();
-    let since = since.into_iter().filter(|step| *step != Step::Sync);
+    let since = since.into_iter().map(|(_, step)| step);
+    let since = since.filter(|step| *step != Step::Sync);
     let disk = Simulated {
         sure,
         since: since.collect(),
