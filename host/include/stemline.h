@@ -125,7 +125,7 @@ typedef struct stemline_replica {
 /* The most steps of one take, and the most slots that it leaves: 6 blocks wait at most, of 6 writesets
  * each, and behind them come at most 5 slots that are out, while not all replicas are out at once. */
 #define STEMLINE_STEPS 41
-#define STEMLINE_LEFT 11
+#define STEMLINE_LEFT 11 /* so many blocks are there at most to append */
 
 typedef struct stemline_take_reply {
     uint8_t number;  /* the deliver's: a take is refused where its deliver is */
@@ -361,13 +361,15 @@ static inline void stemline_replica_take_into(
     reply->count = 0;
     reply->append_count = 0;
     bool waits = reply->number == STEMLINE_ACCEPTED && stemline_replica_waits(r);
-    while (waits && reply->count < STEMLINE_STEPS && reply->append_count < STEMLINE_LEFT) {
+    int left = 0;
+    while (waits && reply->count < STEMLINE_STEPS && left < STEMLINE_LEFT) {
         stemline_work_reply work = stemline_replica_work(r, reply->append[reply->append_count]);
         if (work.number != STEMLINE_ACCEPTED) {
             break; /* 21: behind a deliver no work of this struct is refused by another */
         }
         reply->steps[reply->count++] = work;
         reply->append_count = (uint8_t)(reply->append_count + work.append);
+        left += work.moved;
         waits = !work.moved || stemline_replica_waits(r);
     }
 }

@@ -186,9 +186,11 @@ void plain_take(plain_replica *r, const uint8_t *bytes, size_t length, plain_tak
     if (taken->number != STEMLINE_ACCEPTED) {
         return;
     }
-    while (waits(r) && taken->count < PLAIN_STEPS && taken->append_count < PLAIN_LEFT) {
+    int left = 0;
+    while (waits(r) && taken->count < PLAIN_STEPS && left < PLAIN_LEFT) {
         stemline_work_reply *step = &taken->steps[taken->count++];
         *step = plain_work(r, taken->append[taken->append_count]);
+        left += step->moved;
         taken->append_count = (uint8_t)(taken->append_count + step->append);
     }
 }

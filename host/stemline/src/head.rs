@@ -168,7 +168,8 @@ impl Head {
 
     /// The digest by which a file of notices is this journal's.
     pub(crate) fn identity(&self) -> u64 {
-        digest(START, &self.noticed(false).bytes())
+        // Without the digest in it, as in `common`.
+        digest(START, &self.noticed(false).bytes()[..CHECK])
     }
 
     /// The copies of its last rounds that are whole, at most two, of a file that begins with these bytes:

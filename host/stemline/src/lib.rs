@@ -116,6 +116,8 @@ pub const BLOCK: usize = 512;
 /// The most steps of one [`Replica::take`], while not all replicas are out at once: 6 blocks wait at most, of
 /// 6 writesets each, and behind them come at most 5 slots that are out.
 pub const STEPS: usize = 41;
+/// The most slots that one [`Replica::take`] leaves, so: 6 with a block, and 5 that are out.
+pub const LEFT: usize = 11;
 /// In the place of an own number: a station, which has none.
 pub const NO_NUMBER: u8 = 255;
 

@@ -5,8 +5,8 @@ use std::fmt;
 use crate::ffi::Group;
 use crate::{owner, SLOTS};
 
-/// A notice that a replica or a station takes. `{}` writes it in document 02's words: `out 2 from 14`,
-/// `back 2 at 20`.
+/// A notice that a replica or a station takes. `{}` writes it in document 02's words: `Out 2 from 14`,
+/// `Back 2 at 20`.
 #[derive(Clone, Copy, Debug, PartialEq, Eq, Hash)]
 pub enum Notice {
     /// The replica's slots from this one on are out.
@@ -90,8 +90,8 @@ impl Group {
 impl fmt::Display for Notice {
     fn fmt(&self, f: &mut fmt::Formatter) -> fmt::Result {
         match self {
-            Notice::Out { replica, slot } => write!(f, "out {replica} from {slot}"),
-            Notice::Back { replica, slot } => write!(f, "back {replica} at {slot}"),
+            Notice::Out { replica, slot } => write!(f, "Out {replica} from {slot}"),
+            Notice::Back { replica, slot } => write!(f, "Back {replica} at {slot}"),
         }
     }
 }
@@ -102,7 +102,7 @@ mod tests {
 
     #[test]
     fn there_and_back() {
-        let notices = [(0, "back 2 at 14"), (1, "out 2 from 14")];
+        let notices = [(0, "Back 2 at 14"), (1, "Out 2 from 14")];
         for (out, words) in notices {
             let notice = Notice::of([2, out, 14]).unwrap();
             assert_eq!(notice.numbers(), [2, out, 14]);

@@ -273,7 +273,7 @@ impl<C: Write, A: Write> Recorder<C, A> {
     pub fn take(&mut self, bytes: &[u8]) -> Result<Taken, Refusal> {
         self.deliver(bytes)?;
         let waits = |recorder: &Self| recorder.replica.waits();
-        Ok(works(self, waits, Recorder::work))
+        Ok(works(self, waits, Recorder::work, |work| work.moved))
     }
 }
 

@@ -3,7 +3,7 @@
 use crate::ffi::{self, WorkReply};
 use crate::{
     accepted, owner, Asked, Memory, Notice, Refusal, Report, Restarted, Taken, Work, BLOCK, ITEMS,
-    NO_NUMBER, SLOTS, STEPS,
+    LEFT, NO_NUMBER, SLOTS, STEPS,
 };
 
 /// One replica of a group.
@@ -294,11 +294,13 @@ impl Replica {
     /// already goes on waiting. So it is with a block that comes a second time (17 or 20), which a
     /// host may pass over.
     ///
-    /// Only altered memory, and slots of which all are out, lead to more than [`STEPS`] steps; the rest is
-    /// left to the next take.
+    /// Only altered memory, and slots of which all are out, lead to more than [`STEPS`] steps or [`LEFT`]
+    /// slots; the rest is left to the next take.
     pub fn take(&mut self, bytes: &[u8]) -> Result<Taken, Refusal> {
         self.deliver(bytes)?;
-        Ok(works(self, Replica::waits, Replica::work))
+        Ok(works(self, Replica::waits, Replica::work, |work| {
+            work.moved
+        }))
     }
 }
 
@@ -307,11 +309,13 @@ pub(crate) fn works<R, W>(
     replica: &mut R,
     waits: impl Fn(&R) -> bool,
     mut work: impl FnMut(&mut R) -> Result<W, Refusal>,
+    moved: impl Fn(&W) -> bool,
 ) -> Taken<W> {
-    let mut steps = Vec::new();
-    while steps.len() < STEPS && waits(replica) {
+    let (mut steps, mut left) = (Vec::new(), 0);
+    while steps.len() < STEPS && left < LEFT && waits(replica) {
         // Only at altered memory is it refused.
         let Ok(step) = work(replica) else { break };
+        left += usize::from(moved(&step));
         steps.push(step);
     }
     Taken { steps }

@@ -188,6 +188,8 @@ impl Station {
     /// sender will not hand it out for ever.
     pub fn take(&mut self, bytes: &[u8]) -> Result<Taken<Step>, Refusal> {
         self.deliver(bytes)?;
-        Ok(works(self, Station::waits, Station::work))
+        Ok(works(self, Station::waits, Station::work, |step| {
+            step.moved
+        }))
     }
 }

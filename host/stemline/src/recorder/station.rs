@@ -139,6 +139,6 @@ impl<C: Write, A: Write> StationRecorder<C, A> {
     pub fn take(&mut self, bytes: &[u8]) -> Result<Taken<Step>, Refusal> {
         self.deliver(bytes)?;
         let waits = |station: &Self| station.recorder.replica.waits();
-        Ok(works(self, waits, StationRecorder::work))
+        Ok(works(self, waits, StationRecorder::work, |step| step.moved))
     }
 }

@@ -191,7 +191,7 @@ fn refused_restarts() {
             };
             let mut after = before.clone();
             let answer = after.call("restart");
-            let crate_says = Replica::restart(n, own_number, &start_values(), &own);
+            let crate_says = Replica::restart(n, own_number, &start_values(), &own, &[]);
             if (2..=6).contains(&n) && own_number < n {
                 assert!(crate_says.is_ok());
             } else {
