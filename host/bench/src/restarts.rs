@@ -32,7 +32,7 @@ pub fn run() {
         "restart, for each block",
         vec![
             side(&|values, journal| {
-                let restarted = stemline::Replica::restart(N, OWN, values, journal);
+                let restarted = stemline::Replica::restart(N, OWN, values, journal, &[]);
                 restarted.unwrap().1.blocks
             }),
             side(&|values, journal| {
@@ -83,7 +83,7 @@ fn agree(journal: &[u8]) {
     let values = [0; ITEMS];
     for bytes in [journal.len(), journal.len() - 1, 513, 512, 0] {
         let journal = &journal[..bytes];
-        let (a, first) = stemline::Replica::restart(N, OWN, &values, journal).unwrap();
+        let (a, first) = stemline::Replica::restart(N, OWN, &values, journal, &[]).unwrap();
         let (b, other) = plain::Replica::restart(N, OWN, &values, journal).unwrap();
         let (c, third) = second::Replica::restart(N, OWN, &values, journal).unwrap();
         assert_eq!((first.blocks, first.last), (other.blocks, other.last));

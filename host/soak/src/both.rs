@@ -148,7 +148,7 @@ impl Powered for Both {
 /// A restart by the library, its answer as the model's. A refused one leaves the replica.
 pub fn restarted(replica: &mut Replica, restart: &Restart) -> Result<Restarted, u8> {
     let values = restart.values[..].try_into().expect("128 values");
-    let given = Replica::restart(restart.n, restart.own, values, &restart.journal);
+    let given = Replica::restart(restart.n, restart.own, values, &restart.journal, &[]);
     let (new, restarted) = given.map_err(Refusal::number)?;
     *replica = new;
     Ok(Restarted {

@@ -133,9 +133,9 @@ pub fn run_with_cuts(seed: u64) -> Seen {
     seen
 }
 
-/// The refusal numbers: there is no 22 any more, and no 24.
-pub const NUMBERS: [usize; 23] = [
-    1, 2, 3, 4, 5, 6, 7, 8, 9, 10, 11, 12, 13, 14, 15, 16, 17, 18, 19, 20, 21, 23, 25,
+/// The refusal numbers: there is no 22 any more, and no 24; 26 and 27 are the program `week`'s.
+pub const NUMBERS: [usize; 25] = [
+    1, 2, 3, 4, 5, 6, 7, 8, 9, 10, 11, 12, 13, 14, 15, 16, 17, 18, 19, 20, 21, 23, 25, 28, 29,
 ];
 
 /// How often each refusal number came back, and how often stations refused by 18 what was handed out.

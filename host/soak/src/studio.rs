@@ -123,7 +123,7 @@ impl Studio {
     /// That all the memory is the model's. It is not given out, but shown.
     fn check_memory(&self, durable: &Durable, restart: &Restart) {
         let (n, own) = (restart.n, restart.own);
-        let made = Replica::restart(n, own, &start_values(), &restart.journal);
+        let made = Replica::restart(n, own, &start_values(), &restart.journal, &[]);
         let (library, _) = made.unwrap();
         same(&self.model, library.memory());
         assert!(format!("{durable:?}").contains(&format!("{library:?}")));

@@ -258,10 +258,12 @@ fn any_bytes() {
         ("ask", 3),
         ("withdraw", 3),
         ("report", 1),
-        ("send", 5),
-        ("deliver", 7),
+        ("send", 6),
+        ("deliver", 8),
         ("work", 3),
         ("load", 4),
+        ("out", 4),
+        ("back", 4),
     ];
     assert_eq!(lines.len(), least.len(), "{said}");
     for (line, (name, numbers)) in lines.into_iter().zip(least) {
@@ -300,7 +302,7 @@ fn refused_makes() {
                     hold(number == STEMLINE_OUT_OF_RANGE && same(&s.r, &before.r), "make_station");
                 }
                 stemline_restart_reply reply =
-                    stemline_replica_restart(&s.r, sizes[i], 6, start, NULL, 0, block);
+                    stemline_replica_restart(&s.r, sizes[i], 6, start, NULL, 0, NULL, 0, block);
                 hold(reply.number == STEMLINE_OUT_OF_RANGE && same(&s.r, &before.r), "restart");
                 hold(reply.count == 0 && block[0] == 7 && block[511] == 7, "restart: the block");
             }

@@ -58,7 +58,13 @@ fn structs_have_one_layout() {
     let (mut due, mut lines) = (String::new(), String::new());
     layout!(due, lines, "stemline_txn", Txn, ticket stage snapshot writes);
     layout!(due, lines, "stemline_turn", Turn, slot sent applying);
-    layout!(due, lines, "stemline_group", Group, replicas own);
+    layout!(due, lines, "stemline_group", Group, replicas own from until);
+    // As a restart is lent them: three numbers, one behind the other.
+    due.push_str("12 0 4 8\n");
+    lines.push_str(
+        "printf(\"%zu %zu %zu %zu\\n\", sizeof(stemline_notice), offsetof(stemline_notice, replica),\n\
+         offsetof(stemline_notice, out), offsetof(stemline_notice, slot));\n",
+    );
     layout!(due, lines, "stemline_counts", Counts,
         commits done tickets committed read_only aborted withdrawn);
     layout!(due, lines, "stemline_report_values", Report,
@@ -116,7 +122,7 @@ fn limits_have_one_name() {
     let rust = limits(include_str!("../../src/lib.rs"), "pub const ", &[':'], ';');
     assert_eq!(c, rust);
     assert!(
-        rust.len() == 11 && rust["ITEMS"] == ITEMS as u64,
+        rust.len() == 12 && rust["ITEMS"] == ITEMS as u64,
         "{rust:?}"
     );
 }
@@ -153,7 +159,7 @@ fn headers_of_another_version() {
     for call in [
         "stemline_replica_make(&r, 2, 0, start)",
         "stemline_replica_make_station(&r, 2, start)",
-        "stemline_replica_restart(&r, 2, 0, start, NULL, 0, block).number",
+        "stemline_replica_restart(&r, 2, 0, start, NULL, 0, NULL, 0, block).number",
         "stemline_linked_version()[0]",
     ] {
         let lines = format!(
@@ -180,7 +186,7 @@ fn numbers_have_one_name() {
     }
     let cases = cases!(WrongLength OutOfRange NotOpen NotActive AllOpen TicketsSpent Applying Locked Stale
         WritesetFull NotOurTurn AlreadySent SlotsSpent WrongCheck WrongForm WrongGroup PastSlot FarSlot
-        NotSent SlotTaken NothingWaits LoadWhileApplying StationOnlyReads);
+        NotSent SlotTaken NothingWaits LoadWhileApplying StationOnlyReads NoticeRefused SlotOut);
     let (mut due, mut lines) = (String::new(), String::new());
     for (case, refusal) in cases {
         let mut name = String::new();

@@ -188,7 +188,7 @@ fn values() {
         let n = sizes(&bytes)[0];
         let path = file("journal-values", &[&head(n), &bytes[..]].concat());
         let (said, complaint, status) = run(&[OsStr::new("values"), path.as_os_str()]);
-        let (replica, restarted) = Replica::restart(n, 0, &start_values(), &bytes).unwrap();
+        let (replica, restarted) = Replica::restart(n, 0, &start_values(), &bytes, &[]).unwrap();
         let lines = replica.values().iter().enumerate();
         let due: String = lines
             .map(|(item, value)| format!("{item} {value}\n"))
@@ -222,7 +222,7 @@ fn any_journal() {
         let (good, _, _) = read_through(&bytes);
         let due: Vec<String> = good.iter().map(|block| block.to_string()).collect();
         assert_eq!(lines[1..lines.len() - 1], due);
-        let restarted = Replica::restart(sizes[0], 0, &start_values(), &bytes);
+        let restarted = Replica::restart(sizes[0], 0, &start_values(), &bytes, &[]);
         assert_eq!(due.len(), restarted.unwrap().1.blocks as usize);
         let (last, _, status) = run(&[OsStr::new("check"), path.as_os_str()]);
         assert_eq!(last, format!("{}\n{}\n", lines[0], lines[lines.len() - 1]));

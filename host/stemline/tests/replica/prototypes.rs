@@ -1,4 +1,4 @@
-//! The thirteen calls and the three functions that read a block, with their parameters, in order, as the crates
+//! The fifteen calls and the three functions that read a block, with their parameters, in order, as the crates
 //! of the engine export them; the C header and the Rust crate declare the same. A compiler sees types alone, of
 //! which several parameters have the same.
 
@@ -94,7 +94,7 @@ fn sorted(mut all: Vec<Function>) -> Vec<Function> {
 
 fn engine() -> Vec<Function> {
     let found = functions(ENGINE, "pub extern \"C\" fn ", &['\n', '{']);
-    assert_eq!(found.len(), 13 + 3);
+    assert_eq!(found.len(), 15 + 3);
     sorted(found)
 }
 

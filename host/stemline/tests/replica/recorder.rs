@@ -135,9 +135,9 @@ fn restarts() {
         let calls = random.pick(&[0, 10, 300, 20_000]);
         let journal = journal(n, own, calls, &mut random);
         let lists = (Vec::new(), Vec::new());
-        let made = Recorder::restart(n, own, &start_values(), &journal, lists.0, lists.1);
+        let made = Recorder::restart(n, own, &start_values(), &journal, &[], lists.0, lists.1);
         let (mut recorder, restarted) = made.unwrap();
-        let plain = Replica::restart(n, own, &start_values(), &journal).unwrap();
+        let plain = Replica::restart(n, own, &start_values(), &journal, &[]).unwrap();
         assert!((recorder.replica(), &restarted) == (&plain.0, &plain.1));
         drive(&mut recorder, (n, own), 500, &mut random);
         assert_eq!(recorder.stopped(), None);
@@ -169,7 +169,7 @@ fn a_journal_that_no_replica_wrote() {
     let blocks = (0..6).map(|slot| block_of(2, slot, if slot % 2 == 0 { twice } else { &[] }));
     let journal: Vec<u8> = blocks.flatten().collect();
     let values = &start_values();
-    let made = Recorder::restart(2, 0, values, &journal, Vec::new(), Vec::new());
+    let made = Recorder::restart(2, 0, values, &journal, &[], Vec::new(), Vec::new());
     let (mut recorder, restarted) = made.unwrap();
     assert_eq!(restarted.blocks, 6);
     let words = "block 2 of the journal is none that a replica writes, so that no list says it";
@@ -188,7 +188,7 @@ fn a_journal_with_few_of_its_tickets() {
         let blocks = (0..5).map(|slot| block_of(2, slot, if slot == 2 { own } else { &[] }));
         let journal: Vec<u8> = blocks.flatten().collect();
         let values = &start_values();
-        let made = Recorder::restart(2, 0, values, &journal, Vec::new(), Vec::new());
+        let made = Recorder::restart(2, 0, values, &journal, &[], Vec::new(), Vec::new());
         let (recorder, restarted) = made.unwrap();
         assert_eq!(
             (restarted.blocks, recorder.replica().report().tickets),
@@ -242,7 +242,7 @@ fn refused_makes() {
     for (n, own) in [(1, 0), (7, 0), (2, 2), (2, u32::MAX)] {
         let made = Recorder::new(n, own, values, &mut calls, &mut answers);
         assert_eq!(made.err(), Some(Refusal::OutOfRange));
-        let made = Recorder::restart(n, own, values, &[0; 3_000], &mut calls, &mut answers);
+        let made = Recorder::restart(n, own, values, &[0; 3_000], &[], &mut calls, &mut answers);
         assert_eq!(made.err(), Some(Refusal::OutOfRange));
     }
     assert!(calls.is_empty() && answers.is_empty());

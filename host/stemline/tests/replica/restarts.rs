@@ -109,7 +109,7 @@ fn over_used_parts(random: &mut Random, restart: &Restart, both: &Both) {
     };
     let answer = used.call("restart");
     let values = &start_values();
-    let given = Replica::restart(restart.n, restart.own, values, &restart.journal);
+    let given = Replica::restart(restart.n, restart.own, values, &restart.journal, &[]);
     let (fresh, restarted) = given.unwrap();
     let due = format!("RestartReply {{ number: 0, count: {} }}", restarted.blocks);
     assert_eq!(answer, (0, due));
@@ -191,7 +191,7 @@ fn refused_restarts() {
             };
             let mut after = before.clone();
             let answer = after.call("restart");
-            let crate_says = Replica::restart(n, own_number, &start_values(), &own);
+            let crate_says = Replica::restart(n, own_number, &start_values(), &own, &[]);
             if (2..=6).contains(&n) && own_number < n {
                 assert!(crate_says.is_ok());
             } else {

@@ -37,7 +37,7 @@ fn long_list(random: &mut Random) -> (String, String) {
             Some(calls) => {
                 let journal = journal(3, 2, calls, random);
                 let values = start_values();
-                let made = Recorder::restart(3, 2, &values, &journal, calls_out, answers_out);
+                let made = Recorder::restart(3, 2, &values, &journal, &[], calls_out, answers_out);
                 made.unwrap().0
             }
         };
