@@ -1,3 +1,4 @@
--- The laws that the functions' proofs cite, and the lines worked out.
-pub mod WeekLaws
+-- The lines worked out, the laws that the functions' proofs cite, and how long a line may be.
 pub mod Worked
+pub mod WeekLaws
+pub mod LongLaws

@@ -1,5 +1,6 @@
 -- The lines of a week. Behind the first they are lines of the program `replay`, of six letters, at a replica of the week.
-use Prim.Native.Nat.{ℕ, _-_}
+use Prim.Native.Nat.{ℕ, _-_, _<_}
+use mathlib.Core.Path.{_≡_}
 use mathlib.Core.Bool.{Bool, cond, _||_, _&&_}
 use mathlib.Core.List.{List}
 use lib.Dec.{eqb, ltb}
@@ -34,3 +35,7 @@ lineOf n line = asked n (placeNamed line) (callOf line)
 abbrev pub replicaOf : Line → ℕ
 replicaOf (Asks k c) = k
 replicaOf Wrong = 0
+
+-- the longest is a W with the longest numbers
+abbrev pub LongWrong : Type 0
+LongWrong = (n : ℕ) (line : List ℕ) → 37 < length line → lineOf n line ≡ Wrong
