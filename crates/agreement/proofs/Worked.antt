@@ -33,7 +33,7 @@ use Rattle.protocol.specs.Lists.{keep, anyOf, Mem}
 use Rattle.protocol.specs.Writesets.{put}
 use Rattle.protocol.specs.Observer.{addPending, txnIds, observedAfter, handoutsAfter}
 use Rattle.agreement.specs.Group.{messageIn, firstNotice, heard, outEnd, run, Beginning}
-use Rattle.agreement.specs.Worked.{start, noBlock, nextBlock, nextBlock1, RightGroup}
+use Rattle.agreement.specs.Worked.{start, noBlock, RightGroup}
 
 abbrev isFour : ℤ → Bool
 isFour (pos n) = eqb n 4
@@ -47,8 +47,8 @@ not-none : {a : Notice} {l : List Notice} → a ∷ l ≡ [] → ⊥
 not-none e = clash {b = true} refl (ap isSome e)
 
 -- two beginnings of one list: who has taken nothing lacks the first notice of the other
-ahead : {l : List Notice} → Beginning (outFrom 0 0 ∷ []) l 0 → Beginning [] l 1 → ⊥
-ahead {l} a b = let h = b .ahead (outFrom 0 0) (subst (Mem (outFrom 0 0)) (sym (a .whole) ∙ b .whole) (List·Memᴰ·head refl)) in let w : ⊥ = omega arith in w
+ahead : {l : List Notice} → Beginning (outFrom 1 0 ∷ []) l 0 → Beginning [] l 1 → ⊥
+ahead {l} a b = let h = b .ahead (outFrom 1 0) (subst (Mem (outFrom 1 0)) (sym (a .whole) ∙ b .whole) (List·Memᴰ·head refl)) in let w : ⊥ = omega arith in w
 
 pub right-group : RightGroup
 unfolding bytesOf numberFrom valueBytes valueOf word sumTo weightedTo firstCheck secondCheck checkBytes checkMatches ownerOf within kindFits entriesFit recordFits recordsFit ticketAbsent ticketsDiffer valid signed32 entryBytes entriesBytes recordBytes recordsBytes headerFor headerBytes bodyBytes blockOf entryOf entriesOf recordOf recordsOf messageOf allZero entriesPadded recordPadded recordsPadded padded wellFormed firstOf blockRefusal headerOf recordAt entryAt entriesFrom bump openCount rowFrom rowOf freeRow indexFrom has holderFrom countBelow placeStart madeMemory placesFit partsFit hasClass classFrom classToCome mustWait beginRefusal beginAt beginRow writeRefusal rewriteAt insertWrite staleAt writeRow askRefusal readOnlyAt queueAt askRow reportOf reportStep waiting writesetOf messageFor sendRefusal sendNow sendStep sameBytes deliverRefusal deliverNow deliverStep entriesFor applied stamped shares afterAborts insertRising hitTickets without workRefusal passNext commitWriteset passOut passBlock workStep placedFrom noticeRefusal noticeStep step isGood blocksFrom writesetsFrom commitAll commitBlocks highestTicket highestOwn ownWritesets lastOwn withNotices putsOut restartedMemory restartRefusal restartStep keep anyOf put addPending txnIds observedAfter handoutsAfter messageIn firstNotice heard outEnd run
@@ -68,7 +68,8 @@ right-group = record {
   notice-floor = refl;
   out-floor = refl;
   restart-floor = refl;
+  floor-kept = refl;
   taken = refl;
-  other-notices = λ p. not-none (p .calls .lent [] 1 3 1 start (nextBlock ++ nextBlock1) (outFrom 1 1 ∷ []) noBlock 2 noBlock ([], refl) refl .4);
-  station-ahead = λ p. ahead (p .one .taken _ (List·Memᴰ·tail (List·Memᴰ·tail (List·Memᴰ·tail (List·Memᴰ·head refl)))) 0) (p .one .taken _ (List·Memᴰ·tail (List·Memᴰ·head refl)) 0);
+  other-notices = λ p. not-none (p .calls .lent [] 1 3 1 start [] (outFrom 1 1 ∷ []) noBlock 0 noBlock ([], refl) refl .4);
+  station-ahead = λ p. ahead (p .one .taken _ (List·Memᴰ·tail (List·Memᴰ·tail (List·Memᴰ·tail (List·Memᴰ·head refl)))) 1) (p .one .taken _ (List·Memᴰ·tail (List·Memᴰ·head refl)) 1);
 }
