@@ -1,13 +1,13 @@
 -- What the calls do with notices and out slots. Assumes nothing.
 use Prim.Native.Nat.{ℕ, _≤_, _<_}
-use mathlib.Core.Path.{_≡_, refl, sym, ap, _∙_}
+use mathlib.Core.Path.{_≡_, refl, ap, _∙_}
 use mathlib.Core.Logic.{_⊎_, inl, inr}
 use mathlib.Core.Bool.{true, false}
 use mathlib.Core.List.{List, List·Memᴰ·head, List·Memᴰ·tail, [], _∷_, _++_}
 use native.Mathlib.Omega.{arith}
 use lib.ListN.{length, replicate}
 use borrow.Author.Tests.{eq-eqb, le-leb}
-use Rattle.block.specs.Message.{Message, maxSlot, kindFits, recordsFit, ticketsDiffer, valid, allValuesFit}
+use Rattle.block.specs.Message.{maxSlot, kindFits, recordsFit, ticketsDiffer, valid, allValuesFit}
 use Rattle.block.specs.Bytes.{headerFor, blockOf}
 use Rattle.block.specs.Answers.{firstOf, headerOf}
 use Rattle.block.specs.Theorems.{Sendable}
@@ -16,13 +16,13 @@ use Rattle.block.proofs.FormLaws.{within-in}
 use Rattle.block.proofs.Theorems.{theorems}
 use Rattle.memory.specs.Memory.{Memory, ownerAt}
 use Rattle.memory.specs.Notices.{Notice, isOut, withNotice, putsOut}
-use Rattle.engine.specs.Answers.{Answer, WorkDone, Outcome}
+use Rattle.engine.specs.Answers.{WorkDone, Outcome}
 use Rattle.engine.specs.Answers.Answer.{worked, restarted}
 use Rattle.engine.specs.Moves.{outAtTurn, workLent, workRefusal, nextAtTurn, passOut}
 use Rattle.engine.specs.Notices.{noticeRefusal}
 use Rattle.engine.specs.Calls.{step}
 use Rattle.engine.specs.Calls.Call.{work, notice}
-use Rattle.engine.specs.Restart.{blocksIn, isFrom, lastOwn, restartRefusal, restartStep}
+use Rattle.engine.specs.Restart.{blocksIn, isFrom, lastOwn}
 use Rattle.engine.specs.Shape.{Shape}
 use Rattle.engine.specs.NoticeClaims.{OutPassed, AllOut, NoticeClaims}
 use Rattle.engine.proofs.Tests.{bool-by, same-by, clash}
