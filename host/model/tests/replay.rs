@@ -187,7 +187,7 @@ fn totals_of_the_list() {
     assert!(totals.cuts > 200 && totals.restarts > 80, "{totals:?}");
     assert!(totals.given_back > 150, "{totals:?}");
     assert!(totals.stations > 20, "{totals:?}");
-    assert!(totals.notices > 500, "{totals:?}");
+    assert!(totals.notices > 300, "{totals:?}");
     assert!(
         totals.refused[&28] > 200 && totals.refused[&29] > 50,
         "{totals:?}"
