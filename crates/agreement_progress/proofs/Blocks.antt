@@ -1,4 +1,4 @@
--- The blocks handed out, after any first part of a list of calls that has the premise: each is good, and may be given to any replica. Assumes nothing.
+-- The blocks handed out, after any first part of a list of calls that has the premise: each is good, and may be given to any member. Assumes nothing.
 use Prim.Native.Nat.{ℕ, _≤_, _<_}
 use mathlib.Core.Path.{_≡_, refl, sym, ap, _∙_, subst}
 use mathlib.Core.Bool.{true, false}
@@ -13,7 +13,6 @@ use Rattle.block.specs.Message.{ownerOf}
 use Rattle.block.specs.Answers.{headerOf}
 use Rattle.block.proofs.BoolLaws.{joined}
 use Rattle.memory.specs.Memory.{Memory, noNumber}
-use Rattle.memory.specs.Notices.{Notice}
 use Rattle.engine.specs.Make.{Setting}
 use Rattle.engine.specs.Moves.{sentAlready, sameBytes, slotPast, isOwnBlock, notSentHere}
 use Rattle.engine.specs.History.{AnyCall, anyStep}
@@ -21,16 +20,16 @@ use Rattle.engine.specs.History.AnyCall.{call, restart}
 use Rattle.engine.proofs.Tests.{bool-by}
 use Rattle.engine.proofs.BlockFacts.{taken-block}
 use Rattle.protocol.specs.Lists.{Mem}
-use Rattle.protocol.proofs.ListLaws.{update-by}
+use Rattle.protocol.proofs.ListLaws.{update-by, and-no}
 use Rattle.agreement.specs.Group.{Members, CallAt, fresh, did, next, run, Comes, MayBeAt, Calls, Premise}
 use Rattle.agreement.proofs.View.{Sound}
 use Rattle.agreement.proofs.MemberStep.{Ours}
-use Rattle.agreement.proofs.Replicas.{Standing, as-replica, as-station}
+use Rattle.agreement.proofs.Replicas.{Standing, as-replica, as-station, SoundAt}
 use Rattle.agreement.proofs.Runs.{run-on, lent-ours}
 use Rattle.agreement.proofs.Theorem.{owes}
 use Rattle.agreement_progress.proofs.Come.{bytes-same, Givable}
 use Rattle.agreement_progress.proofs.HandedBlocks.{GoodBlock, NewBlock, SentLast, Hands, hands}
-use Rattle.agreement_progress.proofs.Parts.{walk, stood, size-at, own-at, marked, past}
+use Rattle.agreement_progress.proofs.Parts.{walk, stood, size-at, marked, past}
 
 module _ (n : ℕ) (start : List ℤ) (setting : Setting n start) where
   record Blocks (g : Members) : Type 0 where
@@ -89,10 +88,7 @@ module _ (n : ℕ) (start : List ℤ) (setting : Setting n start) where
     blocks-next : (mid : List CallAt) (c : CallAt) → Comes cs mid c → Blocks (at mid) → Blocks (next (at mid) c)
     blocks-next mid c q B = by (member .stands)
       where
-        m : Memory
-        m = run (fresh n start) mid .memories (c .at)
-
-        member : Rattle.agreement.proofs.Replicas.SoundAt n start setting (owes n start) (c .at) (run (fresh n start) mid .memories (c .at))
+        member : SoundAt n start setting (owes n start) (c .at) (run (fresh n start) mid .memories (c .at))
         member = stood n start setting cs f p mid (c ∷ q .0) (q .1) (c .at)
 
         mark : (b : List ℕ) → Mem b (at mid .blocks) → headerOf b .sender ≡ c .at → headerOf b .slot ≡ at mid .memories (c .at) .turn .slot → sentAlready (at mid .memories (c .at)) ≡ true
@@ -115,7 +111,7 @@ module _ (n : ℕ) (start : List ℤ) (setting : Setting n start) where
           (blocks-next mid c (q .0 ++ rest, e ∙ ap (λ (l : List CallAt). l ++ rest) (q .1) ∙ append-assoc mid (c ∷ q .0) rest) B))
 
       -- ---- a block given
-      module _ (k : ℕ) (h : k < n) (b : List ℕ) (m : Mem b (run (fresh n start) before .blocks)) where
+      module _ (k : ℕ) (b : List ℕ) (m : Mem b (run (fresh n start) before .blocks)) where
         abbrev mine : Memory
         mine = run (fresh n start) before .memories k
 
@@ -123,18 +119,23 @@ module _ (n : ℕ) (start : List ℤ) (setting : Setting n start) where
         good = blocks-all .good b m
 
         -- an own block that the turn has not passed is the one sent for it
-        ours : slotPast mine b ≡ false → notSentHere mine b ≡ false
-        ours u = bool-by (eqb (headerOf b .sender) (mine .group .own))
-            (λ q. let o : headerOf b .sender ≡ k = eqb-true (headerOf b .sender) (mine .group .own) q ∙ own-at n start setting cs f p before rest e k h in
+        sent-for : k < n → slotPast mine b ≡ false → headerOf b .sender ≡ k → isOwnBlock mine b ≡ true
+        sent-for h u o =
             let w : ownerOf n (headerOf b .slot) ≡ k = sym (owner-of b good) ∙ o in
             let a = past n start setting cs f p before rest e k b m w in
             let c = ltb-false (headerOf b .slot) (mine .turn .slot) u in
             let z : headerOf b .slot ≡ mine .turn .slot = omega arith in
             let t = marked n start setting cs f p before rest e k b m w z in
-            let r = blocks-all .last k h t b m o z in
-            let y : isOwnBlock mine b ≡ true = joined t (subst (λ (x : List ℕ). sameBytes b x ≡ true) r (bytes-same b)) in
-            rw (q, y) refl)
-            (λ q. rw q refl)
+            joined t (subst (λ (x : List ℕ). sameBytes b x ≡ true) (blocks-all .last k h t b m o z) (bytes-same b))
+
+        -- at a station there is none
+        ours : slotPast mine b ≡ false → notSentHere mine b ≡ false
+        ours u = bool-by (eqb (headerOf b .sender) (mine .group .own))
+            (λ q. by (eqb-true (headerOf b .sender) (mine .group .own) q) (stood n start setting cs f p before rest e k .stands)) (λ q. rw q refl)
+          where
+            by : headerOf b .sender ≡ mine .group .own → Standing n start setting (owes n start) k mine → notSentHere mine b ≡ false
+            by o (as-replica h q) = rw (sent-for h u (o ∙ q)) (and-no (eqb (headerOf b .sender) (mine .group .own)))
+            by o (as-station h q) = absurd (none-from b good (o ∙ q))
 
         pub givable : Givable (run (fresh n start) before .memories k) b
         givable = record { taken = good .taken; replicas = good .replicas ∙ sym (size-at n start setting cs f p before rest e k); ours = ours }

@@ -1,14 +1,12 @@
 -- A block given to a replica waits there at the list's end, or the turn has passed its slot. Assumes nothing.
-use Prim.Native.Nat.{ℕ, _<_}
+use Prim.Native.Nat.{ℕ}
 use mathlib.Core.Path.{_≡_, refl, sym, ap, _∙_, subst}
 use mathlib.Core.List.{List, [], _∷_, _++_, append-assoc}
 use lib.Dec.{eqb}
 use lib.IntN.{ℤ}
-use lib.ListN.{length}
 use borrow.Author.Tests.{eqb-true}
 use Rattle.block.specs.Answers.{headerOf}
 use Rattle.memory.specs.Memory.{Memory}
-use Rattle.memory.specs.Notices.{Notice}
 use Rattle.engine.specs.Make.{Setting}
 use Rattle.engine.specs.Answers.{Outcome}
 use Rattle.engine.specs.Answers.Answer.{restarted}
@@ -43,12 +41,9 @@ come-next n g k s R C c none =
     (come-performed n s (g .memories k) R C (c .does) (λ x b. none (c .does) x b (ap (λ (i : ℕ). record { at = i; does = c .does }) (sym z)))))
     (λ e. C)
 
-module _ (n : ℕ) (start : List ℤ) (setting : Setting n start) (cs : List CallAt) (f : Calls n cs) (p : Premise n start cs) (k : ℕ) (h : k < n) (b : List ℕ) (G : Given n start cs k b) where
+module _ (n : ℕ) (start : List ℤ) (setting : Setting n start) (cs : List CallAt) (f : Calls n cs) (p : Premise n start cs) (k : ℕ) (b : List ℕ) (G : Given n start cs k b) where
   abbrev Come : List CallAt → Type 0
   Come l = HasCome (headerOf b .slot) (run (fresh n start) l .memories k)
-
-  first : List CallAt
-  first = G .before ++ (giving k b ∷ [])
 
   whole : cs ≡ (G .before ++ (giving k b ∷ [])) ++ G .later
   whole = G .comes ∙ sym (append-assoc (G .before) (giving k b ∷ []) (G .later))
@@ -61,7 +56,7 @@ module _ (n : ℕ) (start : List ℤ) (setting : Setting n start) (cs : List Cal
       subst (λ (g : Members). HasCome (headerOf b .slot) (g .memories k)) (sym (run-on (G .before) (fresh n start) (giving k b)))
       (subst (HasCome (headerOf b .slot)) (sym (update-same (run (fresh n start) (G .before) .memories) k _))
       (come-given m (stood n start setting cs f p (G .before) (giving k b ∷ G .later) (G .comes) k .sound .shape) b
-      (givable n start setting cs f p (G .before) (giving k b ∷ G .later) (G .comes) k h b (G .handed)) (λ z. G .near (e ∙ z)) (λ z. G .live (e ∙ z))))
+      (givable n start setting cs f p (G .before) (giving k b ∷ G .later) (G .comes) k b (G .handed)) (λ z. G .near (e ∙ z)) (λ z. G .live (e ∙ z))))
 
   onward : (mid : List CallAt) (c : CallAt) → Comes (G .later) mid c → Come ((G .before ++ (giving k b ∷ [])) ++ mid) → Come ((G .before ++ (giving k b ∷ [])) ++ (mid ++ (c ∷ [])))
   onward mid c q C =

@@ -2,7 +2,7 @@
 use Prim.Native.Nat.{ℕ, _≤_, _<_}
 use mathlib.Core.Path.{_≡_, refl, sym, ap, _∙_, subst}
 use mathlib.Core.Bool.{Bool, true, false}
-use mathlib.Core.List.{List, [], _∷_, _++_, append-assoc, append-nil, map}
+use mathlib.Core.List.{List, [], _∷_, _++_, append-assoc, append-nil}
 use native.Mathlib.Omega.{arith}
 use lib.IntN.{ℤ}
 use lib.ListN.{length}
@@ -15,7 +15,7 @@ use Rattle.protocol.specs.Lists.{Mem}
 use Rattle.protocol.proofs.ListLaws.{mem-map}
 use Rattle.protocol.proofs.Fates.{outOf}
 use Rattle.protocol.proofs.Slots.{handed-known}
-use Rattle.agreement.specs.Group.{messageIn, Members, CallAt, fresh, run, Comes, Calls, Premise}
+use Rattle.agreement.specs.Group.{messageIn, CallAt, fresh, run, Comes, Calls, Premise}
 use Rattle.agreement.proofs.View.{setup}
 use Rattle.agreement.proofs.DeliverStep.{slot-said}
 use Rattle.agreement.proofs.Replicas.{SoundAt}

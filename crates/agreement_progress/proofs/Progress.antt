@@ -1,6 +1,6 @@
 -- Progress: of the replicas that count take one with the lowest turn. Its slot is out there, and it can work; or a block was handed out for it and has come, and it can work; or its owner
 -- counts, stands there and has not sent, and can send. Assumes nothing.
-use Prim.Native.Nat.{ℕ, zero, suc, _%_, _≤_, _<_}
+use Prim.Native.Nat.{ℕ, zero, suc, _≤_, _<_}
 use mathlib.Core.Path.{_≡_, refl, sym, ap, _∙_, subst}
 use mathlib.Core.Bool.{Bool, true, false}
 use mathlib.Core.Logic.{_⊎_, inl, inr}
@@ -26,8 +26,8 @@ use Rattle.protocol.specs.Writesets.{Message}
 use Rattle.protocol.proofs.ListLaws.{mem-getD, getD-map-in}
 use Rattle.protocol.proofs.SequenceLaws.{mem-at}
 use Rattle.protocol.proofs.Slots.{OfSlot, isNextOf, isHanded, slot-below}
-use Rattle.agreement.specs.Group.{messageIn, Members, CallAt, fresh, run, Calls, about, Premise}
-use Rattle.agreement.proofs.View.{setup, Sound, view, out-same}
+use Rattle.agreement.specs.Group.{messageIn, CallAt, fresh, run, Calls, about, Premise}
+use Rattle.agreement.proofs.View.{setup, Sound, out-same}
 use Rattle.agreement.proofs.DeliverStep.{slot-said}
 use Rattle.agreement.proofs.RestartView.{puts-same}
 use Rattle.agreement.proofs.OneList.{beginnings, outs-same}
@@ -99,9 +99,6 @@ module _ (n : ℕ) (start : List ℤ) (setting : Setting n start) (cs : List Cal
   below : (k s : ℕ) → s < now k .turn .slot → (putsOut false (taken k) (ownerOf n s) s ≡ true) ⊎ HandedFor n start cs s
   below k s h = let a = slot-below (setup n start) (outs n start setting cs f p) _ (inv n start setting cs f p cs [] whole .inv) k s h in go (a .0) (a .1)
     where
-      o : ℕ
-      o = ownerOf n s
-
       -- what it lacks is of later slots
       same : putsOut false (p .lists (ownerOf n s)) (ownerOf n s) s ≡ putsOut false (taken k) (ownerOf n s) s
       same =
@@ -120,7 +117,7 @@ module _ (n : ℕ) (start : List ℤ) (setting : Setting n start) (cs : List Cal
     -- the block of a replica's turn has come
     behind : (k : ℕ) → Counts n start cs counts k → HandedFor n start cs (now k .turn .slot) → SomeGoes n start cs counts
     behind k c b =
-        (k, c, inr (works (now k) (sound k .shape) (waits (come-all n start setting cs f p k (c .0) (b .0) (given k c (b .0) (b .1) (let e = b .2 in omega arith))))))
+        (k, c, inr (works (now k) (sound k .shape) (waits (come-all n start setting cs f p k (b .0) (given k c (b .0) (b .1) (let e = b .2 in omega arith))))))
       where
         waits : HasCome (headerOf (b .0) .slot) (now k) → nothingWaits (now k) ≡ false
         waits (inl q) = absurd (let e = b .2 in let z : ⊥ = omega arith in z)
@@ -193,7 +190,6 @@ module _ (n : ℕ) (start : List ℤ) (setting : Setting n start) (cs : List Cal
       where
         go : Lowest (λ (k : ℕ). now k .turn .slot) counts n ⊎ NoneCounts counts n → SomeGoes n start cs counts
         go (inl r) =
-            let k = r .0 in
             let c : Counts n start cs counts (r .0) = (r .1, r .2) in
             let l : now (r .0) .turn .slot < slotLimit = (let a = r .3 (some .0) (some .1 .0) (some .1 .1) in let b = some .2 in omega arith) in
             bool-by (outAtTurn (now (r .0)))
@@ -209,6 +205,6 @@ none-down n start setting cs f p = progress n start setting cs f p everyone (λ 
 
 pub handed-answers : HandedAnswers
 unfolding refusalOf
-handed-answers n start setting cs f p k h b q =
+handed-answers n start setting cs f p k b q =
     subst (λ (a : ℕ). (a ≡ 0) ⊎ ((a ≡ 17) ⊎ ((a ≡ 18) ⊎ ((a ≡ 20) ⊎ (a ≡ 29))))) (sym (refusals .number (run (fresh n start) cs .memories k) (deliver b)))
-    (given-number (run (fresh n start) cs .memories k) (sound n start setting cs f p k .shape) b (givable n start setting cs f p cs [] (sym (append-nil cs)) k h b q))
+    (given-number (run (fresh n start) cs .memories k) (sound n start setting cs f p k .shape) b (givable n start setting cs f p cs [] (sym (append-nil cs)) k b q))

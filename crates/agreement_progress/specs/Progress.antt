@@ -105,9 +105,9 @@ abbrev pub NoneDown : Type 0
 NoneDown = (n : ℕ) (start : List ℤ) → Setting n start → (cs : List CallAt) → Calls n cs → Premise n start cs
     → SameNotices n start cs everyone → AllGiven n start cs everyone → SlotsLeft n start cs everyone → SomeGoes n start cs everyone
 
--- What a host may drop. At a replica a block handed out that is delivered is kept, or answered 17, 18, 20 or 29: never 1, 14, 15, 16, nor 19. One answered 17 or 20 is not needed there; one
--- answered 18 or 29 may be, once the turn has come nearer or a Back is taken, and is to be delivered again.
+-- What a host may drop. A block handed out that is delivered, at a replica or a station, is kept, or answered 17, 18, 20 or 29: never 14, 15, 16, nor 19. One answered 17 or 20 is not needed
+-- there; one answered 18 or 29 may be, once the turn has come nearer or a Back is taken, and is to be delivered again.
 abbrev pub HandedAnswers : Type 0
 HandedAnswers = (n : ℕ) (start : List ℤ) → Setting n start → (cs : List CallAt) → Calls n cs → Premise n start cs
-    → (k : ℕ) → k < n → (b : List ℕ) → let g = run (fresh n start) cs in Mem b (g .blocks)
+    → (k : ℕ) (b : List ℕ) → let g = run (fresh n start) cs in Mem b (g .blocks)
     → let a = deliverNumber (g .memories k) b in (a ≡ 0) ⊎ ((a ≡ 17) ⊎ ((a ≡ 18) ⊎ ((a ≡ 20) ⊎ (a ≡ 29))))
