@@ -97,6 +97,12 @@ pub struct Worked {
     pub ended: [bool; 6],
 }
 
+// The answer to a notice, and the group after the call.
+pub struct Noticed {
+    pub number: u8,
+    pub group: Group,
+}
+
 // The answer, and group, turn and counts of a replica restarted; of a refused restart nothing is stored.
 pub struct Restarted {
     pub reply: RestartReply,

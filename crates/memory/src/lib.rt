@@ -1,6 +1,7 @@
 // A replica's memory: the rows of its open transactions, its turn and its numbers, and the functions that look at them and change them.
 pub mod bytes;
 pub mod cursor;
+pub mod notices;
 pub mod rows;
 
 // Document 01's record of an open transaction; ticket 0 is a free row. Stage 0 is active, 1 asked, 2 sent. Four numbers of one width: a record has no padding,
@@ -21,6 +22,9 @@ pub struct Turn {
     pub sent: u8,
     pub applying: u8,
 }
+
+// How many slots there are: one more than the highest.
+pub const SLOT_LIMIT: u32 = 100_000_000;
 
 // In place of an own number where there is none, at a station. No replica has it: own numbers are below the group's size, and that is 6 at most.
 pub const NO_NUMBER: u8 = 255;

@@ -1,4 +1,3 @@
 -- Laws that the proofs of several functions cite.
 pub mod AnswerLaws
-pub mod OutputLaws
 pub mod PlaceLaws

@@ -1,4 +1,3 @@
--- What a call at a place does, where a journal is kept too, what is said of it, and the answers that are held.
+-- What a call at a place does, where a journal is kept too, and what is said of it.
 pub mod Answers
-pub mod Outputs
 pub mod Places

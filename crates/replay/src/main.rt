@@ -1,21 +1,25 @@
 // Plays a list of calls at eight places for replicas and stations, one call to a line, and prints each answer.
-ghost use Prim.Native.Nat.{_≤_, _<_};
+ghost use Prim.Native.Nat.{_≤_, _<_, _+_, _%_, _^_};
 ghost use mathlib.Core.Path.{_≡_};
-ghost use mathlib.Core.Bool.{_&&_};
+ghost use mathlib.Core.Bool.{cond, _&&_};
 ghost use lib.Dec.{ltb};
 ghost use lib.ListN.{length, take};
 ghost use Rattle.replay_print.specs.Text.{answerText, Holds};
 ghost use Rattle.replay.specs.Answers.{noPlace, shownIf, blockShown, isSent, keptAfter, Says, AnswersAt, Replies};
 use memory::bytes::copy_bytes;
-use output::Output;
 use replay_journal::Held;
 use replay_parse::Call;
 use replay_replica::Played;
 use replay_replica::Replica;
 use replay_replica::nobody;
 use text_lines::input::Source;
+use text_lines::input::start;
+use text_lines::output::Output;
+use text_lines::output::finish;
+use text_lines::output::nothing;
+use text_lines::output::with_line;
+use text_lines::output::with_room;
 
-mod output;
 mod places;
 mod usage;
 
@@ -59,10 +63,11 @@ struct Answered {
     said: Said,
 }
 
-// The place after a line, and the output with its answer.
+// The place after a line, the output with its answer, and how many blocks were sent.
 struct Replied {
     place: Place,
     output: Output,
+    sent: u64,
 }
 
 // A place where nothing was made.
@@ -242,11 +247,23 @@ fn answer(
     }
 }
 
+// How many blocks were sent, with one more where one was.
+fn counted(sent: u64, more: bool) -> u64
+    ensures { λ r. ⌜ r ≡ cond more ((sent + 1) % 2 ^ 64) sent ⌝ }
+{
+    if more {
+        std::num::wrapping_add_u64(sent, 1)
+    } else {
+        sent
+    }
+}
+
 // The answer to a line, put behind those that are held.
 fn reply(
     request: Request,
     place: Place,
     output: Output,
+    sent: u64,
     pages: &mut [u8],
     kept: &mut [u8],
     out: &mut [u8],
@@ -256,7 +273,7 @@ fn reply(
     ensures { λ r. ⌜ r .output .held ≤ 65536 ⌝ }
 {
     let page = 65536 * request.place;
-    let slot = replay_delivery::start_of(output.sent);
+    let slot = replay_delivery::start_of(sent);
     let end = output.held;
     let next = answer(
         request,
@@ -269,7 +286,8 @@ fn reply(
     let said = next.said;
     Replied {
         place: after,
-        output: output::with_line(output, end + said.length, said.sent),
+        output: with_line(output, said.length),
+        sent: counted(sent, said.sent),
     }
 }
 
@@ -281,37 +299,37 @@ fn play() {
     let mut kept = [0u8; 32768];
     let mut buffer = io::large_buffer();
     let mut out = io::large_buffer();
-    let mut source = Source {
-        at: 0,
-        end: 0,
-        failed: false,
-    };
-    let mut output = Output {
-        held: 0,
-        answered: 0,
-        written: 0,
-        sent: 0,
-        failed: false,
-    };
+    let mut source = start();
+    let mut output = nothing();
+    let mut sent: u64 = 0;
     let mut turns = u64::MAX;
     while turns > 0 {
-        output = output::with_room(output, source, &out);
+        output = with_room(output, source, b"replay", &out);
         if output.failed {
             return;
         }
-        let asked = next_request(source, output.sent, &mut buffer, &kept);
+        let asked = next_request(source, sent, &mut buffer, &kept);
         source = asked.source;
         if asked.ended {
-            output::finish(output, source.failed, &out);
+            finish(output, source.failed, b"replay", &out);
             return;
         }
         let request = asked.request;
         let at = request.place;
         let place = places[at];
-        let next = reply(request, place, output, &mut pages, &mut kept, &mut out);
+        let next = reply(
+            request,
+            place,
+            output,
+            sent,
+            &mut pages,
+            &mut kept,
+            &mut out,
+        );
         let after = next.place;
         places[at] = after;
         output = next.output;
+        sent = next.sent;
         turns -= 1;
     }
 }

@@ -54,11 +54,11 @@ part-answer-end-3 c = search needs
 answer-requires : tie.Need-answer-requires
 answer-requires c κs = search needs
 
-add-with-line : tie.Need-add-with-line
-add-with-line c = omega (arith, room (c .before .before .before .before .before .before .before .before .before))
-
 with-line-requires : tie.Need-with-line-requires
 with-line-requires c κs = search needs
+
+counted-requires : tie.Need-counted-requires
+counted-requires c κs = search needs
 
 same-length : tie.Need-same-length
 same-length c = search needs
@@ -70,7 +70,7 @@ same-length-3 : tie.Need-same-length-3
 same-length-3 c = search needs
 
 returns : tie.Need-returns
-returns c = rw (c .with-line .ensures) (room (c .before .before .before .before .before .before .before .before .before .before))
+returns c = rw (c .before .with-line .ensures) (omega (arith, room (c .before .before .before .before .before .before .before .before .before .before)))
 
 pub reply-spec : {M : Type 1} → statement M
 reply-spec =
@@ -90,8 +90,8 @@ reply-spec =
     part-answer-start-3
     part-answer-end-3
     answer-requires
-    add-with-line
     with-line-requires
+    counted-requires
     same-length
     same-length-2
     same-length-3

@@ -1,0 +1,36 @@
+-- Outages: what a slot's tests say, and a notice past the sixth replica. Assumes nothing.
+use Prim.Native.Nat.{ℕ, _≤_, _<_}
+use mathlib.Core.Path.{_≡_, refl, sym}
+use mathlib.Core.Bool.{Bool, true, false}
+use mathlib.Core.List.{List}
+use native.Mathlib.Omega.{arith}
+use lib.Dec.{ltb}
+use lib.ListN.{length, getD, List·getD-eq-default}
+use lib.Seq.{set-out}
+use borrow.Author.Tests.{lt-ltb, le-ltb, le-leb, lt-leb}
+use Rattle.memory.specs.declared.Group.{Group}
+use Rattle.memory.specs.Memory.{slotLimit, ownerAt}
+use Rattle.memory.specs.Notices.{Notice, isOut, withNotice}
+
+-- past the sixth there is no outage
+pub none-past : (l : List ℕ) → length l ≡ 6 → (k : ℕ) → 6 ≤ k → 0 ≡ getD l k 0
+none-past l six k h = sym (List·getD-eq-default l 0 (omega arith))
+
+module _ (g : Group) (s : ℕ) where
+  -- no slot is out
+  pub no-slot : slotLimit ≤ s → false ≡ isOut g s
+  no-slot h = rw (le-ltb s slotLimit h)
+
+  module _ (slot : s < slotLimit) (k : ℕ) (owner : k ≡ ownerAt g s) (start : ℕ) (first : start ≡ getD (g .from) k 0) where
+    pub before-it : s < start → false ≡ isOut g s
+    before-it h = rw (lt-ltb s slotLimit slot, ← owner, ← first, lt-leb start s h)
+
+    pub from-it : start ≤ s → (end : ℕ) → end ≡ getD (g .until) k 0 → ltb s end ≡ isOut g s
+    from-it h end last = rw (lt-ltb s slotLimit slot, ← owner, ← first, le-leb start s h, ← last)
+
+pub none-set : (g : Group) → length (g .from) ≡ 6 → length (g .until) ≡ 6 → (a : Notice) → 6 ≤ a .about → g ≡ withNotice g a
+none-set g six six′ a h = go (a .out)
+  where
+    go : (out : Bool) → g ≡ withNotice g (record { about = a .about; out = out; slot = a .slot })
+    go true = rw (set-out (g .from) (a .about) (a .slot) (omega arith), set-out (g .until) (a .about) slotLimit (omega arith))
+    go false = rw (set-out (g .until) (a .about) (a .slot) (omega arith))
