@@ -35,7 +35,7 @@ pub struct ReportReply {
     pub report: Report,
 }
 
-// Whose writeset was committed (ticket 0 for a *next*), whether the turn moved, the tickets aborted, rising, zeros behind the first `count`, and whether the lent
+// Whose writeset was committed (ticket 0 for a *next*, or for an out slot), whether the turn moved, the tickets aborted, rising, zeros behind the first `count`, and whether the lent
 // bytes now hold a block to append to the journal.
 #[repr(C)]
 pub struct WorkReply {

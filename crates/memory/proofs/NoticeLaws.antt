@@ -4,10 +4,11 @@ use mathlib.Core.Path.{_≡_, refl, sym}
 use mathlib.Core.Bool.{Bool, true, false}
 use mathlib.Core.List.{List}
 use native.Mathlib.Omega.{arith}
-use lib.Dec.{ltb}
+use lib.Dec.{ltb, leb}
 use lib.ListN.{length, getD, List·getD-eq-default}
 use lib.Seq.{set-out}
-use borrow.Author.Tests.{lt-ltb, le-ltb, le-leb, lt-leb}
+use borrow.Author.Tests.{ltb-true, ltb-false, lt-ltb, le-ltb, le-leb, lt-leb}
+use Rattle.block.proofs.BoolLaws.{both}
 use Rattle.memory.specs.declared.Group.{Group}
 use Rattle.memory.specs.Memory.{slotLimit, ownerAt}
 use Rattle.memory.specs.Notices.{Notice, isOut, withNotice}
@@ -27,6 +28,17 @@ module _ (g : Group) (s : ℕ) where
 
     pub from-it : start ≤ s → (end : ℕ) → end ≡ getD (g .until) k 0 → ltb s end ≡ isOut g s
     from-it h end last = rw (lt-ltb s slotLimit slot, ← owner, ← first, le-leb start s h, ← last)
+
+-- an owner that is out is one of the six
+pub owner-within : (g : Group) (s : ℕ) → length (g .until) ≡ 6 → isOut g s ≡ true → ownerAt g s < 6
+owner-within g s six h = go (ltb (ownerAt g s) 6) refl
+  where
+    ends : s < getD (g .until) (ownerAt g s) 0
+    ends = ltb-true s _ (both (leb (getD (g .from) (ownerAt g s) 0) s) _ (both (ltb s slotLimit) _ h .right) .right)
+
+    go : (b : Bool) → ltb (ownerAt g s) 6 ≡ b → ownerAt g s < 6
+    go true e = ltb-true (ownerAt g s) 6 e
+    go false e = absurd (omega (arith, ends, none-past (g .until) six (ownerAt g s) (ltb-false (ownerAt g s) 6 e)))
 
 pub none-set : (g : Group) → length (g .from) ≡ 6 → length (g .until) ≡ 6 → (a : Notice) → 6 ≤ a .about → g ≡ withNotice g a
 none-set g six six′ a h = go (a .out)
