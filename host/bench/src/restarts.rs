@@ -36,11 +36,11 @@ pub fn run() {
                 restarted.unwrap().1.blocks
             }),
             side(&|values, journal| {
-                let restarted = plain::Replica::restart(N, OWN, values, journal);
+                let restarted = plain::Replica::restart(N, OWN, values, journal, &[]);
                 restarted.unwrap().1.blocks
             }),
             side(&|values, journal| {
-                let restarted = second::Replica::restart(N, OWN, values, journal);
+                let restarted = second::Replica::restart(N, OWN, values, journal, &[]);
                 restarted.unwrap().1.count
             }),
         ],
@@ -84,8 +84,8 @@ fn agree(journal: &[u8]) {
     for bytes in [journal.len(), journal.len() - 1, 513, 512, 0] {
         let journal = &journal[..bytes];
         let (a, first) = stemline::Replica::restart(N, OWN, &values, journal, &[]).unwrap();
-        let (b, other) = plain::Replica::restart(N, OWN, &values, journal).unwrap();
-        let (c, third) = second::Replica::restart(N, OWN, &values, journal).unwrap();
+        let (b, other) = plain::Replica::restart(N, OWN, &values, journal, &[]).unwrap();
+        let (c, third) = second::Replica::restart(N, OWN, &values, journal, &[]).unwrap();
         assert_eq!((first.blocks, first.last), (other.blocks, other.last));
         assert_eq!(first.blocks, third.count);
         assert!(first.last.unwrap_or([0; 512]) == *third.block);

@@ -7,11 +7,14 @@
 //! call of the list. The power stays on; so that blocks are lost that were not durable, the journals are
 //! cut between the runs, at any byte that a cut can leave.
 //!
-//! A station that nobody kills is fed between the runs from what of a journal is durable, and is where the
-//! group is at the end.
+//! A membership service says now and then that a replica is out, and later that it is back.
+//!
+//! A station that nobody kills is fed between the runs from what of a journal is durable, takes the notices too,
+//! and is where the group is at the end.
 
 mod log;
 pub mod program;
+mod service;
 
 use std::fs::{self, File, OpenOptions};
 use std::path::{Path, PathBuf};
@@ -21,13 +24,14 @@ use std::time::Duration;
 
 use model::block::{self, BLOCK};
 use model::drive::start_values;
+use model::notice::{self, Notice};
 use model::samples::Random;
 use model::trace::{Answer, Call};
 use stemline::{Durable, Station, HEAD};
 
 pub use self::log::{Log, Met};
 use crate::both::report;
-use crate::studio;
+use crate::{noticed, studio};
 
 /// Replicas of the group.
 const N: usize = 3;
@@ -42,6 +46,8 @@ pub struct Crash {
     room: PathBuf,
     random: Random,
     station: Station,
+    /// The notices that the station has taken.
+    heard: Vec<Notice>,
     /// What the killed program did.
     pub log: Log,
 }
@@ -55,6 +61,7 @@ impl Crash {
             room: room.to_path_buf(),
             random: Random::new(seed),
             station: Station::new(N as u32, &start_values()).unwrap(),
+            heard: Vec::new(),
             log: Log::new(room, start_values()),
         }
     }
@@ -72,7 +79,29 @@ impl Crash {
         let k = self.random.below(N);
         let bytes = studio::lent(&journal(&self.room, k));
         let durable = self.log.observer.journal(k).floor();
-        feed(&mut self.station, &bytes[..durable]);
+        self.feed(&bytes[..durable]);
+    }
+
+    /// Gives the station the blocks of a journal from its turn on, and what was said. Of slots that are out it
+    /// needs none.
+    fn feed(&mut self, journal: &[u8]) {
+        let said = service::said(&self.room);
+        let (blocks, _) = journal.as_chunks::<BLOCK>();
+        loop {
+            for notice in service::lacking(&said, &self.heard) {
+                // One behind a Back that is still ahead is taken later.
+                let taken: Result<Answer, _> = noticed!(self.station, notice);
+                self.heard.extend(taken.is_ok().then_some(notice));
+            }
+            let turn = self.station.report().turn;
+            let Some(block) = blocks.get(turn as usize) else {
+                return;
+            };
+            match notice::puts_out(&self.heard, N as u32, turn) {
+                true => drop(self.station.work().expect("a slot that is out")),
+                false => drop(self.station.take(block).expect("a block of its turn")),
+            }
+        }
     }
 
     /// Lets the program run for a while, often a short one, and kills it.
@@ -119,8 +148,9 @@ impl Crash {
         for (k, restarted) in restarted.into_iter().enumerate() {
             self.log.restarted(k, None, restarted);
         }
-        settle(&mut self.log, &mut group, &mut last);
-        feed(&mut self.station, &studio::lent(&journal(&self.room, 0)));
+        let said = service::said(&self.room);
+        settle(&mut self.log, &said, &mut group, &mut last);
+        self.feed(&studio::lent(&journal(&self.room, 0)));
         self.check(&group);
         fs::remove_dir_all(&self.room).unwrap();
         Met {
@@ -135,6 +165,7 @@ impl Crash {
         let end = |durable: &Durable| (report(durable.report()), *durable.values());
         let ends: Vec<_> = group.iter().map(end).collect();
         assert_eq!(log.observer.violations(&ends), [""; 0]);
+        assert_eq!(log.observer.one_list(), Ok(()));
         assert!(log.observer.premise());
         let station = (self.station.report().turn, self.station.values());
         assert_eq!(station, (ends[0].0.turn, &ends[0].1), "the station");
@@ -151,25 +182,25 @@ impl Crash {
     }
 }
 
-/// Gives a station the blocks of a journal from its turn on.
-fn feed(station: &mut Station, journal: &[u8]) {
-    let (blocks, _) = journal.as_chunks::<BLOCK>();
-    while let Some(block) = blocks.get(station.report().turn as usize) {
-        station.take(block).expect("a block of its turn");
-    }
-}
-
-/// Hands out the last block of each and lets all send, until each has sent twice and all are at one turn.
-fn settle(log: &mut Log, group: &mut [Durable], last: &mut [[u8; BLOCK]]) {
+/// Lets all take what was said, hands out the last block of each and lets all send, until two rounds are over and
+/// all are at one turn.
+fn settle(log: &mut Log, said: &[Notice], group: &mut [Durable], last: &mut [[u8; BLOCK]]) {
     let turn = |durable: &Durable| durable.report().turn;
     let end = group.iter().map(turn).max().unwrap() + 2 * N as u32;
-    let rests = |group: &[Durable]| group.iter().all(|durable| turn(durable) == end);
+    // Slots that are out are passed behind the end too, by all.
+    let rests = |group: &[Durable]| {
+        let first = turn(&group[0]);
+        first >= end && group.iter().all(|durable| turn(durable) == first)
+    };
     // A turn is less than n behind another's, and a round moves each by one at least.
     for _ in 0..4 * N {
         if rests(group) {
             return;
         }
         for k in 0..N {
+            for notice in log.lacks(said, k) {
+                let _ = log.call(k, &mut group[k], &Call::Notice(notice));
+            }
             if turn(&group[k]) < end {
                 if let Ok(Answer::Block(block)) = log.call(k, &mut group[k], &Call::Send) {
                     last[k] = *block;

@@ -7,6 +7,7 @@ use std::io::{Read, Seek, SeekFrom};
 use std::path::{Path, PathBuf};
 
 use model::block::BLOCK;
+use model::notice::Notice;
 use model::observer::Observer;
 use model::replica::{Restarted, ITEMS};
 use model::trace::{Answer, Call, Restart};
@@ -14,7 +15,7 @@ use stemline::Durable;
 
 use super::{journal, N};
 use crate::lines::{block, grouped, parse};
-use crate::studio::{lent, play};
+use crate::studio::{lent, play, taken};
 
 /// What killed programs did.
 #[derive(Clone, Copy, Debug, Default)]
@@ -29,6 +30,10 @@ pub struct Met {
     pub sent_by_restart: u64,
     /// The writesets committed, counted when the group is at rest.
     pub commits: u64,
+    /// The notices taken, and of these the ones whose call a kill ended.
+    pub notices: u64,
+    /// See there.
+    pub noticed_by_kill: u64,
 }
 
 /// What the log of a killed program says, run after run.
@@ -97,6 +102,20 @@ impl Log {
         }
         self.read += whole as u64;
         file.set_len(self.read).unwrap();
+        (0..N).for_each(|k| self.take_in_notices(k));
+    }
+
+    /// A notice that is durable was taken, also where the kill came before it was logged.
+    fn take_in_notices(&mut self, k: usize) {
+        let durable = taken(&journal(&self.room, k));
+        let known = self.observer.notices(k);
+        assert!(durable.starts_with(known), "journal {k}: notices are lost");
+        let unknown = durable[known.len()..].to_vec();
+        assert!(unknown.len() <= 1, "journal {k}: {unknown:?}");
+        for notice in unknown {
+            self.feed(k, &Call::Notice(notice), &Ok(Answer::Done));
+            self.met.noticed_by_kill += 1;
+        }
     }
 
     /// A restart. The first of a run is lent what was in the file then, any other so many bytes of what
@@ -111,6 +130,7 @@ impl Log {
             own: k as u32,
             values: self.values.to_vec(),
             journal: lent,
+            notices: self.observer.notices(k).to_vec(),
         };
         self.met.restarts += 1;
         if restarted.gave_back() {
@@ -132,6 +152,12 @@ impl Log {
         if let Ok(Answer::Block(block)) = answer {
             self.hand_out(block);
         }
+        self.met.notices += u64::from(matches!(call, Call::Notice(_)) && answer.is_ok());
+    }
+
+    /// What a service said about a replica that another lacks, in order.
+    pub fn lacks(&self, said: &[Notice], k: usize) -> Vec<Notice> {
+        super::service::lacking(said, self.observer.notices(k))
     }
 
     /// 1 where the block is new, else 0.
@@ -150,6 +176,8 @@ impl Met {
         self.blocks += other.blocks;
         self.sent_by_restart += other.sent_by_restart;
         self.commits += other.commits;
+        self.notices += other.notices;
+        self.noticed_by_kill += other.noticed_by_kill;
     }
 }
 
@@ -157,10 +185,11 @@ impl fmt::Display for Met {
     fn fmt(&self, f: &mut fmt::Formatter) -> fmt::Result {
         let [calls, restarts, blocks] = [self.calls, self.restarts, self.blocks].map(grouped);
         let [first, commits] = [self.sent_by_restart, self.commits].map(grouped);
+        let [notices, ended] = [self.notices, self.noticed_by_kill].map(grouped);
         write!(
             f,
             "{calls} calls, {restarts} restarts, {blocks} blocks handed out, {first} of them first by a restart; \
-             {commits} writesets committed"
+             {notices} notices taken, {ended} of them in a call that a kill ended; {commits} writesets committed"
         )
     }
 }

@@ -99,7 +99,8 @@ fn reached(random: &mut Random, seed: u64) -> Lent {
     let mut both = Both::new(n, own, &start_values());
     let mut peers = Peers::new(n, own, both.report());
     for _ in 0..random.below(200) {
-        let call = peers.random_call(random, STYLES[seed as usize % 4]);
+        let style = STYLES[seed as usize % 4].with_notices(4);
+        let call = peers.random_call(random, style);
         let answer = both.call(&call);
         peers.feed(&call, &answer);
     }

@@ -115,7 +115,9 @@ fn a_take_is_a_deliver_and_its_works() {
         let style = STYLES[seed as usize / 5 % 4];
         let mut random = Random::new(seed);
         let replica = |own| Taking::new(Both::new(n, own, &start_values()));
-        let mut group = Group::new((0..n).map(replica).collect(), style);
+        // Without notices the single one: there all might be out, and works come to no end.
+        let noticed = style.with_notices([0, 8][seed as usize % 2]);
+        let mut group = Group::new((0..n).map(replica).collect(), noticed);
         group.add_station(Taking::new(Both::station(n, &start_values())));
         let mut single = replica(0);
         let mut peers = Peers::new(n, 0, single.report());
