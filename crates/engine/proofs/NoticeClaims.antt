@@ -14,8 +14,9 @@ use Rattle.block.specs.Theorems.{Sendable}
 use Rattle.block.proofs.BoolLaws.{joined}
 use Rattle.block.proofs.FormLaws.{within-in}
 use Rattle.block.proofs.Theorems.{theorems}
-use Rattle.memory.specs.Memory.{Memory, ownerAt}
+use Rattle.memory.specs.Memory.{Memory, ownerAt, slotLimit, withDone, withTurn}
 use Rattle.memory.specs.Notices.{Notice, isOut, withNotice, putsOut}
+use Rattle.memory.specs.Turns.{advance}
 use Rattle.engine.specs.Answers.{WorkDone, Outcome}
 use Rattle.engine.specs.Answers.Answer.{worked, restarted}
 use Rattle.engine.specs.Moves.{outAtTurn, workLent, workRefusal, nextAtTurn, passOut}
@@ -27,8 +28,8 @@ use Rattle.engine.specs.Shape.{Shape}
 use Rattle.engine.specs.NoticeClaims.{OutPassed, AllOut, NoticeClaims}
 use Rattle.engine.proofs.Tests.{bool-by, same-by, clash}
 use Rattle.engine.proofs.Steps.{work-by, notice-by, restart-by}
-use Rattle.engine.proofs.Passed.{notice-passed}
-use Rattle.engine.proofs.NoticeLaws.{in-outage, is-out, from-back, until-now, out-other}
+use Rattle.engine.proofs.Passed.{notice-passed, out-passed, back-passed}
+use Rattle.engine.proofs.NoticeLaws.{in-outage, is-out, from-back, until-now, out-other, out-from, back-from, out-before, back-before}
 use Rattle.engine.proofs.ShapeNotice.{about-few, newly-out}
 
 -- ---- an out slot is passed
@@ -54,12 +55,18 @@ module _ {over : ℕ} (m : Memory) (S : Shape over m) (u : outAtTurn m ≡ true)
   unfolding workRefusal firstOf
   out-worked = rw (lent-all, u) refl
 
+  left-out : step m work .memory ≡ withTurn m (advance (m .turn)) (withDone (m .counts) 0) (m .blocks)
+  unfolding passOut
+  left-out =
+      work-by (λ (o : Outcome). o .memory ≡ withTurn m (advance (m .turn)) (withDone (m .counts) 0) (m .blocks)) m (λ e v. refl)
+      (λ a k. clash u (a .live)) (λ a k. clash u (a .live)) (λ z. absurd (z out-worked))
+
   passes-out : (s : WorkDone) × (passOut m .answer ≡ worked s) × OutPassed m s
   unfolding passOut headerFor
   passes-out =
       let r = theorems .round-trip (nextAtTurn m) next-sendable in
       let h = theorems .reading (blockOf (nextAtTurn m)) (record { bytes = r .bytes; taken = r .taken }) .header in
-      (_, refl, record { sender = refl; ticket = refl; moved = refl; aborted = refl; taken = r .taken; header = h ∙ ap headerFor (r .message) })
+      (_, refl, record { sender = refl; ticket = refl; moved = refl; aborted = refl; taken = r .taken; header = h ∙ ap headerFor (r .message); memory = left-out })
 
   works-out : (s : WorkDone) × (step m work .answer ≡ worked s) × OutPassed m s
   works-out =
@@ -91,6 +98,31 @@ module _ (notices : List Notice) (own : ℕ) where
 
 pub group-noticed : (m : Memory) (a : Notice) → noticeRefusal m a ≡ 0 → step m (notice a) .memory .group ≡ withNotice (m .group) a
 group-noticed m a e = notice-by (λ (o : Outcome). o .memory .group ≡ withNotice (m .group) a) m a (λ z. refl) (λ z. absurd (z e))
+
+-- from its slot on, and every other slot from the turn on
+
+module _ {over : ℕ} (m : Memory) (S : Shape over m) (a : Notice) (e : noticeRefusal m a ≡ 0) (s : ℕ) where
+  in-from : a .about < length (m .group .from)
+  in-from = let h = about-few m S a e in omega (arith, S .lengths .from)
+
+  in-until : a .about < length (m .group .until)
+  in-until = let h = about-few m S a e in omega (arith, S .lengths .until)
+
+  put-out : a .out ≡ true → ownerAt (m .group) s ≡ a .about → a .slot ≤ s → s < slotLimit → isOut (withNotice (m .group) a) s ≡ true
+  put-out b = out-from (m .group) a b in-from in-until s
+
+  counted : a .out ≡ false → ownerAt (m .group) s ≡ a .about → a .slot ≤ s → isOut (withNotice (m .group) a) s ≡ false
+  counted b = back-from (m .group) a b in-until s
+
+  left-alone : m .turn .slot ≤ s → (ownerAt (m .group) s ≡ a .about → s < a .slot) → isOut (withNotice (m .group) a) s ≡ isOut (m .group) s
+  left-alone lo h =
+      same-by (ownerAt (m .group) s) (a .about)
+      (λ q. bool-by (a .out)
+      (λ b. out-before (m .group) a b in-from s q (h q) (let p = out-passed m a e b .ended in omega arith))
+      (λ b. back-before (m .group) a b in-until s q (h q) (notice-passed m a e .range) (back-passed m a e b .endless)))
+      (λ d. out-other (m .group) a s d)
+
+-- the slots that the turn has passed
 
 module _ {over : ℕ} (m : Memory) (S : Shape over m) (a : Notice) (e : noticeRefusal m a ≡ 0) (s : ℕ) (low : s < m .turn .slot) where
   above : s < a .slot
@@ -125,6 +157,9 @@ notice-claims = record {
       restart-by (λ (q : Outcome). q .answer ≡ restarted (length (blocksIn n journal)) (replicate 512 0)) m n own values journal notices block
       (λ z. ap (restarted (length (blocksIn n journal))) (given-none notices own (replicate 512 0) (blocksIn n journal) h))
       (λ z. absurd (z r));
+  outs = λ m S a b e s. rw (group-noticed m a e) (put-out m S a e s b);
+  again = λ m S a b e s. rw (group-noticed m a e) (counted m S a e s b);
+  others = λ m S a e s. rw (group-noticed m a e) (left-alone m S a e s);
   notices = λ m S a e s low. rw (group-noticed m a e) (none-out m S a e s low);
   backs = λ m S a b e s low. rw (group-noticed m a e) (none-back m S a e s low b);
 }

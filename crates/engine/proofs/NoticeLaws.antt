@@ -1,8 +1,9 @@
 -- What notices change in the group: the numbers and lengths stay, an outage of another replica stays, and what "out" says. Assumes nothing.
 use Prim.Native.Nat.{ℕ, _≤_, _<_}
-use mathlib.Core.Path.{_≡_, refl, _∙_}
+use mathlib.Core.Path.{_≡_, refl, sym, _∙_}
 use mathlib.Core.Bool.{true, false, cond}
 use mathlib.Core.List.{List, [], _∷_}
+use native.Mathlib.Omega.{arith}
 use lib.Dec.{leb, ltb}
 use lib.ListN.{length, getD, length-set}
 use lib.Seq.{getD-set-same, getD-set-other}
@@ -11,7 +12,7 @@ use Rattle.block.proofs.BoolLaws.{both, joined}
 use Rattle.memory.specs.declared.Group.{Group}
 use Rattle.memory.specs.Memory.{ownerAt, slotLimit}
 use Rattle.memory.specs.Notices.{Notice, isOut, withNotice, withNotices}
-use Rattle.engine.proofs.Tests.{cond-by}
+use Rattle.engine.proofs.Tests.{cond-by, bool-by}
 
 -- ---- an out slot
 
@@ -28,6 +29,9 @@ in-outage g s u =
 
 pub is-out : (g : Group) (s : ℕ) → InOutage g s → isOut g s ≡ true
 is-out g s h = joined (lt-ltb s slotLimit (h .slot)) (joined (le-leb (getD (g .from) (ownerAt g s) 0) s (h .low)) (lt-ltb s (getD (g .until) (ownerAt g s) 0) (h .high)))
+
+pub not-out : (g : Group) (s : ℕ) → (InOutage g s → ⊥) → isOut g s ≡ false
+not-out g s f = bool-by (isOut g s) (λ u. absurd (f (in-outage g s u))) (λ u. u)
 
 -- ---- one notice
 
@@ -57,6 +61,26 @@ module _ (g : Group) (a : Notice) where
 
   pub out-other : (s : ℕ) → (ownerAt g s ≡ a .about → ⊥) → isOut (withNotice g a) s ≡ isOut g s
   out-other s d = rw (from-other (ownerAt g s) d, until-other (ownerAt g s) d) refl
+
+  -- of its own replica, from its slot on and before it
+  pub out-from : a .out ≡ true → a .about < length (g .from) → a .about < length (g .until) → (s : ℕ) → ownerAt g s ≡ a .about → a .slot ≤ s → s < slotLimit
+      → isOut (withNotice g a) s ≡ true
+  out-from b f u s q lo hi = is-out (withNotice g a) s (record { slot = hi; low = rw (q, from-out b f) lo; high = rw (q, until-now u, b) hi })
+
+  pub back-from : a .out ≡ false → a .about < length (g .until) → (s : ℕ) → ownerAt g s ≡ a .about → a .slot ≤ s → isOut (withNotice g a) s ≡ false
+  back-from b u s q lo = not-out (withNotice g a) s (λ o. let h = rw (q, until-now u, b) at (o .high) in let z : ⊥ = omega arith in z)
+
+  -- where the last outage has ended at or below the slot
+  pub out-before : a .out ≡ true → a .about < length (g .from) → (s : ℕ) → ownerAt g s ≡ a .about → s < a .slot → getD (g .until) (a .about) 0 ≤ s
+      → isOut (withNotice g a) s ≡ isOut g s
+  out-before b f s q hi e =
+      not-out (withNotice g a) s (λ o. let h = rw (q, from-out b f) at (o .low) in let z : ⊥ = omega arith in z)
+      ∙ sym (not-out g s (λ o. let h = rw q at (o .high) in let z : ⊥ = omega arith in z))
+
+  -- where it has no end yet
+  pub back-before : a .out ≡ false → a .about < length (g .until) → (s : ℕ) → ownerAt g s ≡ a .about → s < a .slot → a .slot < slotLimit → getD (g .until) (a .about) 0 ≡ slotLimit
+      → isOut (withNotice g a) s ≡ isOut g s
+  back-before b u s q hi k e = rw (q, until-now u, b, e, lt-ltb s (a .slot) hi, lt-ltb s slotLimit (omega arith)) refl
 
 -- ---- a list of them
 
