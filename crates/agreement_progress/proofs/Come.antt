@@ -156,22 +156,22 @@ module _ {over : ℕ} (m : Memory) (S : Shape over m) (b : List ℕ) (G : Givabl
       kept-0 h t = let k = is-taken b (G .taken) in rw (lent, k .checks, k .forms, ours-group, p, u, h, G .ours p, t) refl
 
   -- to prove P, prove it of each answer
-  given-by : {P : Type 0} → (deliverRefusal m b ≡ 0 → P) → (slotPast m b ≡ true → deliverRefusal m b ≡ 17 → P) → (deliverRefusal m b ≡ 18 → P)
-      → (slotAhead m b ≡ false → placeTaken m b ≡ true → deliverRefusal m b ≡ 20 → P) → (deliverRefusal m b ≡ 29 → P) → P
+  pub given-by : {P : Type 0} → (deliverRefusal m b ≡ 0 → P) → (slotPast m b ≡ true → deliverRefusal m b ≡ 17 → P) → (slotAhead m b ≡ true → deliverRefusal m b ≡ 18 → P)
+      → (slotAhead m b ≡ false → placeTaken m b ≡ true → deliverRefusal m b ≡ 20 → P) → (slotPast m b ≡ false → slotOut m b ≡ true → deliverRefusal m b ≡ 29 → P) → P
   given-by zero past ahead placed out =
       bool-by (slotPast m b) (λ p. past p (past-17 p))
-      (λ p. bool-by (slotOut m b) (λ u. out (out-29 p u))
-      (λ u. bool-by (slotAhead m b) (λ h. ahead (ahead-18 p u h))
+      (λ p. bool-by (slotOut m b) (λ u. out p u (out-29 p u))
+      (λ u. bool-by (slotAhead m b) (λ h. ahead h (ahead-18 p u h))
       (λ h. bool-by (placeTaken m b) (λ t. placed h t (placed-20 p u h t)) (λ t. zero (kept-0 p u h t)))))
 
   -- its number
   pub given-number : let a = deliverRefusal m b in (a ≡ 0) ⊎ ((a ≡ 17) ⊎ ((a ≡ 18) ⊎ ((a ≡ 20) ⊎ (a ≡ 29))))
-  given-number = given-by inl (λ p e. inr (inl e)) (λ e. inr (inr (inl e))) (λ h t e. inr (inr (inr (inl e)))) (λ e. inr (inr (inr (inr e))))
+  given-number = given-by inl (λ p e. inr (inl e)) (λ h e. inr (inr (inl e))) (λ h t e. inr (inr (inr (inl e)))) (λ p u e. inr (inr (inr (inr e))))
 
   -- a deliver of it that is answered neither 18 nor 29 is accepted, or the turn has passed its slot or its place is taken
   pub come-given : (deliverRefusal m b ≡ 18 → ⊥) → (deliverRefusal m b ≡ 29 → ⊥) → HasCome (headerOf b .slot) (step m (deliver b) .memory)
   come-given near live = deliver-by (λ (o : Outcome). HasCome (headerOf b .slot) (o .memory)) m b (λ e. here (deliver-passed m b e))
-      (λ e. given-by (λ z. absurd (e z)) (λ p z. inl (ltb-true _ _ p)) (λ z. absurd (near z)) (λ h t z. inr (leb-false _ _ h, not-true _ t)) (λ z. absurd (live z)))
+      (λ e. given-by (λ z. absurd (e z)) (λ p z. inl (ltb-true _ _ p)) (λ h z. absurd (near z)) (λ h t z. inr (leb-false _ _ h, not-true _ t)) (λ p u z. absurd (live z)))
 
 -- ---- a work, a send
 

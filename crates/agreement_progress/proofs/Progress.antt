@@ -4,7 +4,7 @@ use Prim.Native.Nat.{ℕ, zero, suc, _≤_, _<_}
 use mathlib.Core.Path.{_≡_, refl, sym, ap, _∙_, subst}
 use mathlib.Core.Bool.{Bool, true, false}
 use mathlib.Core.Logic.{_⊎_, inl, inr}
-use mathlib.Core.List.{List, [], _∷_, _++_, append-nil, map}
+use mathlib.Core.List.{List, [], _++_, append-nil, map}
 use native.Mathlib.Nat.{mod-lt}
 use native.Mathlib.Omega.{arith}
 use lib.IntN.{ℤ}
@@ -17,10 +17,7 @@ use Rattle.memory.specs.Notices.{Notice, putsOut}
 use Rattle.memory.specs.Turns.{isEmpty}
 use Rattle.engine.specs.Make.{Setting}
 use Rattle.engine.specs.Moves.{outAtTurn, sentAlready, nothingWaits}
-use Rattle.engine.specs.Calls.{refusalOf}
-use Rattle.engine.specs.Calls.Call.{deliver}
 use Rattle.engine.proofs.Tests.{bool-by, same-by, less-by, clash}
-use Rattle.engine.proofs.Refusals.{refusals}
 use Rattle.protocol.specs.Lists.{Mem}
 use Rattle.protocol.specs.Writesets.{Message}
 use Rattle.protocol.proofs.ListLaws.{mem-getD, getD-map-in}
@@ -31,11 +28,10 @@ use Rattle.agreement.proofs.View.{setup, Sound, out-same}
 use Rattle.agreement.proofs.DeliverStep.{slot-said}
 use Rattle.agreement.proofs.RestartView.{puts-same}
 use Rattle.agreement.proofs.OneList.{beginnings, outs-same}
-use Rattle.agreement_progress.specs.Progress.{HandedFor, OutFor, Counts, DownOut, SameNotices, AllGiven, SlotsLeft, SomeGoes, ProgressTheorem, everyone, NoneDown, HandedAnswers}
+use Rattle.agreement_progress.specs.Progress.{HandedFor, OutFor, Counts, DownOut, SameNotices, AllGiven, SlotsLeft, SomeGoes, ProgressTheorem, everyone, NoneDown}
 use Rattle.agreement_progress.proofs.NoticeLists.{puts-first, puts-about, puts-last}
-use Rattle.agreement_progress.proofs.Come.{HasCome, given-number, works, works-out, sends}
+use Rattle.agreement_progress.proofs.Come.{HasCome, works, works-out, sends}
 use Rattle.agreement_progress.proofs.Parts.{outs, inv, stood, size-at, own-at}
-use Rattle.agreement_progress.proofs.Blocks.{givable}
 use Rattle.agreement_progress.proofs.Given.{come-all}
 
 -- one that counts with the lowest turn, of those below c; or none counts
@@ -202,9 +198,3 @@ progress n start setting cs f p counts down agree given some = goes n start sett
 
 pub none-down : NoneDown
 none-down n start setting cs f p = progress n start setting cs f p everyone (λ d h e. clash {b = true} refl e)
-
-pub handed-answers : HandedAnswers
-unfolding refusalOf
-handed-answers n start setting cs f p k b q =
-    subst (λ (a : ℕ). (a ≡ 0) ⊎ ((a ≡ 17) ⊎ ((a ≡ 18) ⊎ ((a ≡ 20) ⊎ (a ≡ 29))))) (sym (refusals .number (run (fresh n start) cs .memories k) (deliver b)))
-    (given-number (run (fresh n start) cs .memories k) (sound n start setting cs f p k .shape) b (givable n start setting cs f p cs [] (sym (append-nil cs)) k b q))

@@ -30,7 +30,7 @@ giving k b = record { at = k; does = call (deliver b) }
 abbrev pub outFrom : ℕ → ℕ → Notice
 outFrom k v = record { about = k; out = true; slot = v }
 
--- what a memory answers
+-- what a deliver answers
 abbrev pub deliverNumber : Memory → List ℕ → ℕ
 deliverNumber m b = numberOf (step m (deliver b) .answer)
 
@@ -106,8 +106,14 @@ NoneDown = (n : ℕ) (start : List ℤ) → Setting n start → (cs : List CallA
     → SameNotices n start cs everyone → AllGiven n start cs everyone → SlotsLeft n start cs everyone → SomeGoes n start cs everyone
 
 -- What a host may drop. A block handed out that is delivered, at a replica or a station, is kept, or answered 17, 18, 20 or 29: never 14, 15, 16, nor 19. One answered 17 or 20 is not needed
--- there; one answered 18 or 29 may be, once the turn has come nearer or a Back is taken, and is to be delivered again.
+-- there until a restart; one answered 18 or 29 may be, once the turn has come nearer or a Back is taken, and is to be delivered again.
 abbrev pub HandedAnswers : Type 0
 HandedAnswers = (n : ℕ) (start : List ℤ) → Setting n start → (cs : List CallAt) → Calls n cs → Premise n start cs
     → (k : ℕ) (b : List ℕ) → let g = run (fresh n start) cs in Mem b (g .blocks)
     → let a = deliverNumber (g .memories k) b in (a ≡ 0) ⊎ ((a ≡ 17) ⊎ ((a ≡ 18) ⊎ ((a ≡ 20) ⊎ (a ≡ 29))))
+
+-- without notices a replica answers neither 18 nor 29 to it; a station, which no owner waits for, may answer 18
+abbrev pub HandedUnnoticed : Type 0
+HandedUnnoticed = (n : ℕ) (start : List ℤ) → Setting n start → (cs : List CallAt) → Calls n cs → (p : Premise n start cs) → ((k : ℕ) → p .lists k ≡ [])
+    → (k : ℕ) → k < n → (b : List ℕ) → let g = run (fresh n start) cs in Mem b (g .blocks)
+    → let a = deliverNumber (g .memories k) b in (a ≡ 0) ⊎ ((a ≡ 17) ⊎ (a ≡ 20))
