@@ -230,15 +230,16 @@ impl<S: Subject> Group<S> {
     /// `rounds` times; then without sending, so that all end at the same turn, the stations too.
     pub fn settle(&mut self, rounds: usize) {
         for _ in 0..rounds * self.replicas {
-            self.settle_once(true);
+            self.round(true);
         }
         // One that was closed for long takes more than one round.
-        while self.settle_once(false) {}
+        while self.round(false) {}
         self.settle_stations();
     }
 
-    /// Whether a turn moved.
-    fn settle_once(&mut self, sends: bool) -> bool {
+    /// Every replica that is not closed, one after the other, takes the notices that it can, sends if it is
+    /// to, is given all blocks and works them off. It gives whether a turn moved.
+    pub fn round(&mut self, sends: bool) -> bool {
         let turns = |group: &Group<S>| -> Vec<u32> {
             group.tallies.iter().map(|t| t.report.turn).collect()
         };

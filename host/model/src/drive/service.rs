@@ -78,6 +78,16 @@ impl<S: Subject> Group<S> {
         self.service.closed.remove(&k);
     }
 
+    /// Whether the open replicas come to a slot of this one that has no block and is not out.
+    fn is_awaited(&self, k: usize) -> bool {
+        let n = self.replicas as u32;
+        let open = self.open_replicas().into_iter();
+        let turn = open.map(|other| self.tallies[other].report.turn).max();
+        let mut slots = turn.unwrap_or(0)..;
+        let next = slots.find(|slot| (slot % n) as usize == k).unwrap_or(0);
+        !self.blocks.contains_key(&next) && !notice::puts_out(self.said(k), n, next)
+    }
+
     /// Says of a replica that it is out or, if it is, that it is back, from the lowest slot on that it
     /// can be, or later. False where there is no such slot, or nobody would be left that sends.
     pub fn say_next(&mut self, about: usize, later: u32) -> bool {
@@ -182,8 +192,8 @@ impl<S: Subject> Group<S> {
     pub(super) fn random_notice(&mut self, random: &mut Random) {
         let (k, about) = (random.below(self.replicas), random.below(self.replicas));
         let later = random.pick(&[0, 0, 0, 1, 2, self.replicas as u32]);
-        // Nobody is closed for long without being out.
-        if self.is_closed(k) && !self.service.says_out(k) {
+        // The group is not to stand still for long.
+        if self.is_closed(k) && self.is_awaited(k) {
             return self.open(k);
         }
         let member = match self.random_station(random) {
@@ -191,11 +201,11 @@ impl<S: Subject> Group<S> {
             None => k,
         };
         match random.below(20) {
-            0..2 => drop(self.say_next(about, later)),
-            2 if self.is_closed(k) => self.open(k),
-            2 => drop(self.close(k)),
+            0 => drop(self.close(k)),
+            1 | 2 => drop(self.say_next(about, later)),
+            3 => self.open(k),
             _ if self.is_closed(member) => {}
-            3..6 => self.refused_notice(random, member),
+            4..6 => self.refused_notice(random, member),
             6..8 => self.take_all(member),
             _ => drop(self.take_next(member, about, u32::MAX)),
         }

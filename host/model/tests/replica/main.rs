@@ -13,6 +13,7 @@ mod notices;
 mod observer;
 mod orders;
 mod own_writesets;
+mod promises;
 mod refusals;
 mod restart_faults;
 mod restarts;

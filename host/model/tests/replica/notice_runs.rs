@@ -93,6 +93,7 @@ fn run(seed: u64, style: Style, calls: usize, cuts: usize, every: usize, met: &m
                 met.moves += u64::from(moves.is_some());
                 met.moves_without_one += u64::from(moves.is_some() && closed);
             }
+            5 => drop(group.round(true)),
             _ if cuts > 0 && random.below(cuts) == 0 => group.random_cut(&mut random),
             _ => group.random_call(&mut random),
         }

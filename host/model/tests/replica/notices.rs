@@ -284,7 +284,7 @@ fn lent_to_a_restart() {
     let mut replica = make(2, 0);
     let notices = [OUT(1, 1), BACK(1, 4), OUT(0, 6)];
     let mut journal = replica.send().unwrap().to_vec();
-    take(&mut replica, &journal[..BLOCK].to_vec());
+    take(&mut replica, &journal);
     for notice in notices {
         takes(&mut replica, notice);
     }
