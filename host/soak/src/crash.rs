@@ -88,12 +88,12 @@ impl Crash {
         let said = service::said(&self.room);
         let (blocks, _) = journal.as_chunks::<BLOCK>();
         loop {
-            for notice in service::lacking(&said, &self.heard) {
-                // One behind a Back that is still ahead is taken later.
-                let taken: Result<Answer, _> = noticed!(self.station, notice);
-                self.heard.extend(taken.is_ok().then_some(notice));
-            }
             let turn = self.station.report().turn;
+            while let Some(notice) = service::due(&said, &self.heard, turn) {
+                let taken: Result<Answer, _> = noticed!(self.station, notice);
+                assert!(taken.is_ok(), "the station is stranded at turn {turn}: {notice}");
+                self.heard.push(notice);
+            }
             let Some(block) = blocks.get(turn as usize) else {
                 return;
             };
@@ -144,12 +144,11 @@ impl Crash {
         self.log.before_start();
         let opened = (0..N).map(|k| studio::open(&journal(&self.room, k), N as u32, k as u32));
         let (mut group, restarted): (Vec<_>, Vec<_>) = opened.unzip();
-        let mut last: Vec<[u8; BLOCK]> = restarted.iter().map(|r| *r.block).collect();
         for (k, restarted) in restarted.into_iter().enumerate() {
             self.log.restarted(k, None, restarted);
         }
         let said = service::said(&self.room);
-        settle(&mut self.log, &said, &mut group, &mut last);
+        settle(&mut self.log, &said, &mut group);
         self.feed(&studio::lent(&journal(&self.room, 0)));
         self.check(&group);
         fs::remove_dir_all(&self.room).unwrap();
@@ -182,9 +181,16 @@ impl Crash {
     }
 }
 
-/// Lets all take what was said, hands out the last block of each and lets all send, until two rounds are over and
-/// all are at one turn.
-fn settle(log: &mut Log, said: &[Notice], group: &mut [Durable], last: &mut [[u8; BLOCK]]) {
+/// Works until nothing waits, with what was said before each.
+fn work_off(log: &mut Log, said: &[Notice], k: usize, durable: &mut Durable) {
+    while log.call(k, durable, &Call::Work).is_ok() {
+        log.hear(said, k, durable);
+    }
+}
+
+/// Lets all take what was said and send, and hands out all blocks, until two rounds are over and all are at one
+/// turn. One that is out, or was, may be far behind: nobody waited for it.
+fn settle(log: &mut Log, said: &[Notice], group: &mut [Durable]) {
     let turn = |durable: &Durable| durable.report().turn;
     let end = group.iter().map(turn).max().unwrap() + 2 * N as u32;
     // Slots that are out are passed behind the end too, by all.
@@ -192,30 +198,24 @@ fn settle(log: &mut Log, said: &[Notice], group: &mut [Durable], last: &mut [[u8
         let first = turn(&group[0]);
         first >= end && group.iter().all(|durable| turn(durable) == first)
     };
-    // A turn is less than n behind another's, and a round moves each by one at least.
-    for _ in 0..4 * N {
-        if rests(group) {
-            return;
+    let mut before = Vec::new();
+    while !rests(group) {
+        let turns: Vec<u32> = group.iter().map(turn).collect();
+        assert!(
+            turns != before,
+            "at the turns {turns:?}, and not at {end}: a block is lost"
+        );
+        for (k, durable) in group.iter_mut().enumerate() {
+            log.hear(said, k, durable);
+            if turn(durable) < end {
+                let _ = log.call(k, durable, &Call::Send);
+            }
+            for bytes in log.blocks_from(turn(durable)) {
+                let _ = log.call(k, durable, &Call::Deliver { bytes });
+                work_off(log, said, k, durable);
+            }
+            work_off(log, said, k, durable);
         }
-        for k in 0..N {
-            for notice in log.lacks(said, k) {
-                let _ = log.call(k, &mut group[k], &Call::Notice(notice));
-            }
-            if turn(&group[k]) < end {
-                if let Ok(Answer::Block(block)) = log.call(k, &mut group[k], &Call::Send) {
-                    last[k] = *block;
-                }
-            }
-            for block in &*last {
-                let bytes = block.to_vec();
-                let _ = log.call(k, &mut group[k], &Call::Deliver { bytes });
-            }
-            while log.call(k, &mut group[k], &Call::Work).is_ok() {}
-        }
+        before = turns;
     }
-    let turns: Vec<u32> = group.iter().map(turn).collect();
-    assert!(
-        rests(group),
-        "at the turns {turns:?}, and not at {end}: a block is lost"
-    );
 }

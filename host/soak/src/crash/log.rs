@@ -6,13 +6,14 @@ use std::fs::OpenOptions;
 use std::io::{Read, Seek, SeekFrom};
 use std::path::{Path, PathBuf};
 
-use model::block::BLOCK;
+use model::block::{header, BLOCK};
 use model::notice::Notice;
 use model::observer::Observer;
 use model::replica::{Restarted, ITEMS};
 use model::trace::{Answer, Call, Restart};
 use stemline::Durable;
 
+use super::service::due;
 use super::{journal, N};
 use crate::lines::{block, grouped, parse};
 use crate::studio::{lent, play, taken};
@@ -155,9 +156,25 @@ impl Log {
         self.met.notices += u64::from(matches!(call, Call::Notice(_)) && answer.is_ok());
     }
 
-    /// What a service said about a replica that another lacks, in order.
-    pub fn lacks(&self, said: &[Notice], k: usize) -> Vec<Notice> {
-        super::service::lacking(said, self.observer.notices(k))
+    /// The blocks that were handed out from a slot on, in their order.
+    pub fn blocks_from(&self, slot: u32) -> Vec<Vec<u8>> {
+        let slot_of = |block: &[u8; BLOCK]| header(block).slot;
+        let blocks = self
+            .handed_out
+            .iter()
+            .filter(|block| slot_of(block) >= slot);
+        let mut blocks: Vec<Vec<u8>> = blocks.map(|block| block.to_vec()).collect();
+        blocks.sort_by_key(|block| block[4..8].iter().rev().copied().collect::<Vec<_>>());
+        blocks
+    }
+
+    /// Lets a replica take all that was said and can be taken by now.
+    pub fn hear(&mut self, said: &[Notice], k: usize, durable: &mut Durable) {
+        let turn = durable.report().turn;
+        while let Some(notice) = due(said, self.observer.notices(k), turn) {
+            let answer = self.call(k, durable, &Call::Notice(notice));
+            assert!(answer.is_ok(), "replica {k} is stranded: {notice}");
+        }
     }
 
     /// 1 where the block is new, else 0.

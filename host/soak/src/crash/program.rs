@@ -10,7 +10,7 @@ use std::time::{Duration, Instant};
 use model::block::{header, BLOCK};
 use model::drive::{local_call, Style, Tally};
 use model::journal::fixes;
-use model::notice::Notice;
+use model::notice::{self, Notice};
 use model::replay::hex;
 use model::samples::{damage, Random};
 use model::trace::{Answer, Call};
@@ -105,10 +105,17 @@ impl Program {
         self.hear(k);
     }
 
-    /// Takes all that was said and can be taken by now. One behind a Back that is still ahead comes later.
+    /// Takes all that was said and can be taken by now.
     fn hear(&mut self, k: usize) {
-        for notice in service::lacking(&self.said, &self.members[k].tally.notices) {
+        let due = |program: &Program| {
+            let tally = &program.members[k].tally;
+            service::due(&program.said, &tally.notices, tally.report.turn)
+        };
+        while let Some(notice) = due(self) {
+            let taken = self.members[k].tally.notices.len();
             self.call(k, &Call::Notice(notice));
+            let now = self.members[k].tally.notices.len();
+            assert!(now > taken, "replica {k} is stranded: {notice}");
         }
     }
 
@@ -157,15 +164,31 @@ impl Program {
         Some(block)
     }
 
+    /// The block of a replica's turn from another's journal: nobody waits for one that is out, so that it may
+    /// need older ones than are handed out again. Of a slot that is out there is none.
+    fn from_journal(&self, random: &mut Random, k: usize) -> Option<[u8; BLOCK]> {
+        let turn = self.members[k].tally.report.turn;
+        let is_out = notice::puts_out(&self.said, N as u32, turn);
+        let journal = lent(&journal(&self.room, random.below(N)));
+        let block = journal.get(BLOCK * turn as usize..)?.first_chunk();
+        block.filter(|_| !is_out).copied()
+    }
+
     fn step(&mut self, random: &mut Random) {
         let k = random.below(N);
+        // One behind a Back that was ahead so far.
+        self.hear(k);
         match random.below(100) {
             0..50 => {
                 let call = local_call(random, &self.members[k].tally, STYLE);
                 self.call(k, &call);
             }
             50..70 => {
-                if let Some(block) = self.block(random) {
+                let block = match random.below(10) {
+                    0 => self.from_journal(random, k),
+                    _ => self.block(random),
+                };
+                if let Some(block) = block {
                     let bytes = block.to_vec();
                     self.call(k, &Call::Deliver { bytes });
                 }

@@ -11,7 +11,7 @@ use super::N;
 
 /// All that was said, in order.
 pub fn said(room: &Path) -> Vec<Notice> {
-    let text = fs::read_to_string(room.join("said")).unwrap_or_default();
+    let text = fs::read_to_string(room.join("notices")).unwrap_or_default();
     // A kill does not tear a write; but the last line is told by its end.
     let whole = text.rfind('\n').map_or(0, |at| at + 1);
     let lines = text[..whole].lines();
@@ -36,17 +36,19 @@ pub fn say(room: &Path, notice: Notice) {
     };
     let line = format!("{letter} {} {}\n", notice.about, notice.slot);
     let mut file = OpenOptions::new();
-    let file = file.append(true).create(true).open(room.join("said"));
+    let file = file.append(true).create(true).open(room.join("notices"));
     file.unwrap().write_all(line.as_bytes()).unwrap();
 }
 
-/// Of what was said, the notices that who has taken these lacks; those about one replica are in order.
-pub fn lacking(said: &[Notice], taken: &[Notice]) -> Vec<Notice> {
-    let of = |about: u32| {
-        let taken = notice::about(taken, about).count();
-        notice::about(said, about).skip(taken).copied()
-    };
-    (0..N as u32).flat_map(of).collect()
+/// Of what was said, the next notice that who has taken these lacks and can take at its turn: those about one
+/// replica in order, and an Out not before the Back in front of it.
+pub fn due(said: &[Notice], taken: &[Notice], turn: u32) -> Option<Notice> {
+    (0..N as u32).find_map(|about| {
+        let last = notice::about(taken, about).next_back();
+        let next = notice::about(said, about).nth(notice::about(taken, about).count())?;
+        let ahead = last.is_some_and(|last| last.kind == Kind::Back && last.slot > turn);
+        (!ahead).then_some(*next)
+    })
 }
 
 /// The next notice about a replica, where the others and their blocks are below this slot: out, if another is not,

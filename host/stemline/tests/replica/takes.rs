@@ -76,17 +76,19 @@ impl Taking {
     }
 }
 
+/// As many as a take has: a member that lacks a Back may have all others out, and works come to no end.
 fn works(both: &mut Both) -> Vec<second::Work> {
-    let mut steps = Vec::new();
-    loop {
+    let mut steps: Vec<second::Work> = Vec::new();
+    while steps.len() < STEPS && steps.iter().filter(|step| step.moved).count() < LEFT {
         match both.call(&Call::Work) {
             Ok(Answer::Work(step)) => steps.push(step),
             answer => {
                 assert_eq!(answer, Err(21));
-                return steps;
+                break;
             }
         }
     }
+    steps
 }
 
 impl Subject for Taking {
@@ -115,9 +117,8 @@ fn a_take_is_a_deliver_and_its_works() {
         let style = STYLES[seed as usize / 5 % 4];
         let mut random = Random::new(seed);
         let replica = |own| Taking::new(Both::new(n, own, &start_values()));
-        // Without notices the single one: there all might be out, and works come to no end.
-        let noticed = style.with_notices([0, 8][seed as usize % 2]);
-        let mut group = Group::new((0..n).map(replica).collect(), noticed);
+        let style = style.with_notices([0, 8][seed as usize % 2]);
+        let mut group = Group::new((0..n).map(replica).collect(), style);
         group.add_station(Taking::new(Both::station(n, &start_values())));
         let mut single = replica(0);
         let mut peers = Peers::new(n, 0, single.report());
