@@ -16,7 +16,7 @@ pub record WorkDone : Type 0 where
   pub aborted : List ℕ
   pub append : List ℕ
 
--- a refusal's number of document 01's table, or what an accepted call gives
+-- a refusal's number, of document 01's table or of document 02, or what an accepted call gives
 pub data Answer : Type 0 where
   refused : ℕ → Answer
   made : Answer
@@ -37,7 +37,7 @@ pub data Answer : Type 0 where
   -- how many blocks were committed, and the last own one of them outside out slots, 512 zeros where there is none
   restarted : ℕ → List ℕ → Answer
 
--- document 01's number: 0 where the call is accepted
+-- the refusal's number: 0 where the call is accepted
 abbrev pub numberOf : Answer → ℕ
 numberOf (refused n) = n
 numberOf made = 0

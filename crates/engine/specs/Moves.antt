@@ -1,4 +1,4 @@
--- What moves the turn: send, deliver, work. Each call's refusals stand in the order of document 01's table.
+-- What moves the turn: send, deliver, work. Each call's refusals stand in the order of document 01's table, 29 where document 02's Req 10 puts it.
 use Prim.Native.Nat.{ℕ, zero, suc, _+_, _*_, _-_, min}
 use mathlib.Core.Bool.{Bool, true, false, cond, not, _&&_, _||_}
 use mathlib.Core.List.{List, [], _∷_, _++_, map}

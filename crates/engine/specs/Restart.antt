@@ -1,4 +1,4 @@
--- A restart from a journal, document 02's Req 01: the blocks read, what committing them leaves, and the call.
+-- A restart from a journal, document 02's Req 01, with the notices taken, Req 10: the blocks read, what committing them leaves, and the call.
 use Prim.Native.Nat.{ℕ, zero, suc, _+_, _-_, _*_, _/_, max}
 use mathlib.Core.Bool.{Bool, false, cond, not, _&&_}
 use mathlib.Core.List.{List, [], _∷_}
