@@ -1,3 +1,5 @@
 -- The runs, computed. Assumes nothing.
+pub mod Premises
+pub mod OneLists
 pub mod Worked
-pub mod Progress
+pub mod Notices

@@ -1,3 +1,3 @@
 -- Worked runs beside the theorem of agreement.
 pub mod Worked
-pub mod Progress
+pub mod Notices
