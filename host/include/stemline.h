@@ -144,7 +144,8 @@ static inline uint32_t stemline_owner(uint32_t slot, uint32_t n) {
 /* Whether a slot from the turn on is out. Of slots before it only all notices say that. */
 static inline bool stemline_is_out(const stemline_group *group, uint32_t slot) {
     uint32_t k = stemline_owner(slot, group->replicas);
-    return k < STEMLINE_REPLICAS && group->from[k] <= slot && slot < group->until[k];
+    /* only in altered memory is the owner none of them, or does an outage end behind the last slot */
+    return slot < STEMLINE_SLOTS && k < STEMLINE_REPLICAS && group->from[k] <= slot && slot < group->until[k];
 }
 
 /* ---- The calls at a replica
@@ -341,7 +342,7 @@ static inline bool stemline_replica_waits(const stemline_replica *r) {
     uint32_t n = r->group.replicas, slot = r->turn.slot;
     /* slot s waits at place s mod n; only in altered memory is n out of range, and the work says then what is wrong */
     return n - 1 >= STEMLINE_REPLICAS || r->places[STEMLINE_BLOCK * (slot % n)] != 0
-        || (slot < STEMLINE_SLOTS && stemline_is_out(&r->group, slot));
+        || stemline_is_out(&r->group, slot);
 }
 
 /* What a replica does with a block that arrives: delivers it, then works until

@@ -91,7 +91,10 @@ impl Crash {
             let turn = self.station.report().turn;
             while let Some(notice) = service::due(&said, &self.heard, turn) {
                 let taken: Result<Answer, _> = noticed!(self.station, notice);
-                assert!(taken.is_ok(), "the station is stranded at turn {turn}: {notice}");
+                assert!(
+                    taken.is_ok(),
+                    "the station is stranded at turn {turn}: {notice}"
+                );
                 self.heard.push(notice);
             }
             let Some(block) = blocks.get(turn as usize) else {
@@ -99,7 +102,11 @@ impl Crash {
             };
             match notice::puts_out(&self.heard, N as u32, turn) {
                 true => drop(self.station.work().expect("a slot that is out")),
-                false => drop(self.station.take(block).expect("a block of its turn")),
+                // Step by step: a take would go on through slots that are out, and past a notice.
+                false => {
+                    self.station.deliver(block).expect("a block of its turn");
+                    while !self.station.work().expect("that block").moved {}
+                }
             }
         }
     }

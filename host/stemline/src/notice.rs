@@ -70,7 +70,8 @@ impl Group {
     pub fn is_out(&self, slot: u32) -> bool {
         let k = owner(slot, self.replicas.into()) as usize;
         let outage = self.from.get(k).zip(self.until.get(k));
-        outage.is_some_and(|(&from, &until)| from <= slot && slot < until)
+        // Only in altered memory does an outage end behind the last slot.
+        slot < SLOTS && outage.is_some_and(|(&from, &until)| from <= slot && slot < until)
     }
 
     /// Puts a notice in force, as a restart does.

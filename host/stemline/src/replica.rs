@@ -247,7 +247,7 @@ impl Replica {
     pub fn waits(&self) -> bool {
         let m = &*self.memory;
         let n = m.group.replicas;
-        if m.turn.slot < SLOTS && m.group.is_out(m.turn.slot) {
+        if m.group.is_out(m.turn.slot) {
             return true;
         }
         // Only in altered memory have the places another length, and is n 0.

@@ -91,7 +91,7 @@ static inline stemline_work_reply hold_work(
     static uint8_t before[STEMLINE_BLOCK], left[STEMLINE_BLOCK];
     size_t n = r->group.replicas;
     memcpy(before, block, sizeof before);
-    if (r->turn.slot < STEMLINE_SLOTS && stemline_is_out(&r->group, r->turn.slot)) {
+    if (stemline_is_out(&r->group, r->turn.slot)) {
         put_next(left, (uint32_t)n, r->turn.slot);
     } else if (n >= 1 && n <= STEMLINE_REPLICAS) {
         memcpy(left, r->places + STEMLINE_PLACES(r->turn.slot % n), sizeof left);

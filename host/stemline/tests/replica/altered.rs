@@ -276,7 +276,7 @@ fn same_append(before: &Lent, after: &Lent, answer: &str) {
         0 => 0,
         n => slot as usize % usize::from(n),
     };
-    let is_out = slot < SLOTS && group.is_out(slot);
+    let is_out = group.is_out(slot);
     match answer.contains("append: true") {
         true if is_out => {
             let mut next = [0; BLOCK];
