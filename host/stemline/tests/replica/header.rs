@@ -18,6 +18,13 @@ const HEADERS: &str = concat!(
 );
 const FIRST: &str = include_str!("../../../examples/first.c");
 const PRINT_ROOM: &str = include_str!("../../../examples/print_room.c");
+const CLOSED: &str = include_str!("../../../examples/closed_studio.c");
+const CLOSED_SAYS: &str = "\
+all three: turn 4, item 5 is 3; turn 4, item 5 is 3; turn 4, item 5 is 3
+closed: turn 9, item 5 is 7; turn 9, item 5 is 7; turn 4, item 5 is 3
+back: turn 9, item 5 is 7; turn 9, item 5 is 7; turn 9, item 5 is 7
+all three: turn 12, item 5 is 11; turn 12, item 5 is 11; turn 12, item 5 is 11
+";
 const PRINT_ROOM_SAYS: &str = "\
 the last block, too early: the block's slot is too far above the turn (18)
 slot 0: accepted, item 5 is 40
@@ -244,7 +251,7 @@ int main(void) {
 }
 "#;
 
-/// The headers with the first program and the one with a station, and that of the calls alone, without a
+/// The headers with the first program, the one with a station and the one with a closed studio, and that of the calls alone, without a
 /// warning, in each language that they are for.
 #[test]
 fn every_language() {
@@ -255,6 +262,7 @@ fn every_language() {
     let programs = [
         ("first", FIRST, "the write: accepted\nitem 5: 40 and 40\n"),
         ("print-room", PRINT_ROOM, PRINT_ROOM_SAYS),
+        ("closed-studio", CLOSED, CLOSED_SAYS),
         ("lent-alone", LENT, "1 3\n1 15\n9 2: 5 = -84\n"),
     ];
     for (compiler, extension, standard) in languages {

@@ -12,7 +12,7 @@ use std::sync::atomic::{AtomicU32, Ordering};
 use model::block::{put_check, BLOCK};
 use model::drive::{start_values, STYLES};
 use model::samples::{block_of, damage, Random};
-use stemline::{Durable, Replica, HEAD};
+use stemline::{notices_path, Durable, Replica, HEAD};
 
 use crate::looks::{digits, read_through, sizes};
 use crate::restarts;
@@ -99,6 +99,44 @@ fn heads() {
     head[40] ^= 1;
     let damaged = "is not to be taken up: its head is damaged: the check does not match";
     prints(&at(&head), &[], &[], damaged, 1);
+}
+
+/// The notices beside a journal, the slots that they put out, and what is said where they are lost.
+#[test]
+fn notices() {
+    let path = Path::new(env!("CARGO_TARGET_TMPDIR")).join("journal-notices");
+    let beside = notices_path(&path);
+    let _ = (fs::remove_file(&path), fs::remove_file(&beside));
+    let (mut replica, _) = Durable::open(&path, "grotesque", 2, 1, &start_values()).unwrap();
+    replica.out(0, 0).unwrap();
+    replica.work().unwrap();
+    let block = replica.send().unwrap();
+    replica.take(&block).unwrap();
+    replica.back(0, 3).unwrap();
+    drop(replica);
+    let first = "replica 1 of 2 of the group \"grotesque\", version 2, start 1c1d552adf88173d; \
+        copies of slots 0 to 1 and 2 to 2";
+    let lines = [
+        "notice: Out 0 from 0",
+        "notice: Back 0 at 3",
+        "slot 0 of replica 0 of 2: nothing, out",
+        "slot 1 of replica 1 of 2: nothing",
+        "slot 2 of replica 0 of 2: nothing, out",
+    ];
+    let last = "ends after 3 blocks, at byte 13824";
+    prints(&path, &[&format!("{first}; 2 notices")], &lines, last, 0);
+    let lost = fs::read(&beside).unwrap();
+    fs::write(&beside, &lost[..lost.len() - 24]).unwrap();
+    let words = format!(
+        "{first}; its notices are lost: 2 were taken, and {} has 1",
+        beside.display()
+    );
+    let blocks = [
+        "slot 0 of replica 0 of 2: nothing",
+        "slot 1 of replica 1 of 2: nothing",
+        "slot 2 of replica 0 of 2: nothing",
+    ];
+    prints(&path, &[&words], &blocks, last, 1);
 }
 
 /// The copies of a head: which slots they have, and that the blocks end before them.
