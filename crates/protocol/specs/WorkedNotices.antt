@@ -53,6 +53,14 @@ untilEight = nextOf 0 0 ∷ nextOf 1 1 ∷ nextOf 2 2 ∷ nextOf 3 0 ∷ reopene
 abbrev pub untilTwo : List (Message ℕ)
 untilTwo = nextOf 0 0 ∷ nextOf 1 1 ∷ []
 
+-- ---- replica 0 hands out the block of slot 0, and nobody passes the slot
+abbrev pub handing : List (CallAt ℕ)
+handing = at 0 (send ∷ [])
+
+-- the one list then: replica 0 is out from slot 0
+abbrev pub ofZero : ℕ → List Notice
+ofZero k = noticesAbout k (outFrom 0 0 ∷ [])
+
 pub record NoticeRuns : Type 0 where
   -- an Out is taken once, and with a slot; a Back only of a replica that is out, behind its Out
   pub notices : events start noticing ≡ noticed (outFrom 2 2) ∷ refused 28 ∷ refused 2 ∷ refused 28 ∷ refused 28 ∷ []
@@ -93,5 +101,7 @@ pub record NoticeRuns : Type 0 where
   -- ---- what the premise bars: a turn above a notice that is lacking, a notice that is not of the list, a block handed out for an out slot, other notices lent
   pub lacking : Beginning [] (outFrom 1 3 ∷ []) 4 → ⊥
   pub unlisted : OneList (λ k. Unit) (λ k. []) (after noticing) → ⊥
-  pub dropped : OneList (λ k. Unit) (λ k. noticesAbout k (outFrom 0 0 ∷ [])) (after passing) → ⊥
+  pub dropped : OneList (λ k. Unit) ofZero (after handing) → ⊥
+  -- by that block alone: the rest of the premise holds there
+  pub handedAlone : (j k : ℕ) → Beginning (noticesAbout k (after handing .notices j)) (ofZero k) (after handing .replicas j .cursor .turn)
   pub otherLent : Lent three (journal [] 0) (outFrom 1 3 ∷ []) (start .replicas 1) (restart [] []) → ⊥
