@@ -1,4 +1,5 @@
 -- `notices::is_out` meets its contract: each answer by its law. Assumes nothing.
+use native.Mathlib.Omega.{arith}
 use Rattle.memory.proofs.NoticeLaws.{behind-it, no-slot, from-it}
 use borrow.Author.Needs.{needs}
 use Rattle.memory.proofs.notices.is_out.Statement.{statement}
@@ -23,7 +24,7 @@ returns-2 c =
     let u = e .before in
     let o = u .before in
     let a = o .before .args in
-    no-slot (a .group) (a .slot) (o .owner-at .result) (o .owner-at .ensures) (u .out-until .result) (u .out-until .ensures) (e .if1 .left) (c .if2 .taken)
+    no-slot (a .group) (a .slot) (o .owner-at .result) (o .owner-at .ensures) (u .out-until .result) (u .out-until .ensures) (e .if1 .left) (omega (arith, c .if2 .taken))
 
 out-from-requires : tie.Need-out-from-requires
 out-from-requires c κs = search needs
@@ -35,7 +36,7 @@ returns-3 c =
     let u = e .before in
     let o = u .before in
     let a = o .before .args in
-    from-it (a .group) (a .slot) (o .owner-at .result) (o .owner-at .ensures) (u .out-until .result) (u .out-until .ensures) (e .if1 .left) (f .if2 .left)
+    from-it (a .group) (a .slot) (o .owner-at .result) (o .owner-at .ensures) (u .out-until .result) (u .out-until .ensures) (e .if1 .left) (omega (arith, f .if2 .left))
     (c .out-from .result) (c .out-from .ensures)
 
 pub is-out-spec : {M : Type 1} → statement M
