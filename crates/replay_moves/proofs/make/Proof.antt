@@ -14,6 +14,9 @@ slice-aggregate-restart c = search needs
 slice-aggregate-restart-2 : tie.Need-slice-aggregate-restart-2
 slice-aggregate-restart-2 c = search needs
 
+slice-aggregate-restart-3 : tie.Need-slice-aggregate-restart-3
+slice-aggregate-restart-3 c = search needs
+
 restart-requires : tie.Need-restart-requires
 restart-requires c κs = search needs
 
@@ -25,8 +28,9 @@ bare-requires c κs = search needs
 
 returns : tie.Need-returns
 returns c =
-    let a = c .before .before .before .before .before .before .before .args in
-    plays-make (placesSize (a .n)) (a .replica) (a .n) (a .own) (replicate 128 (a .value)) (replicate 512 0) (length-replicate {A = ℕ} 512 0) (rw (toZ-ofZ (c .before .before .before .before .before .before .before .fits .value)) at (c .before .before .before .before .restart .ensures)) (rw (c .before .changing .ensures) at (c .bare .ensures))
+    let s = c .before .before .before .before .before .before .before .before in
+    let a = s .args in
+    plays-make (placesSize (a .n)) (a .replica) (a .n) (a .own) (replicate 128 (a .value)) (replicate 512 0) (length-replicate {A = ℕ} 512 0) (rw (toZ-ofZ (s .fits .value)) at (c .before .before .before .before .restart .ensures)) (rw (c .before .changing .ensures) at (c .bare .ensures))
 
 pub make-spec : {M : Type 1} → statement M
 make-spec =
@@ -34,6 +38,7 @@ make-spec =
     (tie.spec
     slice-aggregate-restart
     slice-aggregate-restart-2
+    slice-aggregate-restart-3
     restart-requires
     changing-requires
     bare-requires
