@@ -64,6 +64,11 @@ module _ (m : Memory) (n own : ℕ) (values : List ℤ) (journal notices lent ze
       rw (g .0 .0, g .0 .1, g .1)
       (by-number restart-shows (eqb (length notices % 3) 0) (λ e. unless-by restart-shows (restartRefusal m n own values lent) m _ refl (λ f. rw f)) (λ e. refl))
 
+-- lent no numbers, it is lent no notices
+pub lent-none : (m : Memory) (n own : ℕ) (values : List ℤ) (journal block : List ℕ) → restartLent m n own values journal [] block ≡ restartStep m n own values journal [] block
+unfolding restartLent noticesIn
+lent-none m n own values journal block = refl
+
 -- ---- make: a restart from no journal, lent no notices, with no block given back
 
 bare-made : Outcome → List ℕ → Effect
@@ -82,12 +87,12 @@ module _ (m : Memory) (n own : ℕ) (values : List ℤ) (block : List ℕ) (long
   unfolding restartRefusal makeRefusal
   same-refusal = rw (eq-eqb (length block) 512 long)
 
-  make-effect : (lent : List ℕ) → bare-made (restartLent m n own values [] [] block) lent ≡ effect lent (makeStep m n own values)
-  unfolding restartLent noticesIn restartStep makeStep
+  make-effect : (lent : List ℕ) → bare-made (restartStep m n own values [] [] block) lent ≡ effect lent (makeStep m n own values)
+  unfolding restartStep makeStep
   make-effect lent = rw (same-refusal, restarts .empty n own values) (made-shows (eqb (makeRefusal m n own values) 0) _ _ _ lent m _ refl)
 
 module _ (size : ℕ) (replica : Replica) (n own : ℕ) (values : List ℤ) (block : List ℕ) {p q : Played} {left : List ℕ} where
-  pub plays-make : length block ≡ 512 → Plays size replica p left (effect block (restartLent (memoryOf size replica) n own values [] [] block))
+  pub plays-make : length block ≡ 512 → Plays size replica p left (effect block (restartStep (memoryOf size replica) n own values [] [] block))
       → q ≡ record {
         replica = p .replica;
         number = p .number;

@@ -2,13 +2,14 @@
 ghost use Prim.Native.Nat.{ℕ, _+_, _≤_};
 ghost use mathlib.Core.Path.{_≡_};
 ghost use mathlib.Core.Bool.{cond};
-ghost use mathlib.Core.List.{List, _∷_};
+ghost use mathlib.Core.List.{List, [], _∷_};
 ghost use lib.Dec.{eqb};
 ghost use lib.ListN.{replicate};
 ghost use Rattle.memory.specs.Rows.{endRows};
 ghost use Rattle.engine.specs.Make.{makeStep};
 ghost use Rattle.engine.specs.Moves.{sendStep, deliverStep, workStep};
 ghost use Rattle.engine.specs.Notices.{noticeStep};
+ghost use Rattle.engine.specs.Restart.{restartStep};
 ghost use Rattle.call_reply.specs.Called.{withBlock};
 ghost use Rattle.call_reply.specs.Notices.{restartLent};
 ghost use Rattle.replay_journal.specs.declared.Change.the-variants.{Stays, Grows};
@@ -114,13 +115,28 @@ pub fn restart(
     with_number(after, reply.number, reply.count, change)
 }
 
-// A replica made in the place of the other, which stays where the make is refused: a restart from no journal, lent no notices, with no block given back.
+// A restart that is lent no notices.
+pub fn restart_alone(
+    replica: Replica,
+    n: u32,
+    own: u32,
+    value: i32,
+    journal: &[u8],
+    block: &mut [u8],
+) -> Played
+    ensures { λ r. ⌜ Plays (placesSize n) replica r (now (block .exit))
+        (effect (now (block .entry)) (restartStep (memoryOf (placesSize n) replica) n own (replicate 128 value) (now (journal .entry)) [] (now (block .entry)))) ⌝ }
+{
+    let none = [0u32; 0];
+    restart(replica, n, own, value, journal, &none, &mut *block)
+}
+
+// A replica made in the place of the other, which stays where the make is refused: a restart from no journal, with no block given back.
 pub fn make(replica: Replica, n: u32, own: u32, value: i32) -> Played
     ensures { λ r. ⌜ ((lent : List ℕ) → Plays (placesSize n) replica r lent (effect lent (makeStep (memoryOf (placesSize n) replica) n own (replicate 128 value)))) ⌝ }
 {
     let mut block = [0u8; 512];
-    let none = [0u32; 0];
-    let made = restart(replica, n, own, value, b"", &none, &mut block);
+    let made = restart_alone(replica, n, own, value, b"", &mut block);
     let after = made.replica;
     bare(after, made.number, changing(made.number, Change::Begins(0)))
 }
