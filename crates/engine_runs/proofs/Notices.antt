@@ -23,4 +23,4 @@ use Rattle.engine_runs.specs.Notices.{WorkedNotices}
 
 pub worked-notices : WorkedNotices
 unfolding bytesOf numberFrom valueBytes valueOf word sumTo weightedTo firstCheck secondCheck checkBytes checkMatches ownerOf within kindFits entriesFit recordFits recordsFit ticketAbsent ticketsDiffer valid entryBytes entriesBytes recordBytes recordsBytes headerFor headerBytes bodyBytes blockOf entryOf entriesOf recordOf recordsOf messageOf allZero entriesPadded recordPadded recordsPadded padded wellFormed firstOf headerOf recordAt entryAt entriesFrom bump openCount rowFrom rowOf freeRow indexFrom has holderFrom countBelow placeStart madeMemory placesFit partsFit makeRefusal makeStep beginRefusal beginAt beginRow readRefusal valueFor readRow writeRefusal rewriteAt insertWrite staleAt writeRow askRefusal readOnlyAt queueAt askRow withdrawRefusal withdrawAt withdrawRow reportOf reportStep waiting writesetOf messageFor sendRefusal sendNow sendStep sameBytes deliverRefusal deliverNow deliverStep entriesFor applied stamped shares afterAborts insertRising hitTickets without workRefusal passNext commitWriteset passOut passBlock workStep placedFrom noticeRefusal noticeStep withNotices putsOut hasClass classFrom classToCome mustWait areClasses loadRefusal loadStep isGood blocksFrom writesetsFrom commitAll commitBlocks highestTicket highestOwn ownWritesets lastOwn restartedMemory restartRefusal restartStep blockRefusal step answers
-worked-notices = record { out-and-back = refl; out-of-itself = refl; twice = refl; given = refl; by-last = refl; placed = refl }
+worked-notices = record { out-and-back = refl; out-of-itself = refl; twice = refl; given = refl; by-last = refl; placed = refl; half-applied = refl; station = refl }

@@ -1,7 +1,7 @@
--- Document 02's Req 10, worked: what lists of calls with notices answer at a replica just made, and what a restart gives back.
+-- Document 02's Req 10, worked: what lists of calls with notices answer at a replica or a station just made, and what a restart gives back.
 use Prim.Native.Nat.{ℕ}
 use mathlib.Core.Path.{_≡_}
-use mathlib.Core.Bool.{true}
+use mathlib.Core.Bool.{true, false}
 use mathlib.Core.List.{List, [], _∷_, _++_}
 use lib.IntN.{pos}
 use lib.ListN.{replicate, drop}
@@ -10,9 +10,10 @@ use Rattle.memory.specs.Notices.{Notice}
 use Rattle.engine.specs.Answers.{Answer}
 use Rattle.engine.specs.Answers.Answer.{refused, sent, kept, worked, noticed, reported, restarted}
 use Rattle.engine.specs.Restart.{restartStep}
+use Rattle.engine.specs.Station.{stationMemory}
 use Rattle.engine.specs.Calls.{Call}
 use Rattle.engine.specs.Calls.Call.{begin, write, ask, report, send, deliver, work, notice}
-use Rattle.engine.specs.Worked.{answers, numbers, zeros, fresh, nextBlock, outFrom, backAt}
+use Rattle.engine.specs.Worked.{answers, numbers, zeros, fresh, nextBlock, twoThenOne, outFrom, backAt}
 
 abbrev pub out : ℕ → ℕ → Call
 out k v = notice (outFrom k v)
@@ -76,3 +77,9 @@ pub record WorkedNotices : Type 0 where
   pub by-last : givesBack (outFrom 1 2 ∷ backAt 1 7 ∷ []) ≡ restarted 4 (nextBlock 2 1 1)
   -- a block placed early shuts a notice out
   pub placed : numbers (fresh 2 1) (next 2 0 0 ∷ work ∷ next 2 0 2 ∷ out 0 1 ∷ out 0 3 ∷ back 0 3 ∷ back 0 4 ∷ []) ≡ 0 ∷ 0 ∷ 0 ∷ 28 ∷ 0 ∷ 28 ∷ 0 ∷ []
+  -- so does one that is half applied, from its slot on: one of its two writesets is committed
+  pub half-applied : answers (fresh 2 1) (deliver twoThenOne ∷ work ∷ out 0 0 ∷ out 0 1 ∷ [])
+      ≡ kept ∷ worked (record { sender = 0; ticket = 2; moved = false; aborted = []; append = [] }) ∷ refused 28 ∷ noticed ∷ []
+  -- a station passes and journals the out slot too, and takes the block of the next one once it has the Back
+  pub station : answers (stationMemory 2 zeros) (out 1 1 ∷ next 2 0 0 ∷ work ∷ work ∷ next 2 1 3 ∷ back 1 2 ∷ next 2 1 3 ∷ [])
+      ≡ noticed ∷ kept ∷ passes 0 0 ∷ passes 1 1 ∷ refused 29 ∷ noticed ∷ kept ∷ []
