@@ -73,7 +73,7 @@ neither : (a b : Bool) → cond a true b ≡ false → (a ≡ false) × (b ≡ f
 neither true b e = clash {b = true} refl e
 neither false b e = (refl, e)
 
-taken-kept : (cs : List CallAt) (g : Members) → anyOf tells cs ≡ false → (j : ℕ) → run g cs .taken j ≡ g .taken j
+pub taken-kept : (cs : List CallAt) (g : Members) → anyOf tells cs ≡ false → (j : ℕ) → run g cs .taken j ≡ g .taken j
 unfolding run anyOf
 taken-kept [] g e j = refl
 taken-kept (c ∷ cs) g e j =
