@@ -165,6 +165,15 @@ impl Run {
     }
 }
 
+impl Run {
+    /// Goes on until a block of another was appended that is not durable yet, where there is one.
+    fn unsure(&mut self) {
+        while self.n > 2 && self.blocks.len() == self.floor {
+            self.slot();
+        }
+    }
+}
+
 /// Out and back of another and of oneself, twice, with slots before, between and behind; then every bit of what is
 /// there is changed once.
 #[test]
@@ -185,6 +194,7 @@ fn any_part_of_both_files() {
             run.slot();
         }
         let w = v + 2 * n;
+        run.unsure();
         run.notice(back(k, w));
         // Meanwhile the own one.
         let turn = run.replica.report().turn;
@@ -200,6 +210,7 @@ fn any_part_of_both_files() {
         while run.replica.report().turn <= v {
             run.slot();
         }
+        run.unsure();
         let turn = run.replica.report().turn;
         run.notice(back(own, next(turn, own)));
         (0..n).for_each(|_| run.slot());
