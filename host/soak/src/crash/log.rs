@@ -31,9 +31,9 @@ pub struct Met {
     pub sent_by_restart: u64,
     /// The writesets committed, counted when the group is at rest.
     pub commits: u64,
-    /// The notices taken, and of these the ones whose call a kill ended.
+    /// The notices taken.
     pub notices: u64,
-    /// See there.
+    /// Of these, the ones whose call a kill ended.
     pub noticed_by_kill: u64,
 }
 
