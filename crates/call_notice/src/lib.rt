@@ -142,3 +142,25 @@ pub fn notice(group: Group, turn: Turn, places: &[u8], about: u32, out: bool, sl
         group: after,
     }
 }
+
+// Out of the replica from the slot on.
+pub fn take_out(group: Group, turn: Turn, places: &[u8], replica: u32, slot: u32) -> Noticed
+    ensures { λ r. ⌜ ((m : Memory) →
+        Gives number
+        (noticeStep (noticeParts m group turn (now (places .entry))) (record { about = replica; out = true; slot = slot }))
+        (r .number)
+        (noticeParts m (r .group) turn (now (places .entry)))) ⌝ }
+{
+    notice(group, turn, places, replica, true, slot)
+}
+
+// Back of the replica at the slot.
+pub fn take_back(group: Group, turn: Turn, places: &[u8], replica: u32, slot: u32) -> Noticed
+    ensures { λ r. ⌜ ((m : Memory) →
+        Gives number
+        (noticeStep (noticeParts m group turn (now (places .entry))) (record { about = replica; out = false; slot = slot }))
+        (r .number)
+        (noticeParts m (r .group) turn (now (places .entry)))) ⌝ }
+{
+    notice(group, turn, places, replica, false, slot)
+}
