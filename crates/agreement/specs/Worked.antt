@@ -76,6 +76,10 @@ nextBlock2 = blockOf (record { kind = 1; sender = 2; replicas = 3; slot = 2; rec
 abbrev pub stationAhead : List CallAt
 stationAhead = at 0 (send noBlock ∷ []) ++ (at 3 (deliver nextBlock ∷ work ∷ []) ++ at 2 (notice (outFrom 1 0) ∷ []))
 
+-- replica 1 takes one about slot 0, whose block was handed out, and passes the slot
+abbrev pub outHanded : List CallAt
+outHanded = at 0 (send noBlock ∷ []) ++ at 1 (notice (outFrom 0 0) ∷ work ∷ [])
+
 abbrev pub after : List CallAt → Members
 after cs = run (fresh 3 start) cs
 
@@ -134,3 +138,5 @@ pub record RightGroup : Type 0 where
   pub other-notices : Premise 3 start (restartLent [] (outFrom 1 1 ∷ [])) → ⊥
   -- no station stands above a notice that it lacks
   pub station-ahead : Premise 3 start stationAhead → ⊥
+  -- no block was handed out for an out slot
+  pub out-handed : Premise 3 start outHanded → ⊥
