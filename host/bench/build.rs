@@ -4,7 +4,7 @@ use std::env;
 use std::path::Path;
 use std::process::{exit, Command};
 
-const FILES: [&str; 3] = ["plain_block", "plain_client", "plain_turn"];
+const FILES: [&str; 4] = ["plain_block", "plain_client", "plain_turn", "plain_notice"];
 
 fn main() {
     if let Err(words) = archive() {

@@ -15,6 +15,11 @@
  * - The block goes to every replica of the group, the sender too, in any order, as
  *   often as you like. Each takes it with stemline_replica_take.
  *
+ * A studio that is closed holds nobody up: when the membership service says to all replicas and
+ * stations *out k from v* and *back k at w*, each takes that by stemline_replica_out and
+ * stemline_replica_back, and works until nothing waits. Slots of k from v on, before w, need no
+ * block. host/README.md ("What a membership service must do") says what the service sees to.
+ *
  * A station holds the same values and only reads. stemline_replica_make_station makes
  * a stemline_replica one, at which nobody writes or sends. It takes no turn:
  *
@@ -62,7 +67,8 @@ static inline const char *stemline_words(int number) {
     switch (number) {
     case STEMLINE_ACCEPTED: return "accepted";
     case STEMLINE_WRONG_LENGTH: return "a lent slice has not its exact length";
-    case STEMLINE_OUT_OF_RANGE: return "the number of replicas, the own number, the item or a class is out of range";
+    case STEMLINE_OUT_OF_RANGE:
+        return "the number of replicas, the own number, the item, a class, or a notice's replica or slot is out of range";
     case STEMLINE_NOT_OPEN: return "no open transaction has this ticket";
     case STEMLINE_NOT_ACTIVE: return "the transaction is asked or sent already";
     case STEMLINE_ALL_OPEN: return "6 transactions are open";
@@ -86,6 +92,9 @@ static inline const char *stemline_words(int number) {
     case STEMLINE_NOTHING_WAITS: return "no block waits for the turn";
     case STEMLINE_LOAD_WHILE_APPLYING: return "classes are loaded while a block of another replica is being applied";
     case STEMLINE_STATION_ONLY_READS: return "a station neither writes nor sends";
+    case STEMLINE_NOTICE_REFUSED:
+        return "the notice does not fit the turn, the notices taken before or a block that is here";
+    case STEMLINE_SLOT_OUT: return "the slot is out by a notice";
     default: return "refused by an unknown number";
     }
 }
@@ -113,20 +122,30 @@ typedef struct stemline_replica {
 
 /* ---- What a take answers */
 
-#define STEMLINE_STEPS 36 /* the most steps of one take: 6 blocks wait at most, of 6 writesets each */
+/* The most steps of one take, and the most slots that it leaves: 6 blocks wait at most, of 6 writesets
+ * each, and behind them come at most 5 slots that are out, while not all replicas are out at once. */
+#define STEMLINE_STEPS 41
+#define STEMLINE_LEFT 11 /* so many blocks are there at most to append */
 
 typedef struct stemline_take_reply {
     uint8_t number;  /* the deliver's: a take is refused where its deliver is */
     uint8_t count;   /* how many of steps count */
     stemline_work_reply steps[STEMLINE_STEPS];
     uint8_t append_count; /* how many blocks of append count */
-    uint8_t append[STEMLINE_REPLICAS][STEMLINE_BLOCK]; /* for the journal, in order */
+    uint8_t append[STEMLINE_LEFT][STEMLINE_BLOCK]; /* for the journal, in order */
 } stemline_take_reply;
 
 /* Whose slot it is in a group of n: the number of the replica that sends for it. */
 static inline uint32_t stemline_owner(uint32_t slot, uint32_t n) {
     /* only in altered memory is n 0; a slot mod 0 is then the slot itself */
     return n == 0 ? slot : slot % n;
+}
+
+/* Whether a slot from the turn on is out. Of slots before it only all notices say that. */
+static inline bool stemline_is_out(const stemline_group *group, uint32_t slot) {
+    uint32_t k = stemline_owner(slot, group->replicas);
+    /* only in altered memory is the owner none of them, or does an outage end behind the last slot */
+    return slot < STEMLINE_SLOTS && k < STEMLINE_REPLICAS && group->from[k] <= slot && slot < group->until[k];
 }
 
 /* ---- The calls at a replica
@@ -178,20 +197,25 @@ static inline uint8_t stemline_replica_make_station(
 /* As a make, with the values that the group started with; then commits the blocks
  * of a journal, up to the first that is torn, fails its check or form, has another n
  * or is not of the next slot. Transactions that were open are gone; tickets go on
- * above the highest in its own blocks; classes are to be loaded anew. The block
- * given back is the last own one of those committed, to be handed out once more, or
- * 512 zeros if there is none.
- * The journal may have any length; with length 0 it may be null. Refused by 2. */
+ * above the highest in its own blocks; classes are to be loaded anew. The notices
+ * are all that were taken, in order, and are put in force untested. The block
+ * given back is the last own one of those committed whose slot they do not put out, to
+ * be handed out once more, or 512 zeros if there is none.
+ * The journal may have any length; with length 0 it may be null, and so may the notices
+ * with count 0. Refused by 2. */
 static inline stemline_restart_reply stemline_replica_restart(
     stemline_replica *r, uint32_t n, uint32_t own, const int32_t start[STEMLINE_ITEMS],
-    const uint8_t *journal, size_t length, uint8_t block[STEMLINE_BLOCK]) {
+    const uint8_t *journal, size_t length, const stemline_notice *notices, size_t count,
+    uint8_t block[STEMLINE_BLOCK]) {
+    static const stemline_notice none = {0, 0, 0};
     stemline_same_version();
     return stemline_restart(
         r->table, STEMLINE_TABLE, &r->group, &r->turn, &r->counts, n, own, start, STEMLINE_ITEMS,
         r->queue, STEMLINE_QUEUE, r->items, STEMLINE_WRITTEN, r->writes, STEMLINE_WRITTEN,
         r->snapshots, STEMLINE_SNAPSHOTS, r->values, STEMLINE_ITEMS, r->stamps, STEMLINE_ITEMS,
         r->classes, STEMLINE_ITEMS, r->places, stemline_lent_places(n), r->outbox, STEMLINE_BLOCK,
-        length > 0 ? journal : (const uint8_t *)"", length, block, STEMLINE_BLOCK);
+        length > 0 ? journal : (const uint8_t *)"", length,
+        (const uint32_t *)(count > 0 ? notices : &none), 3 * count, block, STEMLINE_BLOCK);
 }
 
 /* Opens a transaction on the values as they are now and gives its ticket.
@@ -242,17 +266,18 @@ static inline stemline_report_reply stemline_replica_report(const stemline_repli
     return stemline_report(r->table, STEMLINE_TABLE, &r->turn, &r->counts);
 }
 
-/* Whether a send would be accepted now: the turn is a slot of this replica, its
- * block for that slot is not sent yet, and slots are left. Never at a station. */
+/* Whether a send would be accepted now: the turn is a slot of this replica that is not
+ * out, its block for that slot is not sent yet, and slots are left. Never at a station. */
 static inline bool stemline_replica_is_turn(const stemline_replica *r) {
     uint32_t slot = r->turn.slot, own = r->group.own;
     return own != STEMLINE_NO_NUMBER && slot < STEMLINE_SLOTS
-        && stemline_owner(slot, r->group.replicas) == own && r->turn.sent == 0;
+        && stemline_owner(slot, r->group.replicas) == own && r->turn.sent == 0
+        && !stemline_is_out(&r->group, slot);
 }
 
 /* Writes the block for the own slot, with all that is asked, be it nothing. It
  * goes to the journal, and from there, once it is durable, to every replica of the
- * group, this one too. Refused by 25, 13, 11, 12. */
+ * group, this one too. Refused by 25, 13, 11, 29, 12. */
 static inline uint8_t stemline_replica_send(stemline_replica *r, uint8_t block[STEMLINE_BLOCK]) {
     return stemline_send(
         r->table, STEMLINE_TABLE, &r->group, &r->turn, r->queue, STEMLINE_QUEUE,
@@ -261,8 +286,9 @@ static inline uint8_t stemline_replica_send(stemline_replica *r, uint8_t block[S
 }
 
 /* Keeps a block until its slot is the turn. A station is to be offered a block again
- * that it refused by 18.
- * Refused by 1, 14, 15, 16, 17, 18, 19, 20; 19 never at a station. */
+ * that it refused by 18, and so is a replica that is out or was; one that is refused by 29
+ * where a Back is still to be taken.
+ * Refused by 1, 14, 15, 16, 17, 29, 18, 19, 20; 19 never at a station. */
 static inline uint8_t stemline_replica_deliver(
     stemline_replica *r, const uint8_t *bytes, size_t length) {
     return stemline_deliver(
@@ -271,9 +297,10 @@ static inline uint8_t stemline_replica_deliver(
 }
 
 /* Takes one step at the block of the turn: commits its next writeset, or passes
- * over a block without records. Where the turn leaves another's slot, the block
- * that stood there is written to block and append is true: it goes to the journal.
- * Else block stays as it is. Refused by 1, 21. */
+ * over a block without records, or over a slot that is out. Where the turn leaves another's
+ * slot, the block that stood there is written to block and append is true: it goes to the
+ * journal. Of a slot that is out, be it an own one, that is its next, which is durable before
+ * anything goes on. Else block stays as it is. Refused by 1, 21. */
 static inline stemline_work_reply stemline_replica_work(
     stemline_replica *r, uint8_t block[STEMLINE_BLOCK]) {
     return stemline_work(
@@ -295,22 +322,38 @@ static inline uint8_t stemline_replica_load(
     return stemline_load(&r->turn, r->classes, STEMLINE_ITEMS, classes, length);
 }
 
-/* Whether a block waits for the turn: where none does, a work is refused by 21. */
+/* Takes the notice *out replica from slot*: from that slot on its slots need no block, and a work
+ * passes them. Refused by 2, 28. */
+static inline uint8_t stemline_replica_out(stemline_replica *r, uint32_t replica, uint32_t slot) {
+    return stemline_out(
+        &r->group, &r->turn, r->places, stemline_lent_places(r->group.replicas), replica, slot);
+}
+
+/* Takes the notice *back replica at slot*: from that slot on its slots count again.
+ * Refused by 2, 28. */
+static inline uint8_t stemline_replica_back(stemline_replica *r, uint32_t replica, uint32_t slot) {
+    return stemline_back(
+        &r->group, &r->turn, r->places, stemline_lent_places(r->group.replicas), replica, slot);
+}
+
+/* Whether a block waits for the turn, or its slot is out: where neither is, a work is refused
+ * by 21. Behind a notice and behind a restart, work while it holds. */
 static inline bool stemline_replica_waits(const stemline_replica *r) {
-    uint32_t n = r->group.replicas;
+    uint32_t n = r->group.replicas, slot = r->turn.slot;
     /* slot s waits at place s mod n; only in altered memory is n out of range, and the work says then what is wrong */
-    return n - 1 >= STEMLINE_REPLICAS || r->places[STEMLINE_BLOCK * (r->turn.slot % n)] != 0;
+    return n - 1 >= STEMLINE_REPLICAS || r->places[STEMLINE_BLOCK * (slot % n)] != 0
+        || stemline_is_out(&r->group, slot);
 }
 
 /* What a replica does with a block that arrives: delivers it, then works until
  * nothing waits for the turn. Gives the steps in their order: none where the
  * block is early and has to wait; those of blocks that waited already too, where
  * this is the one that they waited for. The blocks to append go to the journal.
- * Refused by 1, 14, 15, 16, 17, 18, 19, 20, as the deliver is: nothing is worked,
+ * Refused by 1, 14, 15, 16, 17, 29, 18, 19, 20, as the deliver is: nothing is worked,
  * and what waits already goes on waiting. So it is with a block that comes a
  * second time (17 or 20), which a host may pass over.
- * Only altered memory leads to more than STEMLINE_STEPS steps, of which the rest is
- * left to the next take.
+ * Only altered memory, and slots of which all are out, lead to more than STEMLINE_STEPS
+ * steps or STEMLINE_LEFT slots; the rest is left to the next take.
  * The reply is written into the lent one; behind count and append_count it stays as
  * it is. It does not lie in r. */
 static inline void stemline_replica_take_into(
@@ -318,15 +361,16 @@ static inline void stemline_replica_take_into(
     reply->number = stemline_replica_deliver(r, bytes, length);
     reply->count = 0;
     reply->append_count = 0;
-    /* each block that is left leaves its place empty, so there are at most 6 to append */
     bool waits = reply->number == STEMLINE_ACCEPTED && stemline_replica_waits(r);
-    while (waits && reply->count < STEMLINE_STEPS && reply->append_count < STEMLINE_REPLICAS) {
+    int left = 0;
+    while (waits && reply->count < STEMLINE_STEPS && left < STEMLINE_LEFT) {
         stemline_work_reply work = stemline_replica_work(r, reply->append[reply->append_count]);
         if (work.number != STEMLINE_ACCEPTED) {
             break; /* 21: behind a deliver no work of this struct is refused by another */
         }
         reply->steps[reply->count++] = work;
         reply->append_count = (uint8_t)(reply->append_count + work.append);
+        left += work.moved;
         waits = !work.moved || stemline_replica_waits(r);
     }
 }

@@ -80,7 +80,10 @@ enum stemline_number {
     STEMLINE_NOTHING_WAITS = 21,
     /* 22 was a work's, and is free for good. */
     STEMLINE_LOAD_WHILE_APPLYING = 23,
-    STEMLINE_STATION_ONLY_READS = 25
+    STEMLINE_STATION_ONLY_READS = 25,
+    /* 26 and 27 are the program week's. */
+    STEMLINE_NOTICE_REFUSED = 28,
+    STEMLINE_SLOT_OUT = 29
 };
 
 /* ---- What a replica holds, beside arrays of numbers */
@@ -100,11 +103,21 @@ typedef struct stemline_turn {
     uint8_t applying; /* mark: a block of another replica is committed in part */
 } stemline_turn;
 
-/* What a replica knows of its group. A make or a restart sets it, and no other call. */
+/* What a replica knows of its group. A make, a restart or a notice sets it, and no other call. */
 typedef struct stemline_group {
     uint8_t replicas; /* n */
     uint8_t own;      /* the replica's own number; STEMLINE_NO_NUMBER for a station */
+    /* the last outage of each replica: its slots from .. until are out, without the last; until is
+     * STEMLINE_SLOTS where no Back was taken yet, and 0 where no Out was */
+    uint32_t from[STEMLINE_REPLICAS], until[STEMLINE_REPLICAS];
 } stemline_group;
+
+/* A notice that was taken, as a restart is lent it. */
+typedef struct stemline_notice {
+    uint32_t replica;
+    uint32_t out; /* 1: out from the slot on; 0: back at it */
+    uint32_t slot;
+} stemline_notice;
 
 typedef struct stemline_counts {
     uint32_t commits; /* writesets committed, own and others' */
@@ -146,9 +159,9 @@ typedef struct stemline_work_reply {
     uint8_t sender;
     bool moved;      /* the turn went up */
     uint8_t count;   /* how many of aborted count */
-    uint32_t ticket; /* of the writeset committed; 0 for a block without records */
+    uint32_t ticket; /* of the writeset committed; 0 for a block without records, and for a slot that is out */
     uint32_t aborted[STEMLINE_TABLE]; /* own tickets aborted, rising, zeros behind */
-    bool append;     /* the turn left another's slot: the lent block is to be appended */
+    bool append;     /* the turn left another's slot, or any that is out: the lent block is to be appended */
 } stemline_work_reply;
 
 typedef struct stemline_restart_reply {
@@ -194,6 +207,7 @@ typedef struct stemline_entry_values {
  * places                      STEMLINE_PLACES(n)
  * outbox, block, bytes        STEMLINE_BLOCK
  * journal                     any
+ * notices                     three for each: those of a stemline_notice
  *
  * Any other length is refused by 1, before anything else is tested; only at a station
  * a write and a send are refused by 25 before that. At a make, of a station too, and
@@ -231,7 +245,16 @@ stemline_restart_reply stemline_restart(
     int32_t *values, size_t values_length, uint32_t *stamps, size_t stamps_length,
     uint8_t *classes, size_t classes_length,
     uint8_t *places, size_t places_length, uint8_t *outbox, size_t outbox_length,
-    const uint8_t *journal, size_t journal_length, uint8_t *block, size_t block_length);
+    const uint8_t *journal, size_t journal_length, const uint32_t *notices, size_t notices_length,
+    uint8_t *block, size_t block_length);
+
+uint8_t stemline_out(
+    stemline_group *group, const stemline_turn *turn, const uint8_t *places, size_t places_length,
+    uint32_t replica, uint32_t slot);
+
+uint8_t stemline_back(
+    stemline_group *group, const stemline_turn *turn, const uint8_t *places, size_t places_length,
+    uint32_t replica, uint32_t slot);
 
 stemline_begin_reply stemline_begin(
     stemline_txn *table, size_t table_length, stemline_counts *counts,

@@ -19,7 +19,11 @@
  * - send: stemline_replica_send, then stemline_journal_send with its block; only
  *   where that is 0 the block is handed out.
  * - work and take: what they give to append goes to stemline_journal_append, in
- *   order, before the block of the next send.
+ *   order, before the block of the next send. Of a slot that is out it is durable then.
+ * - out and back: stemline_replica_out or _back, then stemline_journal_notice; only where
+ *   that is 0 the notice is taken. The notices stand in a file beside the journal, with
+ *   `.notices` behind its name, and an open puts them in force again; where they are lost or
+ *   damaged, it is an error.
  *
  * Each function answers 0 where it is done. Else it answers -1 and why says in one
  * line what went wrong: then hand nothing out, close the journal and open it anew;
@@ -43,7 +47,7 @@
 extern "C" {
 #endif
 
-#define STEMLINE_JOURNAL_VERSION 1  /* of the file; no other is taken up */
+#define STEMLINE_JOURNAL_VERSION 2  /* of the file; 1 where no notice was taken. No other is taken up */
 #define STEMLINE_JOURNAL_HEAD 12288 /* bytes in front of the first block */
 #define STEMLINE_GROUP_NAME 255     /* the most bytes of a group's name */
 #define STEMLINE_DIGESTS 64         /* the turns whose digests are kept */
@@ -74,8 +78,13 @@ typedef struct stemline_outcome {
 } stemline_outcome;
 
 typedef struct stemline_journal {
-    int file; /* -1 where it is not open */
+    int file;    /* -1 where it is not open */
+    int notices; /* the file beside it; -1 where no notice was taken */
     uint32_t n, own;
+    uint32_t taken;          /* how many notices were */
+    uint64_t notices_digest; /* of all of them */
+    stemline_group outages;  /* what they put out */
+    bool passed;             /* whether a slot that is out was appended since the last good fsync */
     uint32_t blocks, kept; /* in the file, and at the last good fsync */
     long copied;           /* where a copy was begun since, or 0 */
     uint32_t since_count;
@@ -87,10 +96,11 @@ typedef struct stemline_journal {
 
 /* What an open found and did. */
 typedef struct stemline_reopened {
-    uint32_t blocks; /* taken up */
-    uint32_t mended; /* of them, put back from the copies */
-    uint64_t cut;    /* bytes behind them that are cut off */
-    uint8_t last[STEMLINE_BLOCK]; /* the last own block, or 512 zeros */
+    uint32_t blocks;  /* taken up */
+    uint32_t mended;  /* of them, put back from the copies */
+    uint32_t notices; /* taken before, with perhaps one whose call a cut has ended: stemline_journal_taken */
+    uint64_t cut;     /* bytes behind them that are cut off */
+    uint8_t last[STEMLINE_BLOCK]; /* the last own block whose slot is not out, or 512 zeros */
     char cut_why[128];            /* why the blocks stop there */
 } stemline_reopened;
 
@@ -102,11 +112,17 @@ int stemline_journal_open(
     stemline_journal *j, stemline_replica *r, const char *path, const char *group,
     uint32_t n, uint32_t own, const int32_t start[STEMLINE_ITEMS], stemline_reopened *found);
 
-/* Appends blocks of others, 512 bytes each, as a take gives them. */
+/* Appends blocks, 512 bytes each, as a take or a work gives them: of others, and of slots that are out. */
 int stemline_journal_append(stemline_journal *j, const uint8_t *blocks, size_t count);
 
 /* Appends the block that a send gave, and makes all durable. */
 int stemline_journal_send(stemline_journal *j, const uint8_t block[STEMLINE_BLOCK]);
+
+/* Puts a notice beside the journal that its replica took, and makes it durable, after all that was appended. */
+int stemline_journal_notice(stemline_journal *j, const stemline_notice *notice);
+
+/* Notice at, from 0 on, of all that were taken, in order. */
+int stemline_journal_taken(stemline_journal *j, uint32_t at, stemline_notice *notice);
 
 /* Whether the digest of a turn is known, and that. */
 bool stemline_journal_digest(const stemline_journal *j, uint32_t turn, stemline_digest *digest);

@@ -77,39 +77,44 @@ static int make_durable(stemline_journal *j) {
     }
     j->kept = j->blocks;
     j->copied = 0;
+    j->passed = false;
     return 0;
 }
 
-/* Opens a file or makes it, and locks it. A new one is durable once its folder is. */
-static int open_file(stemline_journal *j, struct stat *is) {
-    j->file = open(j->path, O_RDWR | O_CREAT | O_CLOEXEC, 0666);
-    if (j->file < 0) {
-        return fails(j, "open", "%s", strerror(errno));
+/* Opens a file or makes it, and locks it. A new one is durable once its folder is. Gives -1 where it cannot. */
+static int open_file(stemline_journal *j, const char *path, const char *doing, struct stat *is) {
+    int file = open(path, O_RDWR | O_CREAT | O_CLOEXEC, 0666);
+    if (file < 0) {
+        return fails(j, doing, "%s", strerror(errno));
     }
-    if (flock(j->file, LOCK_EX | LOCK_NB) != 0) {
-        return fails(j, "open", "%s", errno == EWOULDBLOCK ? "it is open already" : strerror(errno));
-    }
-    if (fstat(j->file, is) != 0) {
-        return fails(j, "open", "%s", strerror(errno));
-    }
-    if (!S_ISREG(is->st_mode)) {
-        return fails(j, "open", "it is no file on a disk");
-    }
-    char folder[sizeof j->path];
-    strcpy(folder, j->path);
-    char *slash = strrchr(folder, '/');
-    if (slash == NULL) {
-        strcpy(folder, ".");
+    if (flock(file, LOCK_EX | LOCK_NB) != 0) {
+        fails(j, doing, "%s", errno == EWOULDBLOCK ? "it is open already" : strerror(errno));
+    } else if (fstat(file, is) != 0) {
+        fails(j, doing, "%s", strerror(errno));
+    } else if (!S_ISREG(is->st_mode)) {
+        fails(j, doing, "it is no file on a disk");
     } else {
-        slash[slash == folder] = '\0';
+        char folder[sizeof j->path];
+        strcpy(folder, j->path);
+        char *slash = strrchr(folder, '/');
+        if (slash == NULL) {
+            strcpy(folder, ".");
+        } else {
+            slash[slash == folder] = '\0';
+        }
+        int dir = open(folder, O_RDONLY | O_CLOEXEC);
+        bool synced = dir >= 0 && fsync(dir) == 0;
+        int why = errno;
+        if (dir >= 0) {
+            close(dir);
+        }
+        if (synced) {
+            return file;
+        }
+        fails(j, doing, "its folder cannot be made durable: %s", strerror(why));
     }
-    int dir = open(folder, O_RDONLY | O_CLOEXEC);
-    bool synced = dir >= 0 && fsync(dir) == 0;
-    int why = errno;
-    if (dir >= 0) {
-        close(dir);
-    }
-    return synced ? 0 : fails(j, "open", "its folder cannot be made durable: %s", strerror(why));
+    close(file);
+    return -1;
 }
 
 /* Makes a file with this head and no blocks: first its length, then the head, each
@@ -120,17 +125,26 @@ static int make(stemline_journal *j, const uint8_t *head) {
     return made ? 0 : fails(j, "make", "%s", strerror(errno));
 }
 
-/* Writes the copy of a round that ends with an own block. */
+/* Writes the copy of a round, up to an own block or as far as it is, with the number of notices. */
 static bool write_copy(
     stemline_journal *j, uint32_t first, uint32_t count, uint8_t (*blocks)[STEMLINE_BLOCK]) {
     uint8_t page[PAGE];
     size_t length = FRONT + STEMLINE_BLOCK * (size_t)count;
     put(page + 8, first, 4);
-    put(page + 12, count, 4);
+    put(page + 12, count, 1);
+    put(page + 13, j->taken < 0xffffff ? j->taken : 0xffffff, 3);
     memcpy(page + FRONT, blocks, length - FRONT);
     put(page, digest(DIGEST_START, page + 8, length - 8), 8);
-    j->copied = copy_place(j->n, first + count - 1);
+    j->copied = copy_place(j->n, j->own, first);
     return write_at(j->file, page, length, j->copied);
+}
+
+/* Makes all durable that was appended, and the number of notices, with a copy of the round so far. */
+static int keep(stemline_journal *j) {
+    if (!write_copy(j, j->blocks - j->since_count, j->since_count, j->since)) {
+        return failed(j, "put a copy into");
+    }
+    return make_durable(j);
 }
 
 #endif

@@ -14,6 +14,7 @@ enum {
     STARTS = NAMED + STEMLINE_GROUP_NAME + 1,
     CHECK = STARTS + 4 * STEMLINE_ITEMS,
     END = CHECK + 8,
+    PLAIN = 1,  /* the version of a file with no notices; STEMLINE_JOURNAL_VERSION is that of one with them */
     FRONT = 16, /* in front of the blocks of a copy */
     HEAD = STEMLINE_JOURNAL_HEAD
 };
@@ -59,7 +60,7 @@ static void put_head(
     uint8_t head[END], const char *group, uint32_t n, uint32_t own, const int32_t *start) {
     memset(head, 0, END);
     memcpy(head, mark, sizeof mark);
-    put(head + 16, STEMLINE_JOURNAL_VERSION, 4);
+    put(head + 16, PLAIN, 4);
     put(head + 20, n, 4);
     put(head + 24, own, 4);
     put(head + 28, strlen(group), 4);
@@ -67,6 +68,13 @@ static void put_head(
     for (int item = 0; item < STEMLINE_ITEMS; item++) {
         put(head + STARTS + 4 * item, (uint32_t)start[item], 4);
     }
+    put(head + CHECK, digest(DIGEST_START, head, CHECK), 8);
+}
+
+/* The head of a journal with notices beside it, of the one without. */
+static void put_noticed(uint8_t head[END], const uint8_t plain[END]) {
+    memcpy(head, plain, END);
+    put(head + 16, STEMLINE_JOURNAL_VERSION, 4);
     put(head + CHECK, digest(DIGEST_START, head, CHECK), 8);
 }
 
@@ -78,9 +86,9 @@ static const char *no_head(const uint8_t *front, size_t length, char words[128])
     if (length < END) {
         return "it ends within its head";
     }
-    if (number(front + 16) != STEMLINE_JOURNAL_VERSION) {
-        snprintf(words, 128, "it is of version %lu, and this program knows version %d",
-                 (unsigned long)number(front + 16), STEMLINE_JOURNAL_VERSION);
+    if (number(front + 16) != PLAIN && number(front + 16) != STEMLINE_JOURNAL_VERSION) {
+        snprintf(words, 128, "it is of version %lu, and this program knows the versions %d and %d",
+                 (unsigned long)number(front + 16), PLAIN, STEMLINE_JOURNAL_VERSION);
         return words;
     }
     uint8_t check[8];
@@ -141,8 +149,18 @@ static void compare_heads(const uint8_t *found, const uint8_t *due, char *words,
     }
 }
 
+/* Whether each byte of a head is that of one or of the other. */
+static bool is_between(const uint8_t *head, const uint8_t *one, const uint8_t *other) {
+    int at = 0;
+    while (at < END && (head[at] == one[at] || head[at] == other[at])) {
+        at++;
+    }
+    return at == END;
+}
+
 /* Whether the file is to be made: it is empty, or a cut left it while this head was put
- * there. Else it has this head, or the words say why it is not to be touched. */
+ * there. Else it has this head, be it torn between its two versions, or the words say why it
+ * is not to be touched. */
 static bool is_new(
     const uint8_t *front, size_t read, uint64_t length, const uint8_t *due, char *words, size_t size) {
     char version[128];
@@ -158,12 +176,13 @@ static bool is_new(
         compare_heads(front, due, words, size);
         return false;
     } else {
-        int at = 0;
-        while (at < END && (front[at] == 0 || front[at] == due[at])) {
-            at++;
-        }
-        if (length == HEAD && at == END && is_zero(front + END, HEAD - END)) {
+        uint8_t noticed[END];
+        put_noticed(noticed, due);
+        if (length == HEAD && is_between(front, zeros, due) && is_zero(front + END, HEAD - END)) {
             return true;
+        }
+        if (is_between(front, due, noticed)) {
+            return false;
         }
     }
     snprintf(words, size, "%s", why);
@@ -180,15 +199,16 @@ static long torn(uint32_t n, uint32_t own, uint32_t blocks) {
 
 /* ---- The copies */
 
-/* The blocks of consecutive slots, the last of them an own one. */
+/* The blocks of consecutive slots behind an own one, up to the next own one at most; and the notices
+ * taken by then. */
 typedef struct copy {
-    uint32_t first, count;
+    uint32_t first, count, notices;
     const uint8_t *blocks;
 } copy;
 
-/* Where the copy stands that ends with the own block of a slot: by turns. */
-static long copy_place(uint32_t n, uint32_t slot) {
-    return PAGE * (long)(1 + slot / n % 2);
+/* Where the copy stands that begins with a slot: by turns. */
+static long copy_place(uint32_t n, uint32_t own, uint32_t first) {
+    return PAGE * (long)(1 + (first + n - 1 - own) / n % 2);
 }
 
 static bool good_block(const uint8_t *block, uint32_t n, uint32_t slot) {
@@ -200,16 +220,15 @@ static bool read_copy(const uint8_t *front, long at, uint32_t n, uint32_t own, c
     const uint8_t *page = front + at;
     uint8_t check[8];
     c->first = number(page + 8);
-    c->count = number(page + 12);
+    c->count = page[12];
+    c->notices = number(page + 12) >> 8;
     c->blocks = page + FRONT;
-    if (c->count == 0 || c->count > n || c->first >= STEMLINE_SLOTS) {
+    bool begins = c->first == 0 || (c->first <= STEMLINE_SLOTS && stemline_owner(c->first - 1, n) == own);
+    if (!begins || c->count > (c->first == 0 ? own + 1 : n)) {
         return false;
     }
     put(check, digest(DIGEST_START, page + 8, FRONT - 8 + STEMLINE_BLOCK * (size_t)c->count), 8);
-    uint32_t last = c->first + c->count - 1;
-    uint32_t first = last < n ? 0 : last - (n - 1);
-    bool good = memcmp(page, check, 8) == 0 && c->first == first && stemline_owner(last, n) == own
-                && copy_place(n, last) == at;
+    bool good = memcmp(page, check, 8) == 0 && copy_place(n, own, c->first) == at;
     for (uint32_t k = 0; good && k < c->count; k++) {
         good = good_block(c->blocks + STEMLINE_BLOCK * (size_t)k, n, c->first + k);
     }

@@ -1,6 +1,6 @@
 /* A replica's journal in a file: see stemline_journal.h. Compile it with the program;
- * it includes journal_head.h and journal_disk.h, beside it. The steps are those of
- * host/stemline/src/journal.rs. */
+ * it includes journal_head.h, journal_disk.h and journal_notices.h, beside it. The steps
+ * are those of host/stemline/src/journal.rs. */
 #define _DEFAULT_SOURCE /* flock */
 #define _DARWIN_C_SOURCE
 #define _FILE_OFFSET_BITS 64
@@ -19,11 +19,13 @@
 
 #include "journal_head.h"
 #include "journal_disk.h"
+#include "journal_notices.h"
 
 /* What the good blocks of a file amount to. */
 typedef struct tally {
     uint32_t turn;
-    uint32_t round_count;                                 /* the blocks up to the last own one, */
+    notices notices;
+    uint32_t round_count;                                 /* the blocks up to the last own slot, */
     uint8_t round[STEMLINE_REPLICAS][STEMLINE_BLOCK];     /* from behind the one before */
     uint32_t mended_count;
     uint32_t mended[2 * STEMLINE_REPLICAS];               /* slots that are taken from the copies */
@@ -120,14 +122,22 @@ static int look(stemline_journal *j, tally *t, const uint8_t *front, off_t lengt
             }
         }
     }
+    uint32_t counted = 0;
     for (uint32_t k = 0; k < count; k++) {
-        uint32_t last = copies[k].first + copies[k].count - 1;
-        if (last >= t->turn) {
-            return fails(j, "take up",
-                         "its block %lu is damaged, and the own block of slot %lu behind it was perhaps "
-                         "handed out: %s",
-                         (unsigned long)t->turn, (unsigned long)last, t->stop);
+        uint32_t end = copies[k].first + copies[k].count;
+        if (end > t->turn) {
+            const char *sent = "the own block of slot %lu behind it was perhaps handed out";
+            const char *passed = "slot %lu behind it was passed as out, or a notice taken there";
+            char words[128];
+            snprintf(words, sizeof words, stemline_owner(end - 1, j->n) == j->own ? sent : passed,
+                     (unsigned long)(end - 1));
+            return fails(j, "take up", "its block %lu is damaged, and %s: %s", (unsigned long)t->turn, words,
+                         t->stop);
         }
+        counted = copies[k].notices > counted ? copies[k].notices : counted;
+    }
+    if (lacks_no_notice(j, &t->notices, counted) != 0) {
+        return -1;
     }
     if (length - place(t->turn) > torn(j->n, j->own, t->turn)) {
         return fails(j, "take up",
@@ -139,7 +149,8 @@ static int look(stemline_journal *j, tally *t, const uint8_t *front, off_t lengt
 
 /* Restarts the replica from all that the file has, which is mapped meanwhile. */
 static int restart(
-    stemline_journal *j, stemline_replica *r, const int32_t *start, off_t length, uint8_t *last) {
+    stemline_journal *j, stemline_replica *r, const int32_t *start, off_t length, const notices *taken,
+    uint8_t *last) {
     if ((off_t)(size_t)length != length) {
         return fails(j, "lend", "%s", strerror(EFBIG));
     }
@@ -148,7 +159,8 @@ static int restart(
         return fails(j, "lend", "%s", strerror(errno));
     }
     stemline_restart_reply reply = stemline_replica_restart(
-        r, j->n, j->own, start, (const uint8_t *)map + HEAD, (size_t)length - HEAD, last);
+        r, j->n, j->own, start, (const uint8_t *)map + HEAD, (size_t)length - HEAD, taken->all, j->taken,
+        last);
     munmap(map, (size_t)length);
     return reply.number == 0 && reply.count == j->blocks
                ? 0
@@ -156,16 +168,26 @@ static int restart(
 }
 
 /* Cuts off what is behind the good blocks and makes the rest durable. What was read may
- * be in the system's memory alone, and count there as written: the blocks since the own
- * one before the last are written once more, and the copy. */
-static int take_up(stemline_journal *j, tally *t) {
+ * be in the system's memory alone, and count there as written: the last notice and the blocks
+ * since the own one before the last are written once more, and the copy; where notices were
+ * taken, also the head, and a copy of the blocks behind the last own one. */
+static int take_up(stemline_journal *j, tally *t, const uint8_t *plain, bool noticed) {
     uint32_t first = j->blocks - j->since_count - t->round_count;
+    if (noticed && renew_notices(j, &t->notices, "renew the notices of", false) != 0) {
+        return -1;
+    }
+    if (noticed && !write_noticed(j, plain)) {
+        return failed(j, "renew the head of");
+    }
     bool done = ftruncate(j->file, place(j->blocks)) == 0
                 && write_at(j->file, t->round, STEMLINE_BLOCK * (size_t)t->round_count, place(first))
                 && write_at(j->file, j->since, STEMLINE_BLOCK * (size_t)j->since_count,
                             place(first + t->round_count))
                 && (t->round_count == 0 || write_copy(j, first, t->round_count, t->round));
-    return done ? make_durable(j) : failed(j, "renew the end of");
+    if (!done) {
+        return failed(j, "renew the end of");
+    }
+    return noticed ? keep(j) : make_durable(j);
 }
 
 static int open_with(
@@ -175,7 +197,8 @@ static int open_with(
     uint8_t due[END], any[END];
     put_head(due, group, j->n, j->own, start);
     put_head(any, group, j->n, 0, start);
-    if (open_file(j, &is) != 0) {
+    j->file = open_file(j, j->path, "open", &is);
+    if (j->file < 0) {
         return -1;
     }
     off_t length = is.st_size;
@@ -184,14 +207,21 @@ static int open_with(
         return fails(j, "read", "%s", strerror(errno));
     }
     char words[1400];
-    if (is_new(front, read, (uint64_t)length, due, words, sizeof words)) {
+    bool new_file = is_new(front, read, (uint64_t)length, due, words, sizeof words);
+    if (words[0] != '\0') {
+        return fails(j, "take up", "%s", words);
+    }
+    /* a head that is torn between its versions is of the later one */
+    bool noticed = !new_file && memcmp(front, due, END) != 0;
+    if (read_notices(j, &t->notices, due, noticed) != 0) {
+        return -1;
+    }
+    if (new_file) {
         if (make(j, due) != 0) {
             return -1;
         }
         memset(front, 0, HEAD);
         length = HEAD;
-    } else if (words[0] != '\0') {
-        return fails(j, "take up", "%s", words);
     }
     j->digests[0].digest = digest(DIGEST_START, any, CHECK);
     if (look(j, t, front, length) != 0) {
@@ -206,10 +236,11 @@ static int open_with(
         }
         end = end < at + STEMLINE_BLOCK ? at + STEMLINE_BLOCK : end;
     }
-    if (restart(j, r, start, end, found->last) != 0 || take_up(j, t) != 0) {
+    if (restart(j, r, start, end, &t->notices, found->last) != 0 || take_up(j, t, due, noticed) != 0) {
         return -1;
     }
     found->blocks = j->blocks;
+    found->notices = j->taken;
     found->mended = t->mended_count;
     found->cut = length > place(j->blocks) ? (uint64_t)(length - place(j->blocks)) : 0;
     strcpy(found->cut_why, t->stop);
@@ -224,8 +255,10 @@ int stemline_journal_open(
     memset(j, 0, sizeof *j);
     memset(found, 0, sizeof *found);
     j->file = -1;
+    j->notices = -1;
     j->n = n;
     j->own = own;
+    j->outages.replicas = (uint8_t)n;
     if (strlen(path) >= sizeof j->path) {
         strcpy(j->path, "(a path that is too long)");
         return fails(j, "open", "%s", strerror(ENAMETOOLONG));
@@ -250,6 +283,9 @@ int stemline_journal_open(
     tally *t = (tally *)calloc(1, sizeof *t);
     int opened = front != NULL && t != NULL ? open_with(j, r, group, start, found, front, t)
                                             : fails(j, "open", "%s", strerror(ENOMEM));
+    if (t != NULL) {
+        free(t->notices.all);
+    }
     free(t);
     free(front);
     if (opened != 0) {
@@ -276,9 +312,15 @@ static int append(stemline_journal *j, const uint8_t *block) {
 int stemline_journal_append(stemline_journal *j, const uint8_t *blocks, size_t count) {
     int done = 0;
     for (size_t k = 0; k < count && done == 0; k++) {
-        done = append(j, blocks + STEMLINE_BLOCK * k);
+        uint32_t slot = j->blocks;
+        if (stemline_owner(slot, j->n) == j->own) {
+            done = stemline_journal_send(j, blocks + STEMLINE_BLOCK * k); /* of a slot that is out */
+        } else {
+            done = append(j, blocks + STEMLINE_BLOCK * k);
+            j->passed = j->passed || stemline_is_out(&j->outages, slot);
+        }
     }
-    return done;
+    return done == 0 && j->passed ? keep(j) : done;
 }
 
 int stemline_journal_send(stemline_journal *j, const uint8_t block[STEMLINE_BLOCK]) {
@@ -355,9 +397,12 @@ int stemline_journal_outcome(
 }
 
 void stemline_journal_close(stemline_journal *j) {
-    if (j->file >= 0) {
-        (void)flock(j->file, LOCK_UN);
-        close(j->file);
+    int files[] = {j->notices, j->file};
+    for (int k = 0; k < 2; k++) {
+        if (files[k] >= 0) {
+            (void)flock(files[k], LOCK_UN);
+            close(files[k]);
+        }
     }
-    j->file = -1;
+    j->file = j->notices = -1;
 }

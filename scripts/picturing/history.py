@@ -79,6 +79,13 @@ class Place:
     asked: list = dataclasses.field(default_factory=list)
     waiting: list = dataclasses.field(default_factory=list)
     journal: list = dataclasses.field(default_factory=list)
+    # The notices taken, in order: replica, whether it is out, slot.
+    notices: list = dataclasses.field(default_factory=list)
+
+    def is_out(self, slot):
+        """Whether a slot is out: the last notice about its owner at or below it says so."""
+        said = [out for about, out, at in self.notices if about == slot % self.n and at <= slot]
+        return bool(said) and said[-1]
 
 
 def free_track(used):
@@ -103,6 +110,9 @@ class History:
         self.aborts = []
         self.refusals = []
         self.reads = []
+        # Notices taken: line, place, text; and slots passed as out: line, place, sender, slot.
+        self.notices = []
+        self.passed_out = []
         # Lines that are no calls, and calls that only look.
         self.unknown = []
         self.looks = []
@@ -118,9 +128,10 @@ class History:
         self._put(call, n, own, value)
         self.makes.append((call.line, call.place))
 
-    def restart(self, call, n, own, value, blocks):
-        """From a journal of which these blocks are committed."""
+    def restart(self, call, n, own, value, blocks, notices=()):
+        """From a journal of which these blocks are committed, and the notices taken before."""
         place = self._put(call, n, own, value)
+        place.notices = list(notices)
         place.turn = len(blocks)
         place.journal = list(blocks)
         for block in blocks:
@@ -202,7 +213,19 @@ class History:
         if transaction.ticket in place.asked:
             place.asked.remove(transaction.ticket)
 
-    # The calls that move the turn.
+    # The calls that move the turn, and those that say whose slots it passes.
+
+    def notice(self, call, about, out, slot):
+        self.places[call.place].notices.append((about, out, slot))
+        self.notices.append((call.line, call.place, f"out {about} from {slot}" if out else f"back {about} at {slot}"))
+
+    def _pass_out(self, call, place, sender, said):
+        """A work on an out slot, which needs no block. Its next is journaled, also an own one."""
+        if said != (place.turn % place.n, 0, True, []):
+            raise at(call.line, f"works on slot {place.turn}, which is out there, and does more than pass it")
+        self.passed_out.append((call.line, call.place, sender, place.turn))
+        place.journal.append(Block(sender, place.turn, []))
+        place.turn += 1
 
     def send(self, call, block):
         place = self.places[call.place]
@@ -229,6 +252,8 @@ class History:
 
     def work(self, call, sender, ticket, moved, aborted):
         place = self.places[call.place]
+        if place.is_out(place.turn):
+            return self._pass_out(call, place, sender, (sender, ticket, moved, aborted))
         delivery = self._worked(call, place, sender, ticket)
         block = delivery.block
         self.steps.append(Step(call.line, call.place, block, ticket, block.slot != place.turn))

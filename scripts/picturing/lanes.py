@@ -107,6 +107,8 @@ class Lanes:
                 yield step.line, step.place, f"slot {step.block.slot} out of turn", "wrong"
         for line, place, number in history.refusals:
             yield line, place, f"{number} {REFUSALS[number]}", "wrong"
+        for line, place, text in history.notices:
+            yield line, place, text, ""
         for line, one in history.aborts:
             yield line, one.place, f"ticket {one.ticket} aborted", "wrong"
         for line, place, count in history.restarts:
@@ -165,6 +167,10 @@ class Lanes:
                 kind, sign, what = "commit", svg.commit_sign, f"commits ticket {step.ticket}"
             said = f"{what} of replica {step.block.sender}"
             drawn.append(self.mark(kind, step.line, step.place, of(step.block.sender, sign), said))
+        for line, place, text in history.notices:
+            drawn.append(self.mark("notice", line, place, svg.notice_sign, f"takes the notice {text}"))
+        for line, place, sender, slot in history.passed_out:
+            drawn.append(self.mark("out", line, place, of(sender, svg.out_sign), f"passes slot {slot}, which is out"))
         for line, place, number in history.refusals:
             drawn.append(self.mark("refusal", line, place, svg.refusal_sign, REFUSALS[number]))
         return [one for one in drawn if one]

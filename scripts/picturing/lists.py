@@ -32,6 +32,8 @@ FORMS = {
     "Y": ("uuvx", "ux"),
     "J": ("u", "x"),
     "P": ("x", ""),
+    "O": ("uu", ""),
+    "U": ("uu", ""),
 }
 
 
@@ -188,22 +190,28 @@ class Lists:
     def call_z(self, call, given, got):
         place = self.history.places[call.place]
         journal = place.journal[: given[0] // blocks.BYTES]
-        self.restart(call, (place.n, place.own, given[1]), journal, got[0])
+        self.restart(call, (place.n, place.own, given[1]), journal, got[0], place.notices)
 
     def call_y(self, call, given, got):
         n, own, value, data = given
         parts = [data[at : at + blocks.BYTES] for at in range(0, len(data) - blocks.BYTES + 1, blocks.BYTES)]
         self.restart(call, (n, own, value), [self.block(part) or blocks.read(part) for part in parts], got[0])
 
-    def restart(self, call, lent, journal, count):
+    def restart(self, call, lent, journal, count, notices=()):
         if count > len(journal):
             raise at(call.line, f"is said to commit {count} blocks, and the journal has {len(journal)}")
-        self.history.restart(call, *lent, journal[:count])
+        self.history.restart(call, *lent, journal[:count], notices)
 
     def look(self, call, given, got):
         self.history.look(call)
 
     call_q = call_j = call_p = look
+
+    def call_o(self, call, given, got):
+        self.history.notice(call, given[0], True, given[1])
+
+    def call_u(self, call, given, got):
+        self.history.notice(call, given[0], False, given[1])
 
     def call_v(self, call, given, got):
         self.history.look(call, got)

@@ -101,6 +101,16 @@ def pass_sign(x, y, colour):
     return box(x - 3.2, y - 3.2, 6.4, 6.4, "#ffffff", stroke=colour, stroke_width=1.6)
 
 
+def out_sign(x, y, colour):
+    """As a block that is passed over, but there is none."""
+    return box(x - 3.2, y - 3.2, 6.4, 6.4, "#ffffff", stroke=colour, stroke_width=1.6, stroke_dasharray="2 1.6")
+
+
+def notice_sign(x, y):
+    """A flag."""
+    return line(x - 3, y - 7, x - 3, y + 5, INK, 1.4) + polygon([(x - 3, y - 7), (x + 5, y - 4.2), (x - 3, y - 1.4)], INK)
+
+
 def refusal_sign(x, y):
     return polygon([(x, y - 6), (x + 6, y), (x, y + 6), (x - 6, y)], REFUSED) + line(x - 2.6, y, x + 2.6, y, "#ffffff", 1.8)
 

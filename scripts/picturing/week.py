@@ -6,7 +6,7 @@ import re
 from .blocks import Block
 from .history import Call, History
 from .lists import field, refusal, shown
-from .words import REFUSED_BY, STALE, Bad, at
+from .words import REFUSED_BY, SLOT_OUT, STALE, Bad, at
 
 FIRST = re.compile(r"N ([234])")
 # What stands behind the place.
@@ -36,7 +36,9 @@ class Week:
         if given is None:
             return self.history.refuse(call, NO_CALL)
         letter, _, *given = given
-        said = 0 if answer == "0" else refusal(number, answer, REFUSED_BY[letter] | ({NOT_KEPT} if letter == "D" else set()))
+        # A week has no notices.
+        numbers = REFUSED_BY[letter] - {SLOT_OUT} | ({NOT_KEPT} if letter == "D" else set())
+        said = 0 if answer == "0" else refusal(number, answer, numbers)
         if said:
             return self.refused(call, letter, given, said)
         return getattr(self, f"call_{letter.lower()}")(call, *given)

@@ -1,6 +1,6 @@
 """What is said of bad input, and what the refusal numbers stand for."""
 
-# Document 01, "Answers when a call is turned away", in few words; 7, 23 and 25 to 27 as of document 02.
+# Document 01, "Answers when a call is turned away", in few words; 7, 23 and 25 to 29 as of document 02.
 REFUSALS = {
     1: "length",
     2: "out of range",
@@ -27,6 +27,8 @@ REFUSALS = {
     25: "only reads",
     26: "not kept",
     27: "no call",
+    28: "does not fit",
+    29: "slot is out",
 }
 
 # The numbers that can refuse a call, by its letter: docs/SPECIFICATION.md, S2.1. V and J are no calls at a replica, and
@@ -39,13 +41,15 @@ REFUSED_BY = {
     **dict.fromkeys("CX", {1, 3, 4}),
     "Q": {1},
     "P": {1, 2, 23},
-    "S": {1, 11, 12, 13, 25},
-    **dict.fromkeys("DFH", {1, 14, 15, 16, 17, 18, 19, 20}),
+    **dict.fromkeys("OU", {1, 2, 28}),
+    "S": {1, 11, 12, 13, 25, 29},
+    **dict.fromkeys("DFH", {1, 14, 15, 16, 17, 18, 19, 20, 29}),
     "K": {1, 21},
     **dict.fromkeys("VJ", set()),
 }
 
 STALE = 9
+SLOT_OUT = 29
 
 
 class Bad(Exception):

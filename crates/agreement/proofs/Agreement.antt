@@ -10,9 +10,9 @@ use borrow.Author.Tests.{ne-eqb}
 use Rattle.memory.specs.Memory.{Memory}
 use Rattle.engine.specs.Make.{Setting}
 use Rattle.engine.specs.Answers.{Answer, WorkDone, Outcome}
-use Rattle.engine.specs.Answers.Answer.{refused, made, began, got, wrote, queued, readOnly, withdrew, reported, sent, kept, worked, loaded, restarted}
+use Rattle.engine.specs.Answers.Answer.{refused, made, began, got, wrote, queued, readOnly, withdrew, reported, sent, kept, worked, loaded, noticed, restarted}
 use Rattle.engine.specs.Client.{reportOf}
-use Rattle.engine.specs.Moves.{passNext, commitWriteset}
+use Rattle.engine.specs.Moves.{passNext, commitWriteset, passOut}
 use Rattle.engine.specs.Calls.{Call, step}
 use Rattle.engine.specs.Calls.Call.{read, write, work}
 use Rattle.engine.specs.History.AnyCall.{call}
@@ -20,17 +20,19 @@ use Rattle.engine.proofs.Steps.{work-by}
 use Rattle.engine.proofs.ShapeTurn.{working}
 use Rattle.protocol.specs.Lists.{Mem}
 use Rattle.protocol.specs.Writesets.{valueOr}
+use Rattle.protocol.specs.Notices as protocol
 use Rattle.protocol.specs.Journal.{Journal, journal}
 use Rattle.protocol.specs.Observer.{Observed, Placed, Handout, sequence, idOf, applyAll, handoutMessage, noPlaced}
 use Rattle.protocol.specs.Statement.{NotHandedOut, Committed, Agreed}
-use Rattle.protocol.specs.Machine.{MachineSystem, MachineAgreement, CommandPremise, CommandClaims, systemOf}
+use Rattle.protocol.specs.System.{OneList}
+use Rattle.protocol.specs.Machine.{MachineSystem, MachineAgreement, CommandPremise, CommandClaims, freshSystem, runCommands, systemOf}
 use Rattle.protocol.proofs.Refinement.{machine-agreement}
 use Rattle.protocol.proofs.ListLaws.{mem-map}
-use Rattle.protocol.proofs.SequenceLaws.{sequence-mono, mem-at}
+use Rattle.protocol.proofs.SequenceLaws.{mem-at}
 use Rattle.agreement.specs.Group.{messageIn, heard, Members, CallAt, fresh, run, Comes, Calls}
 use Rattle.agreement.specs.Statement.{InSequence, Agrees, FirstCommitter, groupAfter, Agreement}
 use Rattle.agreement.proofs.View.{setup, Sound, Owed}
-use Rattle.agreement.proofs.Replicas.{places-apart, made-sound}
+use Rattle.agreement.proofs.Replicas.{places-apart, places-within, made-sound}
 use Rattle.agreement.proofs.Runs.{machine, machineOf, commands, journalsRun, runs, sound-run, Said, said}
 
 -- ---- places counted from 1, and what was put down
@@ -63,6 +65,7 @@ namedBy (sent b) = []
 namedBy kept = []
 namedBy (worked s) = s .aborted
 namedBy loaded = []
+namedBy noticed = []
 namedBy (restarted c b) = []
 
 abbrev workedOn : Answer → ℕ
@@ -79,13 +82,15 @@ workedOn (sent b) = 0
 workedOn kept = 0
 workedOn (worked s) = s .ticket
 workedOn loaded = 0
+workedOn noticed = 0
 workedOn (restarted c b) = 0
 
 -- a work on a *next* aborts nobody
 none-named : (n : ℕ) (m : Memory) → Sound n m → (t : ℕ) → workedOn (step m work .answer) ≡ 0 → Mem t (namedBy (step m work .answer)) → ⊥
-unfolding passNext commitWriteset
+unfolding passNext commitWriteset passOut
 none-named n m s t =
     work-by (λ (o : Outcome). workedOn (o .answer) ≡ 0 → Mem t (namedBy (o .answer)) → ⊥) m
+    (λ e k z q. List·Memᴰ·not-nil q)
     (λ e k z q. List·Memᴰ·not-nil q)
     (λ e k z q. absurd (let a = working m (s .shape) e .ticket k in let b : ⊥ = omega arith in b))
     (λ e z q. List·Memᴰ·not-nil q)
@@ -94,8 +99,10 @@ none-named n m s t =
 
 module _ (n : ℕ) (start : List ℤ) (setting : Setting n start)
     (owes : (m : Memory) → Sound n m → (c : Call) → Owed n start m c (step m c))
-    (cs : List CallAt) (f : Calls n cs)
-    (p : CommandPremise (setup n start) (machine n start setting owes) (machineOf n start setting owes (λ k. journal [] 0) (fresh n start)) (commands n start setting owes cs f)) where
+    (cs : List CallAt) (f : Calls n cs) (l : ℕ → List protocol.Notice)
+    (p : CommandPremise (setup n start) (machine n start setting owes) (freshSystem (setup n start) (machine n start setting owes)) (commands n start setting owes cs f))
+    (one : OneList (λ k. Unit) l (systemOf (setup n start) (machine n start setting owes)
+    (runCommands (setup n start) (machine n start setting owes) (freshSystem (setup n start) (machine n start setting owes)) (commands n start setting owes cs f)))) where
   abbrev g : Members
   g = run (fresh n start) cs
 
@@ -106,8 +113,7 @@ module _ (n : ℕ) (start : List ℤ) (setting : Setting n start)
   F = sequence (run (fresh n start) cs .handouts)
 
   whole : MachineAgreement (setup n start) (machine n start setting owes) (commands n start setting owes cs f)
-  whole = machine-agreement (setup n start) (places-apart n start) (machine n start setting owes) (commands n start setting owes cs f)
-      p
+  whole = machine-agreement (setup n start) (places-apart n start) (places-within n start (setting .least)) (machine n start setting owes) (commands n start setting owes cs f) p l one
 
   group : Agreed (setup n start) (systemOf (setup n start) (machine n start setting owes) (machineOf n start setting owes (journalsRun n start setting owes noJournals (fresh n start) cs) g))
   group = subst (λ (s : MachineSystem (setup n start) (machine n start setting owes)). Agreed (setup n start) (systemOf (setup n start) (machine n start setting owes) s))
@@ -156,9 +162,7 @@ module _ (n : ℕ) (start : List ℤ) (setting : Setting n start)
     commits = a .commits;
     counted = ap length (a .commits) ∙ length-map (take (g .memories k .counts .commits) F) idOf ∙ length-take-le (g .memories k .counts .commits) F (a .within);
     below = a .below;
-    reached = λ i h l.
-        let u = sequence-mono (g .handouts) (suc i) (g .memories k .turn .slot) (let q = group .rising i h in omega arith) in
-        let v = a .passed in omega arith;
+    reached = a .reached;
     values = a .values;
     stamps = λ i. record {
       within = a .stamps .within i;
@@ -169,7 +173,7 @@ module _ (n : ℕ) (start : List ℤ) (setting : Setting n start)
 
   pub agreement-from : Agreement n start cs
   agreement-from = record {
-    slots = λ i j h u. rw (group .rising i (omega arith), group .rising j u) h;
+    slots = group .rising;
     blocks = λ b m. group .messages .each (messageIn b) (mem-map messageIn (g .blocks) b m);
     handed = λ h m. group .messages .all (handoutMessage h) (mem-map handoutMessage (g .handouts) h m);
     replicas = λ k h. agrees k;

@@ -35,7 +35,7 @@ module _ (n : ℕ) (start : List ℤ) (m : Memory) (c : Call) where
     pub queue : waiting (x .queue) ≡ d .transactions .queue
     pub txns : SameMembers (d .transactions .txns) (openTxns x)
 
-  client-alike : (d : ClientOutcome ℤ) (k : Counts) (x : Transactions) → ClientAlike d k x → Alike (fromClient (view m) d .replica) (view (withTxns m k x))
+  client-alike : (d : ClientOutcome ℤ) (k : Counts) (x : Transactions) → ClientAlike d k x → Alike (setup n start) (fromClient (view m) d .replica) (view (withTxns m k x))
   client-alike d k x a = record {
     own = refl;
     cursor = rw (a .done);
@@ -47,6 +47,7 @@ module _ (n : ℕ) (start : List ℤ) (m : Memory) (c : Call) where
     there = a .txns .there;
     back = a .txns .back;
     places = λ p. refl;
+    outages = λ t. refl;
   }
 
   pub client-owes : (d : ClientOutcome ℤ) (o : Outcome) (k : Counts) (x : Transactions) → step (setup n start) (view m) (meant c) ≡ fromClient (view m) d

@@ -27,9 +27,9 @@ use Rattle.engine.proofs.PlaceLaws.{next-round}
 use Rattle.protocol.specs.Lists.{update}
 use Rattle.protocol.specs.Writesets.{Message}
 use Rattle.protocol.specs.Replica.{Setup, Blocks, Replica, replica, accepted, outcome}
-use Rattle.protocol.specs.Moves.{sentForTurn, deliverStep}
+use Rattle.protocol.specs.Moves.{outHere, sentForTurn, deliverStep}
 use Rattle.agreement.specs.Group.{messageIn, heard}
-use Rattle.agreement.proofs.View.{setup, placeAt, view, Sound, meant, Owed, follows}
+use Rattle.agreement.proofs.View.{out-same, setup, placeAt, view, Sound, meant, Owed, follows}
 use Rattle.agreement.proofs.ClientStep.{refused-owes}
 use Rattle.agreement.proofs.PlaceView.{place-empty, place-kept}
 
@@ -53,7 +53,7 @@ pub slot-said : (b : List ℕ) → messageIn b .slot ≡ headerOf b .slot
 unfolding messageIn messageOf headerOf
 slot-said b = refl
 
-sender-said : (b : List ℕ) → messageIn b .sender ≡ headerOf b .sender
+pub sender-said : (b : List ℕ) → messageIn b .sender ≡ headerOf b .sender
 unfolding messageIn messageOf headerOf
 sender-said b = refl
 
@@ -72,7 +72,8 @@ sent-here m b e =
     let r = passes _ _ refl (q .1) in
     let s = passes _ _ refl (r .1) in
     let t = passes _ _ refl (s .1) in
-    let u = passes _ _ refl (t .1) in
+    let o = passes _ _ refl (t .1) in
+    let u = passes _ _ refl (o .1) in
     passes _ _ refl (u .1) .0
 
 -- `a` without `c` does not hold; so neither does `a` without what follows from both
@@ -84,14 +85,14 @@ own-by false c d h f = refl
 
 module _ {X : Type 0} (S : Setup X) where
   abbrev keptBlocks : Replica X → Message X → Blocks X
-  keptBlocks r w = record { places = update (r .blocks .places) (S .place (w .slot)) (some w); outbox = r .blocks .outbox }
+  keptBlocks r w = record { places = update (r .blocks .places) (S .place (w .slot)) (some w); outbox = r .blocks .outbox; outages = r .blocks .outages }
 
-  model-keeps : (r : Replica X) (w : Message X) → ltb (w .slot) (r .cursor .turn) ≡ false → ltb (w .slot) (r .cursor .turn + S .size) ≡ true
+  model-keeps : (r : Replica X) (w : Message X) → ltb (w .slot) (r .cursor .turn) ≡ false → outHere S r (w .slot) ≡ false → ltb (w .slot) (r .cursor .turn + S .size) ≡ true
       → eqb (w .sender) (r .own) && not (sentForTurn S r w) ≡ false → r .blocks .places (S .place (w .slot)) ≡ none
       → Rattle.protocol.specs.System.step S r (Rattle.protocol.specs.System.Call.deliver w)
       ≡ outcome (replica (r .own) (r .cursor) (r .store) (r .transactions) (keptBlocks r w)) (accepted w)
   unfolding Rattle.protocol.specs.System.step deliverStep
-  model-keeps r w a b c d = rw (a, b, c, d) refl
+  model-keeps r w a o b c d = rw (a, o, b, c, d) refl
 
 -- ---- the call
 
@@ -122,6 +123,7 @@ module _ (n : ℕ) (start : List ℤ) (m : Memory) (S : Sound n m) (b : List ℕ
     model =
         model-keeps (setup n start) (view m) (messageIn b)
         (rw (slot-said b) (le-ltb _ _ (k .low)))
+        (rw (slot-said b) (out-same n start m (S .size) slot ∙ k .live))
         (rw (slot-said b) (lt-ltb _ _ below))
         own-sent
         (rw (slot-said b) (place-empty n slot (m .blocks .places) (rw (S .size) at (k .empty))))
@@ -144,6 +146,7 @@ module _ (n : ℕ) (start : List ℤ) (m : Memory) (S : Sound n m) (b : List ℕ
           places = λ p. rw (S .size)
               (place-kept n slot (m .blocks .places) b (omega (arith, S .shape .ranges .least, S .size)) (rw (S .size) at (k .places)) (k .long) (kind-some b (k .taken)) p
               ∙ ap (λ (s : ℕ). update (placeAt (m .blocks .places)) (s % n) (some (messageIn b)) p) (sym (slot-said b)));
+          outages = λ t. refl;
         }))
 
   pub deliver-owes : Owed n start m (deliver b) (step m (deliver b))

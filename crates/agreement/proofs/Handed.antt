@@ -1,7 +1,7 @@
 -- Blocks read back, and six rows: what holds with no premise. Assumes nothing.
 use Prim.Native.Nat.{ℕ}
 use mathlib.Core.Path.{_≡_, refl, sym, subst}
-use mathlib.Core.Bool.{cond}
+use mathlib.Core.Bool.{cond, false, not, _&&_}
 use mathlib.Core.Logic.{_⊎_, inl, inr}
 use mathlib.Core.List.{List, List·Memᴰ·head, List·Memᴰ·tail, [], _∷_}
 use native.Mathlib.Omega.{arith}
@@ -9,10 +9,11 @@ use lib.IntN.{ℤ}
 use lib.ListN.{replicate}
 use Rattle.block.specs.Bytes.{blockOf}
 use Rattle.block.specs.Form.{messageOf}
-use Rattle.block.specs.Answers.{blockRefusal}
+use Rattle.block.specs.Answers.{blockRefusal, headerOf}
 use Rattle.block.specs.Theorems.{AreBytes}
 use Rattle.block.proofs.Theorems.{theorems}
 use Rattle.memory.specs.Memory.{Memory}
+use Rattle.memory.specs.Notices.{Notice, putsOut}
 use Rattle.engine.specs.Make.{Setting}
 use Rattle.engine.specs.Answers.{Outcome}
 use Rattle.engine.specs.Answers.Answer.{sent, kept, restarted}
@@ -64,18 +65,19 @@ kept-only m bytes a =
 abbrev Given : List ℕ → Type 0
 Given b = (b ≡ replicate 512 0) ⊎ (blockRefusal b ≡ 0)
 
-last-given : (n own : ℕ) (d : List ℕ) (bs : List (List ℕ)) → AllGood n bs → Given d → Given (lastOwn own d bs)
+last-given : (n own : ℕ) (l : List Notice) (d : List ℕ) (bs : List (List ℕ)) → AllGood n bs → Given d → Given (lastOwn own l d bs)
 unfolding lastOwn
-last-given n own d [] g h = h
-last-given n own d (b ∷ bs) g h =
-    last-given n own (cond (isFrom own b) b d) bs (λ c q. g c (List·Memᴰ·tail q))
-    (cond-by Given (isFrom own b) (λ e. inr (good-taken n b (g b (List·Memᴰ·head refl)))) (λ e. h))
+last-given n own l d [] g h = h
+last-given n own l d (b ∷ bs) g h =
+    last-given n own l (cond (isFrom own b && not (putsOut false l own (headerOf b .slot))) b d) bs (λ c q. g c (List·Memᴰ·tail q))
+    (cond-by Given (isFrom own b && not (putsOut false l own (headerOf b .slot))) (λ e. inr (good-taken n b (g b (List·Memᴰ·head refl)))) (λ e. h))
 
-restart-given : (m : Memory) (n own : ℕ) (values : List ℤ) (journal lent : List ℕ) (count : ℕ) (block : List ℕ) → restartStep m n own values journal lent .answer ≡ restarted count block → Given block
-restart-given m n own values journal lent count block =
-    restart-by (λ (o : Outcome). o .answer ≡ restarted count block → Given block) m n own values journal lent
-    (λ e q. let i : lastOwn own (replicate 512 0) (blocksIn n journal) ≡ block = cc in
-    subst Given i (last-given n own (replicate 512 0) (blocksIn n journal) (reads-good n 0 _ journal) (inl refl)))
+restart-given : (m : Memory) (n own : ℕ) (values : List ℤ) (journal : List ℕ) (notices : List Notice) (lent : List ℕ) (count : ℕ) (block : List ℕ)
+    → restartStep m n own values journal notices lent .answer ≡ restarted count block → Given block
+restart-given m n own values journal notices lent count block =
+    restart-by (λ (o : Outcome). o .answer ≡ restarted count block → Given block) m n own values journal notices lent
+    (λ e q. let i : lastOwn own notices (replicate 512 0) (blocksIn n journal) ≡ block = cc in
+    subst Given i (last-given n own notices (replicate 512 0) (blocksIn n journal) (reads-good n 0 _ journal) (inl refl)))
     (λ e q. let z : _≡_ {A = ℕ} 0 1 = cc in absurd (let w : ⊥ = omega arith in w))
 
 pub reads-back : ReadsBack

@@ -15,18 +15,20 @@ use Rattle.block.proofs.AnswerLaws.{is-taken}
 use Rattle.block.proofs.Theorems.{theorems}
 use Rattle.memory.specs.declared.Turn.{Turn}
 use Rattle.memory.specs.Memory.{Memory, bump}
+use Rattle.memory.specs.Notices.{Notice}
 use Rattle.memory.specs.Turns.{isOn, markApplying, advance}
 use Rattle.engine.specs.Answers.{Outcome}
 use Rattle.engine.specs.Make.{Setting, madeMemory}
 use Rattle.engine.specs.Client.{beginAt, readOnlyAt, queueAt, rewriteAt, insertWrite, staleAt, withdrawAt, reportStep}
-use Rattle.engine.specs.Moves.{messageFor, sentAlready, sendRefusal, sendNow, deliverNow, blockAtTurn, isLast, passNext, commitWriteset}
+use Rattle.engine.specs.Moves.{messageFor, sentAlready, sendRefusal, sendNow, deliverNow, blockAtTurn, isLast, passNext, commitWriteset, outAtTurn, nextAtTurn, passOut}
 use Rattle.engine.specs.Calls.{Call, step}
-use Rattle.engine.specs.Calls.Call.{begin, read, write, ask, withdraw, report, send, deliver, work, load}
+use Rattle.engine.specs.Calls.Call.{begin, read, write, ask, withdraw, report, send, deliver, work, load, notice}
 use Rattle.engine.specs.Restart.{blocksIn, restartedMemory, restartStep}
 use Rattle.engine.specs.History.{AnyCall, anyStep}
 use Rattle.engine.specs.History.AnyCall.{call, restart}
-use Rattle.engine.proofs.Tests.{same-by}
-use Rattle.engine.proofs.Steps.{begin-by, read-by, write-by, ask-by, withdraw-by, send-by, deliver-by, work-by, load-by, restart-by}
+use Rattle.engine.proofs.Tests.{same-by, clash}
+use Rattle.engine.proofs.Steps.{begin-by, read-by, write-by, ask-by, withdraw-by, send-by, deliver-by, work-by, load-by, restart-by, notice-by}
+use Rattle.engine.proofs.NoticeClaims.{next-sendable}
 use Rattle.engine.proofs.Shaping.{bumps}
 use Rattle.engine.proofs.ShapeTurn.{Working, working}
 use Rattle.engine.proofs.SentWork.{sender-owns, is-outbox}
@@ -85,8 +87,16 @@ module _ (n : ℕ) (m : Memory) (s : Sound n m) (l : List ℕ) (H : length l ≡
       let h = rw (send-passed m x e .unsent) at H in
       omega arith
 
+  -- the *next* of an out slot: nothing was sent for it
+  out-filled : outAtTurn m ≡ true → length (l ++ blockOf (nextAtTurn m)) ≡ 512 * suc (m .turn .slot)
+  out-filled u =
+      let a = length-append l (blockOf (nextAtTurn m)) in
+      let c = theorems .round-trip (nextAtTurn m) (next-sendable m (s .shape) u) .long in
+      let h = rw (not-so (sentAlready m) (λ t. clash u (s .sent .awaited t))) at H in
+      omega arith
+
   call-filled : (c : Call) → Filled c (step m c)
-  unfolding beginAt staleAt rewriteAt insertWrite readOnlyAt queueAt withdrawAt sendNow deliverNow passNext commitWriteset
+  unfolding beginAt staleAt rewriteAt insertWrite readOnlyAt queueAt withdrawAt sendNow deliverNow passNext commitWriteset passOut
   call-filled begin = begin-by (Filled begin) m (λ e. H) (λ e. H)
   call-filled (read t i) = read-by (Filled (read t i)) m t i (λ e. H) (λ e. H)
   call-filled (write t i v) = write-by (Filled (write t i v)) m t i v (λ e. H) (λ e o. H) (λ e o. H) (λ k e q. H)
@@ -95,20 +105,23 @@ module _ (n : ℕ) (m : Memory) (s : Sound n m) (l : List ℕ) (H : length l ≡
   call-filled report = unfold step reportStep in H
   call-filled (send x) = send-by (Filled (send x)) m x (λ e. let h = send-filled x e in omega arith) (λ k e q. H)
   call-filled (deliver x) = deliver-by (Filled (deliver x)) m x (λ e. H) (λ e. H)
-  call-filled work = work-by (Filled work) m (λ e k. left (working m (s .shape) e) true) (λ e k. left (working m (s .shape) e) (isLast m)) (λ e. H)
+  call-filled work =
+      work-by (Filled work) m (λ e u. let h = out-filled u in let b = bumps m (s .shape) .slot in omega arith)
+      (λ a k. left (working m (s .shape) a) true) (λ a k. left (working m (s .shape) a) (isLast m)) (λ e. H)
   call-filled (load l) = load-by (Filled (load l)) m l (λ e. H) (λ e. H)
+  call-filled (notice a) = notice-by (Filled (notice a)) m a (λ e. H) (λ e. H)
 
 -- a restart's journal is the blocks read, and its turn their number
-restart-filled : (m : Memory) (n own : ℕ) (values : List ℤ) (l j x : List ℕ) → length l ≡ 512 * blocksAt (m .turn)
-    → let o = restartStep m n own values j x in length (journalAfter l (restart n own values j x) (o .answer)) ≡ 512 * blocksAt (o .memory .turn)
+restart-filled : (m : Memory) (n own : ℕ) (values : List ℤ) (l j : List ℕ) (t : List Notice) (x : List ℕ) → length l ≡ 512 * blocksAt (m .turn)
+    → let o = restartStep m n own values j t x in length (journalAfter l (restart n own values j t x) (o .answer)) ≡ 512 * blocksAt (o .memory .turn)
 unfolding restartedMemory
-restart-filled m n own values l j x H =
-    restart-by (λ (o : Outcome). length (journalAfter l (restart n own values j x) (o .answer)) ≡ 512 * blocksAt (o .memory .turn)) m n own values j x
+restart-filled m n own values l j t x H =
+    restart-by (λ (o : Outcome). length (journalAfter l (restart n own values j t x) (o .answer)) ≡ 512 * blocksAt (o .memory .turn)) m n own values j t x
     (λ e.
     let a = ap length (sym (all-bytes-first (length (blocksIn n j)) j)) in
     let b = ap (λ (bs : List (List ℕ)). length (allBytes bs)) (reads-first n 0 (length j / 512) j) in
     let c = length-all-bytes n (blocksIn n j) (reads-good n 0 (length j / 512) j) in
-    a ∙ b ∙ c ∙ (let z : 512 * length (blocksIn n j) ≡ 512 * blocksAt (restartedMemory n own values (blocksIn n j) .turn) = omega arith in z))
+    a ∙ b ∙ c ∙ (let z : 512 * length (blocksIn n j) ≡ 512 * blocksAt (restartedMemory n own values t (blocksIn n j) .turn) = omega arith in z))
     (λ e. H)
 
 -- ---- a run
@@ -121,9 +134,9 @@ module _ (n : ℕ) where
 
   filled-next : (m : Memory) (l : List ℕ) → FilledAt m l → (c : AnyCall) → signed32 (argumentsOf c .value) ≡ true → FilledAt (anyStep m c .memory) (journalAfter l c (anyStep m c .answer))
   filled-next m l F (call c) v = record { sound = sound-any n m (F .sound) (call c) v; filled = call-filled n m (F .sound) l (F .filled) c }
-  filled-next m l F (restart size own values j x) v = record {
-    sound = sound-any n m (F .sound) (restart size own values j x) v;
-    filled = restart-filled m size own values l j x (F .filled);
+  filled-next m l F (restart size own values j t x) v = record {
+    sound = sound-any n m (F .sound) (restart size own values j t x) v;
+    filled = restart-filled m size own values l j t x (F .filled);
   }
 
   abbrev AllFilled : Members → Type 0

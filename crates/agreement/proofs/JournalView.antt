@@ -12,6 +12,7 @@ use lib.IntN.{ℤ}
 use lib.ListN.{length, getD, take, drop}
 use lib.Seq.{take-add}
 use borrow.Author.Tests.{eq-eqb, ne-eqb}
+use Rattle.block.specs.Message.{ownerOf}
 use Rattle.block.specs.Bytes.{blockOf}
 use Rattle.block.specs.Form.{messageOf}
 use Rattle.block.specs.Answers.{blockRefusal, headerOf, recordAt}
@@ -19,29 +20,32 @@ use Rattle.block.proofs.BoolLaws.{joined}
 use Rattle.block.proofs.AnswerLaws.{is-taken}
 use Rattle.block.proofs.Theorems.{theorems}
 use Rattle.memory.specs.Memory.{Memory}
+use Rattle.memory.specs.Notices.{Notice}
 use Rattle.memory.specs.Turns.{advance, markApplying}
 use Rattle.engine.specs.Answers.{Answer, WorkDone, Outcome}
-use Rattle.engine.specs.Answers.Answer.{refused, made, began, got, wrote, queued, readOnly, withdrew, reported, sent, kept, worked, loaded, restarted}
+use Rattle.engine.specs.Answers.Answer.{refused, made, began, got, wrote, queued, readOnly, withdrew, reported, sent, kept, worked, loaded, noticed, restarted}
 use Rattle.engine.specs.Client.{beginAt, readOnlyAt, queueAt, rewriteAt, insertWrite, staleAt, withdrawAt, reportStep}
-use Rattle.engine.specs.Moves.{messageFor, sendRefusal, sendNow, deliverNow, blockAtTurn, writesetAt, isLast, passNext, commitWriteset}
+use Rattle.engine.specs.Moves.{outAtTurn, messageFor, sendRefusal, sendNow, deliverNow, blockAtTurn, writesetAt, isLast, passNext, commitWriteset, nextAtTurn, passOut}
 use Rattle.engine.specs.Calls.{Call, step}
-use Rattle.engine.specs.Calls.Call.{begin, read, write, ask, withdraw, report, send, deliver, work, load}
+use Rattle.engine.specs.Calls.Call.{begin, read, write, ask, withdraw, report, send, deliver, work, load, notice}
 use Rattle.engine.specs.Restart.{isGood, blocksIn, firstBlocks, restartStep}
 use Rattle.engine.specs.History.AnyCall.{call, restart}
 use Rattle.engine.proofs.Tests.{cond-by}
-use Rattle.engine.proofs.Steps.{begin-by, read-by, write-by, ask-by, withdraw-by, send-by, deliver-by, work-by, load-by, restart-by}
+use Rattle.engine.proofs.Steps.{begin-by, read-by, write-by, ask-by, withdraw-by, send-by, deliver-by, work-by, load-by, notice-by, restart-by}
 use Rattle.engine.proofs.Shaping.{bumps}
+use Rattle.engine.proofs.NoticeClaims.{next-sendable}
 use Rattle.engine.proofs.ShapeTurn.{Working, working}
 use Rattle.engine.proofs.RestartLaws.{AllGood, good-none, good-cons, good-taken, reads-good, reads-first}
 use Rattle.protocol.specs.Writesets.{Message}
+use Rattle.protocol.specs.Moves.{outHere}
 use Rattle.protocol.specs.Replica.{Event}
 use Rattle.protocol.specs.Journal as model
-use Rattle.protocol.specs.Journal.{Journal, journal, append, Cut, appended}
+use Rattle.protocol.specs.Journal.{Journal, journal, append, Cut, nextOf, appended}
 use Rattle.protocol.specs.Blocks.{allBytes, readBlocks}
 use Rattle.protocol.proofs.BlockLaws.{cut-of-bytes}
 use Rattle.protocol.proofs.SequenceLaws.{map-append}
 use Rattle.agreement.specs.Group.{messageIn, heard, disk, journalAfter, Lent}
-use Rattle.agreement.proofs.View.{setup, placeAt, view, Sound}
+use Rattle.agreement.proofs.View.{out-same, setup, placeAt, view, Sound}
 use Rattle.agreement.proofs.PlaceView.{place-taken}
 use Rattle.agreement.proofs.Sendable.{sendable}
 use Rattle.agreement.proofs.RestartView.{read-enough}
@@ -70,7 +74,7 @@ good-append n a b f g c q = go (List·Memᴰ·append-cases a q)
     go (inl h) = f c h
     go (inr h) = g c h
 
-is-good : (n : ℕ) (b : List ℕ) → blockRefusal b ≡ 0 → headerOf b .replicas ≡ n → isGood n b ≡ true
+pub is-good : (n : ℕ) (b : List ℕ) → blockRefusal b ≡ 0 → headerOf b .replicas ≡ n → isGood n b ≡ true
 unfolding isGood
 is-good n b e f = joined (eq-eqb _ 0 e) (eq-eqb _ n f)
 
@@ -93,7 +97,7 @@ one-block n b g = record { blocks = b ∷ []; joined = append-nil b; good = good
 
 -- ---- what a call appends
 
--- the bytes: a send's block; another's, where the turn leaves its slot
+-- the bytes: a send's block; another's, where the turn leaves its slot; the *next* of an out slot
 abbrev appendedIn : Answer → List ℕ
 appendedIn (refused n) = []
 appendedIn made = []
@@ -108,6 +112,7 @@ appendedIn (sent b) = b
 appendedIn kept = []
 appendedIn (worked s) = s .append
 appendedIn loaded = []
+appendedIn noticed = []
 appendedIn (restarted c b) = []
 
 abbrev AppendedBlocks : ℕ → List ℕ → Option (Message ℤ) → Type 0
@@ -128,7 +133,28 @@ module _ (n : ℕ) (start : List ℤ) (m : Memory) (s : Sound n m) where
   abbrev b : List ℕ
   b = blockAtTurn m
 
-  module _ (k : Working m) where
+  out-here : outHere (setup n start) (view m) (m .turn .slot) ≡ outAtTurn m
+  out-here = out-same n start m (s .size) (m .turn .slot)
+
+  -- an out slot is passed
+  module _ (u : outAtTurn m ≡ true) where
+    next-good : isGood n (blockOf (nextAtTurn m)) ≡ true
+    unfolding headerOf messageOf
+    next-good =
+        let r = theorems .round-trip (nextAtTurn m) (next-sendable m (s .shape) u) in
+        is-good n (blockOf (nextAtTurn m)) (r .taken) (ap (λ (x : Rattle.block.specs.Message.Message). x .replicas) (r .message) ∙ s .size)
+
+    next-says : messageIn (blockOf (nextAtTurn m)) ≡ nextOf (m .turn .slot) (ownerOf (m .group .replicas) (m .turn .slot))
+    unfolding messageIn
+    next-says = rw (theorems .round-trip (nextAtTurn m) (next-sendable m (s .shape) u) .message) refl
+
+    out-appends : Appends work (passOut m)
+    unfolding passOut heard appended
+    out-appends =
+        rw (out-here ∙ u, bumps m (s .shape) .slot, ne-eqb (suc (m .turn .slot)) (m .turn .slot) (λ d. omega arith))
+        (subst (λ (x : Message ℤ). OnDisk n (blockOf (nextAtTurn m)) (x ∷ [])) next-says (one-block n (blockOf (nextAtTurn m)) next-good))
+
+  module _ (k : Working m) (live : outAtTurn m ≡ false) where
     waits : (blockRefusal b ≡ 0) × (headerOf b .slot ≡ m .turn .slot) × (headerOf b .replicas ≡ m .group .replicas)
     waits = s .shape .places .waits (m .turn .slot) (omega arith) (omega (arith, s .shape .ranges .least)) (k .waits)
 
@@ -140,7 +166,7 @@ module _ (n : ℕ) (start : List ℤ) (m : Memory) (s : Sound n m) where
 
     next-appends : Appends work (passNext m)
     unfolding passNext heard appended
-    next-appends = rw found (left-block n b turn-good (eqb (getD b 1 0) (m .group .own)) true (m .turn .slot) _ (bumps m (s .shape) .slot))
+    next-appends = rw (out-here ∙ live, found) (left-block n b turn-good (eqb (getD b 1 0) (m .group .own)) true (m .turn .slot) _ (bumps m (s .shape) .slot))
 
     slot-after : (last mine : Bool) → cond last (advance (m .turn)) (cond mine (m .turn) (markApplying (m .turn))) .slot ≡ cond last (suc (m .turn .slot)) (m .turn .slot)
     slot-after true mine = bumps m (s .shape) .slot
@@ -171,10 +197,12 @@ module _ (n : ℕ) (start : List ℤ) (m : Memory) (s : Sound n m) where
   appends (deliver l) = deliver-by (Appends (deliver l)) m l (λ e. no-block n) (λ e. no-block n)
   appends work =
       work-by (Appends work) m
-      (λ e k. next-appends (working m (s .shape) e))
-      (λ e k. let w = working m (s .shape) e in writeset-appends w (w .ticket k))
+      (λ e u. out-appends u)
+      (λ a k. next-appends (working m (s .shape) a) (a .live))
+      (λ a k. let w = working m (s .shape) a in writeset-appends w (a .live) (w .ticket k))
       (λ e. no-block n)
   appends (load l) = load-by (Appends (load l)) m l (λ e. no-block n) (λ e. no-block n)
+  appends (notice a) = notice-by (Appends (notice a)) m a (λ e. no-block n) (λ e. no-block n)
 
 -- ---- the disk after a call
 
@@ -195,46 +223,48 @@ module _ (n : ℕ) (l : List ℕ) (J : Journal ℤ) (H : OnDisk n l (J .kept)) w
   stays : (more : Option (Message ℤ)) → AppendedBlocks n [] more → OnDisk n l (append (J .kept) more)
   stays more A = subst (λ (x : List ℕ). OnDisk n x (append (J .kept) more)) (append-nil l) (grows [] more A)
 
-  worked-journal : (more : Option (Message ℤ)) (c : Call) (w : WorkDone) → model.journalAfter J more (heard (call c) (worked w)) ≡ journal (append (J .kept) more) (J .safe)
+  worked-journal : (more : Option (Message ℤ)) (out : Bool) (c : Call) (w : WorkDone) → model.journalAfter J more out (heard (call c) (worked w)) .kept ≡ append (J .kept) more
   unfolding heard model.journalAfter
-  worked-journal more c w = cond-by (λ (e : Event ℤ). model.journalAfter J more e ≡ journal (append (J .kept) more) (J .safe)) (eqb (w .ticket) 0) (λ q. refl) (λ q. refl)
+  worked-journal more out c w = cond-by (λ (e : Event ℤ). model.journalAfter J more out e .kept ≡ append (J .kept) more) (eqb (w .ticket) 0) (λ q. refl) (λ q. refl)
 
   -- by what is answered; `more` is what the model appends
-  disk-by : (c : Call) (a : Answer) (more : Option (Message ℤ)) → AppendedBlocks n (appendedIn a) more → NoRestart a
-      → OnDisk n (journalAfter l (call c) a) (model.journalAfter J more (heard (call c) a) .kept) × OnDisk n (journalAfter l (call c) a) (append (J .kept) more)
+  disk-by : (c : Call) (a : Answer) (more : Option (Message ℤ)) (out : Bool) → AppendedBlocks n (appendedIn a) more → NoRestart a
+      → OnDisk n (journalAfter l (call c) a) (model.journalAfter J more out (heard (call c) a) .kept) × OnDisk n (journalAfter l (call c) a) (append (J .kept) more)
   unfolding heard model.journalAfter
-  disk-by c (refused k) more A q = (stays more A, stays more A)
-  disk-by c made more A q = (stays more A, stays more A)
-  disk-by c (began t) more A q = (stays more A, stays more A)
-  disk-by c (got v) more A q = (stays more A, stays more A)
-  disk-by c wrote more A q = (stays more A, stays more A)
-  disk-by c queued more A q = (stays more A, stays more A)
-  disk-by c readOnly more A q = (stays more A, stays more A)
-  disk-by c withdrew more A q = (stays more A, stays more A)
-  disk-by c (reported r) more A q = (stays more A, stays more A)
-  disk-by c (sent b) more A q = (grows b more A, grows b more A)
-  disk-by c kept more A q = (stays more A, stays more A)
-  disk-by c (worked w) more A q = (rw (worked-journal more c w) (grows (w .append) more A), grows (w .append) more A)
-  disk-by c loaded more A q = (stays more A, stays more A)
-  disk-by c (restarted k b) more A q = absurd q
+  disk-by c (refused k) more out A q = (stays more A, stays more A)
+  disk-by c made more out A q = (stays more A, stays more A)
+  disk-by c (began t) more out A q = (stays more A, stays more A)
+  disk-by c (got v) more out A q = (stays more A, stays more A)
+  disk-by c wrote more out A q = (stays more A, stays more A)
+  disk-by c queued more out A q = (stays more A, stays more A)
+  disk-by c readOnly more out A q = (stays more A, stays more A)
+  disk-by c withdrew more out A q = (stays more A, stays more A)
+  disk-by c (reported r) more out A q = (stays more A, stays more A)
+  disk-by c (sent b) more out A q = (grows b more A, grows b more A)
+  disk-by c kept more out A q = (stays more A, stays more A)
+  disk-by c (worked w) more out A q = (rw (worked-journal more out c w) (grows (w .append) more A), grows (w .append) more A)
+  disk-by c loaded more out A q = (stays more A, stays more A)
+  disk-by c noticed more out A q = (stays more A, stays more A)
+  disk-by c (restarted k b) more out A q = absurd q
 
   -- what the model appends in a call
   abbrev moreIn : List ℤ → Memory → Call → Option (Message ℤ)
   moreIn start m c = appended (setup n start) (view m) (step m c .memory .turn .slot) (heard (call c) (step m c .answer))
 
-  pub disk-call : (start : List ℤ) (m : Memory) → Sound n m → (c : Call)
-      → OnDisk n (journalAfter l (call c) (step m c .answer)) (model.journalAfter J (moreIn start m c) (heard (call c) (step m c .answer)) .kept)
-  disk-call start m s c = disk-by c (step m c .answer) (moreIn start m c) (appends n start m s c) (no-restart m c) .0
+  pub disk-call : (start : List ℤ) (m : Memory) → Sound n m → (c : Call) (out : Bool)
+      → OnDisk n (journalAfter l (call c) (step m c .answer)) (model.journalAfter J (moreIn start m c) out (heard (call c) (step m c .answer)) .kept)
+  disk-call start m s c out = disk-by c (step m c .answer) (moreIn start m c) out (appends n start m s c) (no-restart m c) .0
 
   -- an accepted one with the group's N
-  pub disk-restart : (start : List ℤ) (m : Memory) (size own : ℕ) (values : List ℤ) (bytes b : List ℕ)
-      → let o = restartStep m size own values bytes b in let c = restart size own values bytes b in ((x : ℕ) (y : List ℕ) → o .answer ≡ restarted x y → size ≡ n)
-      → OnDisk n (journalAfter l c (o .answer)) (model.journalAfter J (appended (setup n start) (view m) (o .memory .turn .slot) (heard c (o .answer))) (heard c (o .answer)) .kept)
+  pub disk-restart : (start : List ℤ) (m : Memory) (size own : ℕ) (values : List ℤ) (bytes : List ℕ) (notices : List Notice) (b : List ℕ) (out : Bool)
+      → let o = restartStep m size own values bytes notices b in let c = restart size own values bytes notices b in ((x : ℕ) (y : List ℕ) → o .answer ≡ restarted x y → size ≡ n)
+      → OnDisk n (journalAfter l c (o .answer)) (model.journalAfter J (appended (setup n start) (view m) (o .memory .turn .slot) (heard c (o .answer))) out (heard c (o .answer)) .kept)
   unfolding heard model.journalAfter appended
-  disk-restart start m size own values bytes b =
+  disk-restart start m size own values bytes notices b out =
       let first = reads-first size 0 (length bytes / 512) bytes in
-      restart-by (λ (o : Outcome). ((x : ℕ) (y : List ℕ) → o .answer ≡ restarted x y → size ≡ n) → OnDisk n (journalAfter l (restart size own values bytes b) (o .answer))
-      (model.journalAfter J (appended (setup n start) (view m) (o .memory .turn .slot) (heard (restart size own values bytes b) (o .answer))) (heard (restart size own values bytes b) (o .answer)) .kept)) m size own values bytes b
+      restart-by (λ (o : Outcome). ((x : ℕ) (y : List ℕ) → o .answer ≡ restarted x y → size ≡ n) → OnDisk n (journalAfter l (restart size own values bytes notices b) (o .answer))
+      (model.journalAfter J (appended (setup n start) (view m) (o .memory .turn .slot) (heard (restart size own values bytes notices b) (o .answer))) out
+      (heard (restart size own values bytes notices b) (o .answer)) .kept)) m size own values bytes notices b
       (λ e f. record {
         blocks = blocksIn size bytes;
         joined = ap allBytes (sym first) ∙ all-bytes-first (length (blocksIn size bytes)) bytes;
@@ -256,7 +286,7 @@ module _ (n : ℕ) (l : List ℕ) (J : Journal ℤ) (H : OnDisk n l (J .kept)) w
       more = moreIn start m (L .ended)
 
       G : OnDisk n (journalAfter l (call (L .ended)) (step m (L .ended) .answer)) (append (J .kept) more)
-      G = disk-by (L .ended) (step m (L .ended) .answer) more (appends n start m s (L .ended)) (no-restart m (L .ended)) .1
+      G = disk-by (L .ended) (step m (L .ended) .answer) more false (appends n start m s (L .ended)) (no-restart m (L .ended)) .1
 
       part : bytes ≡ take (L .count) (allBytes (G .blocks))
       part = L .part ∙ ap (take (L .count)) (sym (G .joined))

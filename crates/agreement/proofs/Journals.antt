@@ -1,32 +1,38 @@
--- A replica's journal has the blocks put down, in slot order, up to its turn and what it has sent for it. Assumes nothing.
-use Prim.Native.Nat.{ℕ, _*_, _/_}
-use mathlib.Core.Path.{_≡_, sym, ap, _∙_}
-use mathlib.Core.List.{List, [], map}
+-- A replica's journal has the blocks put down and the *nexts* of out slots, in slot order, up to its turn and what it has sent for it. Assumes nothing.
+use Prim.Native.Nat.{ℕ, suc, _+_, _*_, _/_, _<_}
+use mathlib.Core.Path.{_≡_, refl, sym, ap, _∙_, subst}
+use mathlib.Core.Bool.{true, false}
+use mathlib.Core.List.{List, [], _∷_, append-nil, map}
 use native.Mathlib.Nat.{lt-mul-div-succ}
 use native.Mathlib.Omega.{arith}
 use lib.IntN.{ℤ}
-use lib.ListN.{length, length-map, take}
-use lib.Seq.{length-take-le, take-all}
+use lib.ListN.{length, length-map, getD, take}
+use lib.Seq.{take-all}
+use borrow.Author.Tests.{eq-eqb}
+use Rattle.block.specs.Message.{ownerOf}
 use Rattle.block.proofs.AnswerLaws.{is-taken}
+use Rattle.memory.specs.Notices.{Notice}
 use Rattle.engine.specs.Restart.{isGood, blocksIn}
+use Rattle.engine.proofs.Tests.{clash}
 use Rattle.engine.proofs.RestartLaws.{good-taken}
+use Rattle.protocol.specs.Lists.{Mem}
 use Rattle.protocol.specs.Writesets.{Message}
-use Rattle.protocol.specs.Journal.{Journal, journal, inSlotOrder}
+use Rattle.protocol.specs.Journal.{journal, inSlotOrder, nextOf}
 use Rattle.protocol.specs.Blocks.{allBytes, readBlocks}
-use Rattle.protocol.specs.Observer.{Handout, handoutMessage}
+use Rattle.protocol.specs.Observer.{handoutMessage}
 use Rattle.protocol.proofs.BlockLaws.{Read, read-part}
-use Rattle.protocol.proofs.SequenceLaws.{map-take}
-use Rattle.protocol.proofs.RestartLaws.{read-all}
-use Rattle.protocol.proofs.Tracking.{InOrder}
-use Rattle.protocol.proofs.JournalLaws.{Journaled}
-use Rattle.agreement.specs.Group.{messageIn, fresh, run}
-use Rattle.agreement.specs.Journals.{blocksAt, InSlotOrder, JournalTheorem}
+use Rattle.protocol.proofs.ListLaws.{getD-map-in}
+use Rattle.protocol.proofs.Fates.{outOf}
+use Rattle.protocol.proofs.Slots.{OfSlot, isNextOf, isHanded, slot-journaled}
+use Rattle.agreement.specs.Group.{messageIn, Members, fresh, run}
+use Rattle.agreement.specs.Journals.{blocksAt, messageAt, outIn, JournalTheorem}
 use Rattle.agreement.proofs.View.{setup}
 use Rattle.agreement.proofs.RestartView.{reads-in-order, read-enough}
 use Rattle.agreement.proofs.RestartStep.{lentMessages}
 use Rattle.agreement.proofs.JournalView.{OnDisk}
 use Rattle.agreement.proofs.Runs.{fresh-kept, kept-run}
 use Rattle.agreement.proofs.Premises.{length-all-bytes}
+use Rattle.agreement.proofs.OneList.{modelLists, outs-same}
 use Rattle.agreement.proofs.Theorem.{owes, journalsAfter, InvAfter, inv-after}
 use Rattle.agreement.proofs.JournalLength.{journal-length}
 
@@ -50,31 +56,75 @@ module _ (n : ℕ) (l : List ℕ) (K : List (Message ℤ)) (H : OnDisk n l K) wh
   all-messages : lentMessages n l ≡ K
   all-messages = ap (map messageIn) read-blocks ∙ H .says
 
-in-order : (n : ℕ) (start : List ℤ) (D : List (Handout ℤ)) (k turn count : ℕ) (l : List ℕ) (J : Journal ℤ) → OnDisk n l (J .kept) → InOrder (setup n start) D
-    → Journaled (setup n start) D k turn J → length l ≡ 512 * count → InSlotOrder n D count l
-in-order n start D k turn count l J H L Q w = record {
-  whole = w;
-  read = sym (length-map (blocksIn n l) messageIn) ∙ ap length messages ∙ length-map (take (length (J .kept)) D) handoutMessage ∙ length-take-le (length (J .kept)) D (Q .within) ∙ all;
-  messages = messages ∙ ap (λ (c : ℕ). map handoutMessage (take c D)) all;
-}
-  where
-    all : length (J .kept) ≡ count
-    all = let a = long n l (J .kept) H in let b = length-map (H .blocks) messageIn in let c = ap length (H .says) in omega arith
+-- messages of slots s, s + 1 and so on are in slot order
+order-all : (l : List (Message ℤ)) (d : Message ℤ) (s : ℕ) → ((i : ℕ) → i < length l → getD l i d .slot ≡ s + i) → inSlotOrder s l ≡ l
+unfolding inSlotOrder
+order-all [] d s h = refl
+order-all (m ∷ l) d s h =
+    rw (eq-eqb (m .slot) s (let a = h 0 (omega arith) in omega arith), order-all l d (suc s) (λ i u. let a = h (suc i) (omega arith) in let e : suc s + i ≡ s + suc i = omega arith in a ∙ sym e)) refl
 
-    first : J .kept ≡ map handoutMessage (take (length (J .kept)) D)
-    first = Q .holds ∙ sym (map-take handoutMessage (length (J .kept)) D)
+-- what block i is, from what the model says of slot i
+module _ (n : ℕ) (start : List ℤ) (l : ℕ → List Notice) (its : (k : ℕ) (a : Notice) → Mem a (l k) → a .about ≡ k) (B D : List (Message ℤ)) (known : (m : Message ℤ) → Mem m B → Mem m D) where
+  abbrev Of : ℕ → Message ℤ → Type 0
+  Of = OfSlot (setup n start) (outOf (setup n start) (modelLists l)) B
 
-    messages : map messageIn (blocksIn n l) ≡ map handoutMessage (take (length (J .kept)) D)
-    messages =
-        reads-in-order n 0 (length l / 512) l ∙ ap (inSlotOrder 0) (all-messages n l (J .kept) H ∙ first)
-        ∙ read-all (setup n start) D L k (length (J .kept)) (Q .within) (λ s g o. let a = Q .own s g o in let b = Q .safe in omega arith)
+  slot-is : (s : ℕ) (m : Message ℤ) → Of s m → m .slot ≡ s
+  slot-is s m (isNextOf o e) = ap (λ (x : Message ℤ). x .slot) e
+  slot-is s m (isHanded o e h) = e
+
+  out-is : (s : ℕ) → outOf (setup n start) (modelLists l) s ≡ outIn n l s
+  out-is s = outs-same l its (ownerOf n s) s
+
+  live-is : (s : ℕ) (m : Message ℤ) → outIn n l s ≡ false → Of s m → Mem m D × (m .slot ≡ s)
+  live-is s m u (isNextOf o e) = clash (sym (out-is s) ∙ o) u
+  live-is s m u (isHanded o e h) = (known m h, e)
+
+  next-is : (s : ℕ) (m : Message ℤ) → outIn n l s ≡ true → Of s m → m ≡ nextOf s (ownerOf n s)
+  next-is s m u (isNextOf o e) = e
+  next-is s m u (isHanded o e h) = clash u (sym (out-is s) ∙ o)
+
+  in-order : (count : ℕ) (bytes : List ℕ) (K : List (Message ℤ)) → OnDisk n bytes K → ((s : ℕ) → s < length K → Of s (getD K s (nextOf 0 0))) → length bytes ≡ 512 * count
+      → (whole : length bytes ≡ 512 * count) × (length (blocksIn n bytes) ≡ count) × ((i : ℕ) → i < count → Of i (messageAt n bytes i))
+  in-order count bytes K H each w = (w, sym (length-map (blocksIn n bytes) messageIn) ∙ ap length messages ∙ all, λ i h. subst (Of i) (at i h) (each i (let a = all in omega arith)))
+    where
+      all : length K ≡ count
+      all = let a = long n bytes K H in let b = length-map (H .blocks) messageIn in let c = ap length (H .says) in omega arith
+
+      messages : map messageIn (blocksIn n bytes) ≡ K
+      messages =
+          reads-in-order n 0 (length bytes / 512) bytes ∙ ap (inSlotOrder 0) (all-messages n bytes K H)
+          ∙ order-all K (nextOf 0 0) 0 (λ i h. let a = slot-is i _ (each i h) in omega arith)
+
+      at : (i : ℕ) → i < count → getD K i (nextOf 0 0) ≡ messageAt n bytes i
+      at i h =
+          ap (λ (x : List (Message ℤ)). getD x i (nextOf 0 0)) (sym messages)
+          ∙ getD-map-in messageIn [] (nextOf 0 0) (blocksIn n bytes) i (let a = ap length messages in let b = length-map (blocksIn n bytes) messageIn in let c = all in omega arith)
 
 pub journals : JournalTheorem
-journals n start setting cs f p k h =
-    in-order n start (run (fresh n start) cs .handouts) k (run (fresh n start) cs .memories k .turn .slot) (blocksAt (run (fresh n start) cs .memories k .turn))
-    (run (fresh n start) cs .disks k .journal) (journalsAfter n start setting cs k)
-    (kept-run n start setting (owes n start) cs f (λ j. journal [] 0) (fresh n start) p (fresh-kept n start setting (owes n start)) .disks k h)
-    (I .inv .whole .inOrder) (I .inv .journals k) (journal-length n start setting cs f k h)
+journals n start setting cs f p k h = record {
+  whole = R .0;
+  read = R .1;
+  live = λ i u o. live-is n start (p .lists) (p .one .ofIts) B D known i _ o (R .2 i u);
+  out = λ i u o. next-is n start (p .lists) (p .one .ofIts) B D known i _ o (R .2 i u);
+}
   where
-    I : InvAfter n start setting cs
-    I = inv-after n start setting cs f p
+    G : Members
+    G = run (fresh n start) cs
+
+    B : List (Message ℤ)
+    B = map messageIn (run (fresh n start) cs .blocks)
+
+    D : List (Message ℤ)
+    D = map handoutMessage (run (fresh n start) cs .handouts)
+
+    I : InvAfter n start setting (p .lists) cs
+    I = inv-after n start setting cs f p cs [] (sym (append-nil cs))
+
+    known : (m : Message ℤ) → Mem m B → Mem m D
+    known m q = I .inv .sheet .same .each m q
+
+    R : (length (G .disks k .journal) ≡ 512 * blocksAt (G .memories k .turn)) × (length (blocksIn n (G .disks k .journal)) ≡ blocksAt (G .memories k .turn))
+        × ((i : ℕ) → i < blocksAt (G .memories k .turn) → Of n start (p .lists) (p .one .ofIts) B D known i (messageAt n (G .disks k .journal) i))
+    R = in-order n start (p .lists) (p .one .ofIts) B D known (blocksAt (G .memories k .turn)) (G .disks k .journal) (journalsAfter n start setting cs k .kept)
+        (kept-run n start setting (owes n start) cs f (λ j. journal [] 0) (fresh n start) (p .calls) (fresh-kept n start setting (owes n start)) .disks k h)
+        (slot-journaled (setup n start) (outOf (setup n start) (modelLists (p .lists))) _ (I .inv) k) (journal-length n start setting cs f k h)

@@ -22,6 +22,7 @@ pub mod Sendable
 pub mod SendStep
 pub mod DeliverStep
 pub mod WorkStep
+pub mod NoticeStep
 pub mod RestartView
 pub mod RestartAnswers
 pub mod RestartStep
@@ -32,10 +33,12 @@ pub mod JournalView
 pub mod Replicas
 pub mod Runs
 pub mod Premises
+pub mod OneList
 pub mod Agreement
 pub mod Theorem
 pub mod JournalLength
 pub mod Journals
 pub mod Tickets
+pub mod OutSlots
 -- what holds with no premise
 pub mod Handed

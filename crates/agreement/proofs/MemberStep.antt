@@ -12,18 +12,21 @@ use borrow.Author.Tests.{eq-eqb}
 use Rattle.block.specs.Message.{ownerOf}
 use Rattle.block.specs.Answers.{blockRefusal, headerOf}
 use Rattle.memory.specs.Memory.{Memory, noNumber, isStation}
+use Rattle.memory.specs.Notices.{Notice}
 use Rattle.memory.specs.Turns.{blockIn, isEmpty}
 use Rattle.engine.specs.Answers.{Outcome, outcome}
 use Rattle.engine.specs.Answers.Answer.{refused, restarted}
+use Rattle.engine.specs.Make.{SettingOf}
 use Rattle.engine.specs.Moves.{deliverRefusal}
+use Rattle.engine.specs.Notices.{noticeRefusal}
 use Rattle.engine.specs.Restart.{blocksIn, lastOwn, restartedMemory, restartRefusal, restartStep}
 use Rattle.engine.specs.Calls.{Call, step}
-use Rattle.engine.specs.Calls.Call.{begin, read, write, ask, withdraw, report, send, deliver, work, load}
+use Rattle.engine.specs.Calls.Call.{begin, read, write, ask, withdraw, report, send, deliver, work, load, notice}
 use Rattle.engine.specs.History.{AnyCall}
 use Rattle.engine.specs.History.AnyCall.{call, restart}
 use Rattle.engine.proofs.Tests.{bool-by, not-first}
-use Rattle.engine.proofs.Steps.{deliver-by, restart-by}
-use Rattle.engine.proofs.Passed.{deliver-passed, restart-passed}
+use Rattle.engine.proofs.Steps.{deliver-by, notice-by, restart-by}
+use Rattle.engine.proofs.Passed.{deliver-passed, notice-passed, restart-passed}
 use Rattle.engine.proofs.BlockFacts.{taken-block}
 use Rattle.engine.proofs.Reports.{restarted-own}
 use Rattle.engine.proofs.Stations.{stations}
@@ -45,12 +48,12 @@ AsMade n start k size own values = (size ≡ n) × (own ≡ k) × (values ≡ st
 -- a restart that is accepted is
 abbrev pub Ours : ℕ → List ℤ → ℕ → Memory → AnyCall → Type 0
 Ours n start k m (call c) = Unit
-Ours n start k m (restart size own values j b) = (count : ℕ) (given : List ℕ) → restartStep m size own values j b .answer ≡ restarted count given → AsMade n start k size own values
+Ours n start k m (restart size own values j l b) = (count : ℕ) (given : List ℕ) → restartStep m size own values j l b .answer ≡ restarted count given → AsMade n start k size own values
 
 -- what the outcome o of call c at member k owes: a refusal other than 9 that leaves the view alone, or the model's step
 pub data OwedAt (n : ℕ) (start : List ℤ) (k : ℕ) (m : Memory) (c : AnyCall) (o : Outcome) : Type 0 where
-  refuses-at : (i : ℕ) → (i ≡ 9 → ⊥) → heard c (o .answer) ≡ Event.refused i → Alike (viewAt k m) (viewAt k (o .memory)) → OwedAt n start k m c o
-  follows-at : heard c (o .answer) ≡ system.step (setup n start) (viewAt k m) (meantBy c) .event → Alike (system.step (setup n start) (viewAt k m) (meantBy c) .replica) (viewAt k (o .memory))
+  refuses-at : (i : ℕ) → (i ≡ 9 → ⊥) → heard c (o .answer) ≡ Event.refused i → Alike (setup n start) (viewAt k m) (viewAt k (o .memory)) → OwedAt n start k m c o
+  follows-at : heard c (o .answer) ≡ system.step (setup n start) (viewAt k m) (meantBy c) .event → Alike (setup n start) (system.step (setup n start) (viewAt k m) (meantBy c) .replica) (viewAt k (o .memory))
       → OwedAt n start k m c o
 
 turned-away-at : (n : ℕ) (start : List ℤ) (k : ℕ) (m : Memory) (c : AnyCall) (i : ℕ) → (i ≡ 9 → ⊥) → OwedAt n start k m c (outcome (refused i) m)
@@ -68,17 +71,21 @@ module _ (n : ℕ) (start : List ℤ) (k : ℕ) (m : Memory) (q : m .group .own 
   replica-owes c o f (follows e L) = follows-at (rw (view-own k m q) e) (rw (view-own k m q, view-own k (o .memory) f) L)
 
   -- lent what the group was made with
-  restarted-owes : (j b : List ℕ) → OwedAt n start k m (restart n k start j b) (outcome (restarted (length (blocksIn n j)) (lastOwn k (replicate 512 0) (blocksIn n j))) (restartedMemory n k start (blocksIn n j)))
-  restarted-owes j b =
-      subst (λ (i : ℕ). OwedAt n start i m (restart n i start j b) (outcome (restarted (length (blocksIn n j)) (lastOwn i (replicate 512 0) (blocksIn n j))) (restartedMemory n i start (blocksIn n j)))) q
-      (follows-at (restart-event n start m j b) (rw (view-own (m .group .own) (restartedMemory n (m .group .own) start (blocksIn n j)) (restarted-own n (m .group .own) start (blocksIn n j))) (restart-alike n start m j b)))
+  restarted-owes : SettingOf n k start → (j : List ℕ) (l : List Notice) (b : List ℕ)
+      → OwedAt n start k m (restart n k start j l b) (outcome (restarted (length (blocksIn n j)) (lastOwn k l (replicate 512 0) (blocksIn n j))) (restartedMemory n k start l (blocksIn n j)))
+  restarted-owes g j l b =
+      subst (λ (i : ℕ). OwedAt n start i m (restart n i start j l b)
+      (outcome (restarted (length (blocksIn n j)) (lastOwn i l (replicate 512 0) (blocksIn n j))) (restartedMemory n i start l (blocksIn n j)))) q
+      (follows-at (restart-event n start m j l b)
+      (rw (view-own (m .group .own) (restartedMemory n (m .group .own) start l (blocksIn n j)) (restarted-own n (m .group .own) start l (blocksIn n j)))
+      (restart-alike n start m j l b (g .group .most) (omega (arith, g .group .least)))))
 
-  pub replica-restarts : (size own : ℕ) (values : List ℤ) (j b : List ℕ) → Ours n start k m (restart size own values j b)
-      → OwedAt n start k m (restart size own values j b) (restartStep m size own values j b)
-  replica-restarts size own values j b =
-      restart-by (λ (o : Outcome). ((x : ℕ) (y : List ℕ) → o .answer ≡ restarted x y → AsMade n start k size own values) → OwedAt n start k m (restart size own values j b) o) m size own values j b
-      (λ e f. let z = f _ _ refl in rw (z .0, z .1, z .2) (restarted-owes j b))
-      (λ e f. turned-away-at n start k m (restart size own values j b) (restartRefusal m size own values b) (not-nine m size own values b))
+  pub replica-restarts : (size own : ℕ) (values : List ℤ) (j : List ℕ) (l : List Notice) (b : List ℕ) → Ours n start k m (restart size own values j l b)
+      → OwedAt n start k m (restart size own values j l b) (restartStep m size own values j l b)
+  replica-restarts size own values j l b =
+      restart-by (λ (o : Outcome). ((x : ℕ) (y : List ℕ) → o .answer ≡ restarted x y → AsMade n start k size own values) → OwedAt n start k m (restart size own values j l b) o) m size own values j l b
+      (λ e f. let z = f _ _ refl in let g = restart-passed m size own values b e in rw (z .0, z .1, z .2) (restarted-owes (rw (z .0, z .1, z .2) at g) j l b))
+      (λ e f. turned-away-at n start k m (restart size own values j l b) (restartRefusal m size own values b) (not-nine m size own values b))
 
 -- ---- a station
 
@@ -109,10 +116,10 @@ module _ (n : ℕ) (start : List ℤ) (most : n ≤ 6) (k : ℕ) (m : Memory) (s
       rw (← q) (sender-among n b any-replica (rw (s .size) at (w .0)) (rw (s .size) at (w .2))))
 
   under : (c : Call) (o : Outcome) → Foreign (setup n start) (m .group .own) (view m) (meant c) → Foreign (setup n start) k (view m) (meant c) → Owed n start m c o → OwedAt n start k m (call c) o
-  under c o d e (refuses i h q L) = refuses-at i h q (alike-numbered k (view m) (view (o .memory)) L)
+  under c o d e (refuses i h q L) = refuses-at i h q (alike-numbered (setup n start) k (view m) (view (o .memory)) L)
   under c o d e (follows q L) =
       let z = step-under (setup n start) k (view m) (meant c) d e in
-      follows-at (rw z q) (rw z (alike-numbered k _ (view (o .memory)) L))
+      follows-at (rw z q) (rw z (alike-numbered (setup n start) k _ (view (o .memory)) L))
 
   pub station-owes : (c : Call) → Owed n start m c (step m c) → OwedAt n start k m (call c) (step m c)
   station-owes begin O = under begin _ tt tt O
@@ -130,11 +137,16 @@ module _ (n : ℕ) (start : List ℤ) (most : n ≤ 6) (k : ℕ) (m : Memory) (s
       (λ z Q. turned-away-at n start k m (call (deliver b)) (deliverRefusal m b) (unfold deliverRefusal in not-first 9 _ refl)) O
   station-owes work O = under work _ (λ a e. foreign a (at-turn a e) .0) (λ a e. foreign a (at-turn a e) .1) O
   station-owes (load l) O = under (load l) _ tt tt O
+  station-owes (notice a) O =
+      notice-by (λ (o : Outcome). Owed n start m (notice a) o → OwedAt n start k m (call (notice a)) o) m a
+      (λ e. let h = notice-passed m a e .about in
+      under (notice a) _ (λ q. let z = no-own in omega (arith, s .size)) (λ q. omega (arith, s .size)))
+      (λ z Q. turned-away-at n start k m (call (notice a)) (noticeRefusal m a) (unfold noticeRefusal in not-first 9 _ refl)) O
 
   -- a restart there is lent no number of the group's
-  pub station-restarts : (size own : ℕ) (values : List ℤ) (j b : List ℕ) → Ours n start k m (restart size own values j b)
-      → OwedAt n start k m (restart size own values j b) (restartStep m size own values j b)
-  station-restarts size own values j b =
-      restart-by (λ (o : Outcome). ((x : ℕ) (y : List ℕ) → o .answer ≡ restarted x y → AsMade n start k size own values) → OwedAt n start k m (restart size own values j b) o) m size own values j b
+  pub station-restarts : (size own : ℕ) (values : List ℤ) (j : List ℕ) (l : List Notice) (b : List ℕ) → Ours n start k m (restart size own values j l b)
+      → OwedAt n start k m (restart size own values j l b) (restartStep m size own values j l b)
+  station-restarts size own values j l b =
+      restart-by (λ (o : Outcome). ((x : ℕ) (y : List ℕ) → o .answer ≡ restarted x y → AsMade n start k size own values) → OwedAt n start k m (restart size own values j l b) o) m size own values j l b
       (λ e f. let z = f _ _ refl in absurd (let w : ⊥ = omega (arith, restart-passed m size own values b e .below, z .0, z .1) in w))
-      (λ e f. turned-away-at n start k m (restart size own values j b) (restartRefusal m size own values b) (not-nine m size own values b))
+      (λ e f. turned-away-at n start k m (restart size own values j l b) (restartRefusal m size own values b) (not-nine m size own values b))

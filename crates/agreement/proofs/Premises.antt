@@ -1,37 +1,44 @@
--- The premise of a list of calls gives that of the machine: what was there when the last own block was handed out holds every own block handed out. Assumes nothing.
+-- The premise of each call gives that of the machine: the floor is as high as what the model holds safe. Assumes nothing.
 use Prim.Native.Nat.{ℕ, suc, _*_, _<_, _≤_, max}
-use mathlib.Core.Path.{_≡_, refl, sym, ap, subst}
+use mathlib.Core.Path.{_≡_, refl, sym, ap, _∙_, subst}
 use mathlib.Core.Bool.{Bool, true, false, cond}
 use mathlib.Core.Option.{Option, none, some}
-use mathlib.Core.List.{List, List·Memᴰ·head, List·Memᴰ·tail, [], _∷_}
+use mathlib.Core.List.{List, List·Memᴰ·head, List·Memᴰ·tail, [], _∷_, map}
 use native.Mathlib.Omega.{arith}
 use lib.Dec.{eqb}
 use lib.IntN.{ℤ}
 use lib.ListN.{length, length-append, length-map, getD}
 use borrow.Author.Tests.{eqb-true}
 use Rattle.block.specs.Message.{signed32}
+use Rattle.block.specs.Answers.{headerOf}
+use Rattle.block.proofs.BoolLaws.{both}
 use Rattle.block.proofs.AnswerLaws.{is-taken}
 use Rattle.memory.specs.Memory.{Memory}
+use Rattle.memory.specs.Notices.{Notice}
 use Rattle.engine.specs.Make.{Setting}
 use Rattle.engine.specs.Answers.{Answer}
-use Rattle.engine.specs.Answers.Answer.{refused, made, began, got, wrote, queued, readOnly, withdrew, reported, sent, kept, worked, loaded, restarted}
+use Rattle.engine.specs.Answers.Answer.{refused, made, began, got, wrote, queued, readOnly, withdrew, reported, sent, kept, worked, loaded, noticed, restarted}
+use Rattle.engine.specs.Moves.{outAtTurn}
 use Rattle.engine.specs.Calls.{Call, step}
 use Rattle.engine.specs.History.{AnyCall}
-use Rattle.engine.proofs.Tests.{cond-by}
+use Rattle.engine.proofs.Tests.{cond-by, bool-by, clash}
 use Rattle.engine.proofs.RestartLaws.{AllGood, good-taken}
 use Rattle.protocol.specs.Lists.{opt}
 use Rattle.protocol.specs.Writesets.{Message}
 use Rattle.protocol.specs.Replica.{Event}
-use Rattle.protocol.specs.Journal.{Journal, journalAfter}
+use Rattle.protocol.specs.Journal.{Journal, outEnd, journalAfter, leavesOut}
 use Rattle.protocol.specs.Blocks.{allBytes}
-use Rattle.protocol.specs.Machine.{MachineSystem, CommandPremise, runCommands}
+use Rattle.protocol.specs.Machine.{MachineSystem, CommandPremise}
 use Rattle.protocol.proofs.ListLaws.{update-same}
-use Rattle.protocol.proofs.Refinement.{MachineInv, inv-commands}
-use Rattle.agreement.specs.Group.{messageIn, argumentsOf, heard, handedOutIn, Disk, diskAfter, Members, CallAt, did, next, run, Calls, PremiseFrom}
-use Rattle.agreement.proofs.View.{setup, Sound, Owed}
+use Rattle.protocol.proofs.Refinement.{MachineLone, lone-next}
+use Rattle.agreement.specs.Group as group
+use Rattle.agreement.specs.Group.{messageIn, noticeIn, argumentsOf, blocksRead, heard, Disk, floorAfter, diskAfter, Members, CallAt, did, next, run, Calls, PremiseFrom}
+use Rattle.agreement.proofs.View.{out-same, setup, viewAt, Sound, Owed}
+use Rattle.agreement.proofs.DeliverStep.{slot-said, sender-said}
+use Rattle.agreement.proofs.RestartView.{puts-same}
 use Rattle.agreement.proofs.JournalView.{OnDisk}
 use Rattle.agreement.proofs.MemberStep.{Ours}
-use Rattle.agreement.proofs.Replicas.{places-apart}
+use Rattle.agreement.proofs.Replicas.{places-apart, places-within}
 use Rattle.agreement.proofs.Runs.{premise-rest, premise-first, lent-ours, machine, machineOf, command, commands, journalNext, journalsNext, one, Kept, disk-next, kept-next, handed-at, lent-at}
 
 -- ---- a disk's bytes
@@ -46,7 +53,7 @@ length-all-bytes n (b ∷ bs) g =
     omega arith
 
 -- with every own block handed out in the journal, the disk has its bytes
-safe-bytes : (n : ℕ) (l : List ℕ) (J : Journal ℤ) → OnDisk n l (J .kept) → J .safe ≤ length (J .kept) → 512 * J .safe ≤ length l
+pub safe-bytes : (n : ℕ) (l : List ℕ) (J : Journal ℤ) → OnDisk n l (J .kept) → J .safe ≤ length (J .kept) → 512 * J .safe ≤ length l
 safe-bytes n l J H h =
     let a = length-all-bytes n (H .blocks) (H .good) in
     let b = ap length (H .joined) in
@@ -54,30 +61,45 @@ safe-bytes n l J H h =
     let e = ap length (H .says) in
     omega arith
 
--- the floor after a call, with the bytes l, is as high as what is safe
-floor-by : (J : Journal ℤ) (floor : ℕ) (l : List ℕ) (more : Option (Message ℤ)) (c : AnyCall) (a : Answer) → 512 * J .safe ≤ floor → 512 * journalAfter J more (heard c a) .safe ≤ length l
-    → 512 * journalAfter J more (heard c a) .safe ≤ opt (handedOutIn a) floor (λ b. length l)
-unfolding heard journalAfter
-floor-by J floor l more c (refused k) h u = h
-floor-by J floor l more c made h u = h
-floor-by J floor l more c (began t) h u = h
-floor-by J floor l more c (got v) h u = h
-floor-by J floor l more c wrote h u = h
-floor-by J floor l more c queued h u = h
-floor-by J floor l more c readOnly h u = h
-floor-by J floor l more c withdrew h u = h
-floor-by J floor l more c (reported r) h u = h
-floor-by J floor l more c (sent b) h u = u
-floor-by J floor l more c loaded h u = h
-floor-by J floor l more c kept h u = h
-floor-by J floor l more c (worked s) h u = cond-by (λ (e : Event ℤ). 512 * journalAfter J more e .safe ≤ floor) (eqb (s .ticket) 0) (λ q. h) (λ q. h)
-floor-by J floor l more c (restarted k b) h u = go (eqb (getD b 0 0) 0) u
-  where
-    safeWith : Bool → ℕ
-    safeWith z = opt (cond z none (some (messageIn b))) (J .safe) (λ (w : Message ℤ). max (J .safe) (suc (w .slot)))
+-- the notices put the same slots out
+out-end-same : (l : List Notice) (bs : List (List ℕ)) → outEnd (map noticeIn l) (map messageIn bs) ≡ group.outEnd l bs
+unfolding outEnd group.outEnd
+out-end-same l [] = refl
+out-end-same l (b ∷ bs) = rw (out-end-same l bs, sender-said b, slot-said b, puts-same false l (headerOf b .sender) (headerOf b .slot)) refl
 
-    go : (z : Bool) → 512 * safeWith z ≤ length l → 512 * safeWith z ≤ opt (cond z none (some b)) floor (λ (x : List ℕ). length l)
-    go true u = h
+-- the floor after a call on m, with `all` bytes, is as high as what is safe; out: the model says that the call passed an out slot
+floor-by : (J : Journal ℤ) (floor all : ℕ) (m : Memory) (more : Option (Message ℤ)) (out : Bool) → (out ≡ true → outAtTurn m ≡ true) → (c : AnyCall) (a : Answer) → 512 * J .safe ≤ floor
+    → 512 * journalAfter J more out (heard c a) .safe ≤ all → 512 * journalAfter J more out (heard c a) .safe ≤ floorAfter floor all m c a
+unfolding heard journalAfter
+floor-by J floor all m more out o c (refused k) h u = h
+floor-by J floor all m more out o c made h u = h
+floor-by J floor all m more out o c (began t) h u = h
+floor-by J floor all m more out o c (got v) h u = h
+floor-by J floor all m more out o c wrote h u = h
+floor-by J floor all m more out o c queued h u = h
+floor-by J floor all m more out o c readOnly h u = h
+floor-by J floor all m more out o c withdrew h u = h
+floor-by J floor all m more out o c (reported r) h u = h
+floor-by J floor all m more out o c (sent b) h u = u
+floor-by J floor all m more out o c kept h u = h
+floor-by J floor all m more out o c (worked s) h u =
+    bool-by (outAtTurn m) (λ t. rw t u)
+    (λ t. rw t
+    (cond-by (λ (e : Event ℤ). 512 * journalAfter J more out e .safe ≤ floor) (eqb (s .ticket) 0)
+    (λ q. bool-by out (λ z. clash (o z) t) (λ z. rw z h))
+    (λ q. h)))
+floor-by J floor all m more out o c loaded h u = h
+floor-by J floor all m more out o c noticed h u = u
+floor-by J floor all m more out o c (restarted k b) h u = go (eqb (getD b 0 0) 0) u
+  where
+    passed : ℕ
+    passed = outEnd (map noticeIn (argumentsOf c .notices)) (map messageIn (blocksRead c))
+
+    safeWith : Bool → ℕ
+    safeWith z = max (max (J .safe) passed) (opt (cond z none (some (messageIn b))) 0 (λ (w : Message ℤ). suc (w .slot)))
+
+    go : (z : Bool) → 512 * safeWith z ≤ all → 512 * safeWith z ≤ opt (cond z none (some b)) (max floor (512 * group.outEnd (argumentsOf c .notices) (blocksRead c))) (λ (x : List ℕ). all)
+    go true u = let e = out-end-same (argumentsOf c .notices) (blocksRead c) in omega arith
     go false u = u
 
 -- ---- a run
@@ -85,13 +107,13 @@ floor-by J floor l more c (restarted k b) h u = go (eqb (getD b 0 0) 0) u
 module _ (n : ℕ) (start : List ℤ) (setting : Setting n start)
     (owes : (m : Memory) → Sound n m → (c : Call) → Owed n start m c (step m c)) where
   abbrev Inv : (ℕ → Journal ℤ) → Members → Type 0
-  Inv J g = MachineInv (setup n start) (machine n start setting owes) (places-apart n start) (machineOf n start setting owes J g)
+  Inv J g = MachineLone (setup n start) (machine n start setting owes) (machineOf n start setting owes J g)
 
   abbrev Holds : (ℕ → Journal ℤ) → Members → Type 0
   Holds J g = Kept n start setting owes J g
 
   may : (g : Members) (c : CallAt) (cs : List CallAt) → PremiseFrom n start g (c ∷ cs) → Ours n start (c .at) (g .memories (c .at)) (c .does)
-  may g c cs A = lent-ours n start (c .at) (g .memories (c .at)) (g .disks (c .at)) (c .does) (premise-first n start g c cs A)
+  may g c cs A = lent-ours n start (c .at) (g .memories (c .at)) (g .disks (c .at)) (g .taken (c .at)) (c .does) (premise-first n start g c cs A)
 
   -- the first call's premise, as the machine's
   first : (g : Members) (c : CallAt) (cs : List CallAt) → PremiseFrom n start g (c ∷ cs) → (J : ℕ → Journal ℤ) → Holds J g
@@ -101,7 +123,7 @@ module _ (n : ℕ) (start : List ℤ) (setting : Setting n start)
   first g c cs A J K low h = (
     (
       handed-at n start setting owes (g .blocks) (g .memories (c .at)) (c .does) (λ b e q. A .delivered [] (c .at) b (cs, ap (λ (d : AnyCall). record { at = c .at; does = d } ∷ cs) e) q),
-      lent-at n start setting owes (J (c .at)) (g .disks (c .at)) (c .at) (K .disks (c .at)) (low (c .at)) (g .memories (c .at)) (K .sound (c .at)) (c .does) h (premise-first n start g c cs A),
+      lent-at n start setting owes (J (c .at)) (g .disks (c .at)) (g .taken (c .at)) (c .at) (K .disks (c .at)) (low (c .at)) (g .memories (c .at)) (K .sound (c .at)) (c .does) h (premise-first n start g c cs A),
       may g c cs A,
     ),
     tt,
@@ -110,10 +132,11 @@ module _ (n : ℕ) (start : List ℤ) (setting : Setting n start)
   inv-next : (J : ℕ → Journal ℤ) (g : Members) (c : CallAt) (h : signed32 (argumentsOf (c .does) .value) ≡ true) → Inv J g
       → CommandPremise (setup n start) (machine n start setting owes) (machineOf n start setting owes J g) (command n start setting owes c h ∷ [])
       → Inv (journalsNext n start setting owes J g c) (next g c)
-  unfolding runCommands
+  unfolding CommandPremise
   inv-next J g c h I p =
-      subst (MachineInv (setup n start) (machine n start setting owes) (places-apart n start)) (one n start setting owes J g c h)
-      (inv-commands (setup n start) (machine n start setting owes) (places-apart n start) (command n start setting owes c h ∷ []) (machineOf n start setting owes J g) I p)
+      subst (MachineLone (setup n start) (machine n start setting owes)) (one n start setting owes J g c h)
+      (lone-next (setup n start) (machine n start setting owes) (places-apart n start) (places-within n start (setting .least)) (machineOf n start setting owes J g) I
+      (command n start setting owes c h) (p .0 .0) (p .0 .1) (p .0 .2))
 
   floors-next : (J : ℕ → Journal ℤ) (g : Members) (c : CallAt) → Ours n start (c .at) (g .memories (c .at)) (c .does) → Holds J g
       → Inv (journalsNext n start setting owes J g c) (next g c) → ((k : ℕ) → k < n → 512 * J k .safe ≤ g .disks k .floor)
@@ -121,7 +144,7 @@ module _ (n : ℕ) (start : List ℤ) (setting : Setting n start)
   floors-next J g c u K I low k below = by (eqb k (c .at)) refl
     where
       d′ : Disk
-      d′ = diskAfter (g .disks (c .at)) (c .does) (did g c .answer)
+      d′ = diskAfter (g .disks (c .at)) (g .memories (c .at)) (c .does) (did g c .answer)
 
       J′ : Journal ℤ
       J′ = journalNext n start setting owes (J (c .at)) (c .at) (g .memories (c .at)) (c .does)
@@ -130,12 +153,15 @@ module _ (n : ℕ) (start : List ℤ) (setting : Setting n start)
       H′ h = disk-next n start setting owes (g .disks (c .at) .journal) (J (c .at)) (K .disks (c .at) h) (c .at) (g .memories (c .at)) (K .sound (c .at)) h (c .does) u
 
       s : J′ .safe ≤ length (J′ .kept)
-      s = subst (λ (j : Journal ℤ). j .safe ≤ length (j .kept)) (update-same J (c .at) J′) (I .inv .journals (c .at) .safe)
+      s = subst (λ (j : Journal ℤ). j .safe ≤ length (j .kept)) (update-same J (c .at) J′) (I .lone .each (c .at) .safe)
+
+      out-left : c .at < n → leavesOut (setup n start) (viewAt (c .at) (g .memories (c .at))) (did g c .memory .turn .slot) ≡ true → outAtTurn (g .memories (c .at)) ≡ true
+      out-left h e = sym (out-same n start (g .memories (c .at)) (K .sound (c .at) .sound .size) (g .memories (c .at) .turn .slot)) ∙ both _ _ e .left
 
       by : (b : Bool) → eqb k (c .at) ≡ b → 512 * cond b J′ (J k) .safe ≤ cond b d′ (g .disks k) .floor
       by true e =
           let h : c .at < n = rw (eqb-true k (c .at) e) at below in
-          floor-by (J (c .at)) (g .disks (c .at) .floor) (d′ .journal) _ (c .does) (did g c .answer) (low (c .at) h) (safe-bytes n (d′ .journal) J′ (H′ h) s)
+          floor-by (J (c .at)) (g .disks (c .at) .floor) (length (d′ .journal)) (g .memories (c .at)) _ _ (out-left h) (c .does) (did g c .answer) (low (c .at) h) (safe-bytes n (d′ .journal) J′ (H′ h) s)
       by false e = low k below
 
   pub premise : (cs : List CallAt) (f : Calls n cs) (J : ℕ → Journal ℤ) (g : Members) → Holds J g → Inv J g → ((k : ℕ) → k < n → 512 * J k .safe ≤ g .disks k .floor) → PremiseFrom n start g cs

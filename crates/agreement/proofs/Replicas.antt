@@ -4,11 +4,12 @@ use mathlib.Core.Path.{_≡_, refl, sym, _∙_}
 use mathlib.Core.Bool.{true}
 use mathlib.Core.Option.{Option, some}
 use mathlib.Core.List.{List}
+use native.Mathlib.Nat.{mod-lt}
 use native.Mathlib.Omega.{arith}
 use lib.Dec.{ltb}
 use lib.IntN.{ℤ}
 use borrow.Author.Tests.{ltb-true, ltb-false}
-use Rattle.block.specs.Message.{signed32}
+use Rattle.block.specs.Message.{ownerOf, signed32}
 use Rattle.memory.specs.Memory.{Memory, noNumber}
 use Rattle.engine.specs.Answers.{Outcome}
 use Rattle.engine.specs.Answers.Answer.{restarted}
@@ -25,7 +26,7 @@ use Rattle.engine.proofs.PlaceLaws.{next-round}
 use Rattle.engine.proofs.ShapeMade.{getD-zeros}
 use Rattle.engine.proofs.Frames.{own-same}
 use Rattle.engine.proofs.Reports.{made-own, restarted-own}
-use Rattle.protocol.specs.System.{made, PlacesApart}
+use Rattle.protocol.specs.System.{made, PlacesApart, PlacesWithin}
 use Rattle.protocol.specs.Machine.{Alike, Performed, Refines, Machine}
 use Rattle.agreement.specs.Group.{argumentsOf, heard, madeMember}
 use Rattle.agreement.proofs.View.{setup, rowsFrom, placeAt, viewAt, Sound, Owed}
@@ -39,7 +40,7 @@ pub record TypedCall : Type 0 where
   pub value : signed32 (argumentsOf call .value) ≡ true
 
 -- a replica or a station just made is the model's
-pub made-alike : (n k own : ℕ) (start : List ℤ) → Alike (made (setup n start) k) (viewAt k (madeMemory n own start))
+pub made-alike : (n k own : ℕ) (start : List ℤ) → Alike (setup n start) (made (setup n start) k) (viewAt k (madeMemory n own start))
 unfolding madeMemory waiting rowsFrom placeAt
 made-alike n k own start = record {
   own = refl;
@@ -52,11 +53,16 @@ made-alike n k own start = record {
   there = λ u h. h;
   back = λ u h. h;
   places = λ p. rw (getD-zeros (512 * n) (512 * p));
+  outages = λ t. rw (getD-zeros 6 (ownerOf n t));
 }
 
 -- two slots of one window with one place are one
 pub places-apart : (n : ℕ) (start : List ℤ) → PlacesApart (setup n start)
 places-apart n start t s l h e = less-by t s (λ u. absurd (let z = next-round n t s (sym e) u in let w : ⊥ = omega arith in w)) (λ u. omega arith)
+
+-- there are N
+pub places-within : (n : ℕ) (start : List ℤ) → 2 ≤ n → PlacesWithin (setup n start)
+places-within n start h s = mod-lt s (omega arith)
 
 module _ (n : ℕ) (start : List ℤ) (setting : Setting n start)
     (owes : (m : Memory) → Sound n m → (c : Call) → Owed n start m c (step m c)) where
@@ -87,8 +93,8 @@ module _ (n : ℕ) (start : List ℤ) (setting : Setting n start)
       go : (c : AnyCall) → Standing k m → Ours n start k m c → OwedAt n start k m c (anyStep m c)
       go (call c) (as-replica h q) f = replica-owes n start k m q c (step m c) (own-same m c ∙ q) (owes m (s .sound) c)
       go (call c) (as-station h q) f = station-owes n start (setting .most) k m (s .sound) h q c (owes m (s .sound) c)
-      go (restart size own values j b) (as-replica h q) f = replica-restarts n start k m q size own values j b f
-      go (restart size own values j b) (as-station h q) f = station-restarts n start (setting .most) k m (s .sound) h q size own values j b f
+      go (restart size own values j l b) (as-replica h q) f = replica-restarts n start k m q size own values j l b f
+      go (restart size own values j l b) (as-station h q) f = station-restarts n start (setting .most) k m (s .sound) h q size own values j l b f
 
   pub refines : (k : ℕ) (m : Memory) (a : TypedCall) → SoundAt k m → Ours n start k m (a .call) → Refines (setup n start) (perform k) meaning (viewAt k) m a
   refines k m a s f = go (owes-at k m s (a .call) f)
@@ -99,19 +105,19 @@ module _ (n : ℕ) (start : List ℤ) (setting : Setting n start)
 
   pub stays : (k : ℕ) (m : Memory) (c : AnyCall) → signed32 (argumentsOf c .value) ≡ true → SoundAt k m → Ours n start k m c → SoundAt k (anyStep m c .memory)
   stays k m (call c) v s f = record { sound = sound-each n m (s .sound) c v; stands = stands-on k m (step m c .memory) (own-same m c) (s .stands) }
-  stays k m (restart size own values j b) v s f = record { sound = sound-any n m (s .sound) (restart size own values j b) v; stands = by f }
+  stays k m (restart size own values j l b) v s f = record { sound = sound-any n m (s .sound) (restart size own values j l b) v; stands = by f }
     where
-      by : Ours n start k m (restart size own values j b) → Standing k (restartStep m size own values j b .memory)
+      by : Ours n start k m (restart size own values j l b) → Standing k (restartStep m size own values j l b .memory)
       by =
-          restart-by (λ (o : Outcome). ((x : ℕ) (y : List ℕ) → o .answer ≡ restarted x y → AsMade n start k size own values) → Standing k (o .memory)) m size own values j b
-          (λ e f. let z = f _ _ refl in as-replica (omega (arith, restart-passed m size own values b e .below, z .0, z .1)) (restarted-own size own values (blocksIn size j) ∙ z .1))
+          restart-by (λ (o : Outcome). ((x : ℕ) (y : List ℕ) → o .answer ≡ restarted x y → AsMade n start k size own values) → Standing k (o .memory)) m size own values j l b
+          (λ e f. let z = f _ _ refl in as-replica (omega (arith, restart-passed m size own values b e .below, z .0, z .1)) (restarted-own size own values l (blocksIn size j) ∙ z .1))
           (λ e f. s .stands)
 
   made-stands : (k : ℕ) → Standing k (madeMember n start k)
   made-stands k = cond-by (Standing k) (ltb k n) (λ e. as-replica (ltb-true k n e) (made-own n k _)) (λ e. as-station (ltb-false k n e) (made-own n noNumber _))
 
-  pub made-like : (k : ℕ) → Alike (made (setup n start) k) (viewAt k (madeMember n start k))
-  made-like k = cond-by (λ (m : Memory). Alike (made (setup n start) k) (viewAt k m)) (ltb k n) (λ e. made-alike n k k start) (λ e. made-alike n k noNumber start)
+  pub made-like : (k : ℕ) → Alike (setup n start) (made (setup n start) k) (viewAt k (madeMember n start k))
+  made-like k = cond-by (λ (m : Memory). Alike (setup n start) (made (setup n start) k) (viewAt k m)) (ltb k n) (λ e. made-alike n k k start) (λ e. made-alike n k noNumber start)
 
   pub made-sound : (k : ℕ) → SoundAt k (madeMember n start k)
   made-sound k = record {

@@ -1,15 +1,15 @@
 -- The blocks that a restart reads, as the model sees them: its messages in slot order, and what committing them leaves. Assumes nothing.
 use Prim.Native.Nat.{ℕ, zero, suc, _+_, _*_, _≤_, _<_}
 use mathlib.Core.Path.{_≡_, refl, sym, ap, _∙_}
-use mathlib.Core.Bool.{Bool, true, false, cond, _&&_}
+use mathlib.Core.Bool.{Bool, true, false, cond, not, _&&_}
 use mathlib.Core.Option.{Option, none, some}
 use mathlib.Core.List.{List, List·Memᴰ·head, List·Memᴰ·tail, [], _∷_, map}
 use native.Mathlib.Nat.{zero-add, add-zero, add-suc, suc-add}
 use native.Mathlib.Omega.{arith}
-use lib.Dec.{eqb, ltb}
+use lib.Dec.{eqb, ltb, leb}
 use lib.IntN.{ℤ}
 use lib.ListN.{length, getD, take, drop, length-take, length-drop}
-use borrow.Author.Tests.{ltb-true, lt-ltb, ne-eqb}
+use borrow.Author.Tests.{ltb-true, lt-ltb, ne-eqb, eqb-true}
 use Rattle.block.specs.Message.{Record, recordFits, recordsFit}
 use Rattle.block.specs.Form.{messageOf}
 use Rattle.block.specs.Answers.{blockRefusal, headerOf}
@@ -17,20 +17,22 @@ use Rattle.block.specs.Theorems.{noRecord}
 use Rattle.block.proofs.BoolLaws.{both, not-so}
 use Rattle.block.proofs.MessageLaws.{message-facts, record-facts}
 use Rattle.block.proofs.AnswerLaws.{is-taken, is-formed}
+use Rattle.memory.specs.Notices.{Notice, putsOut}
 use Rattle.engine.specs.Moves.{writesetAt}
 use Rattle.engine.specs.History.{writesetCount}
 use Rattle.engine.specs.Restart.{isGood, blocksFrom, writesetsFrom, writesetsIn, Replayed, commitOne, commitAll, commitBlocks, isFrom, highestTicket, highestOwn, lastOwn}
-use Rattle.engine.proofs.Tests.{clash, less-by, bump-is}
+use Rattle.engine.proofs.Tests.{bool-by, clash, less-by, bump-is}
 use Rattle.engine.proofs.ShapeWriteset.{length-stamped}
 use Rattle.engine.proofs.RestartLaws.{AllGood, good-taken}
-use Rattle.protocol.specs.Lists.{opt}
+use Rattle.protocol.specs.Lists.{opt, keep}
+use Rattle.protocol.specs.Notices.{noticesAbout, outBy}
 use Rattle.protocol.specs.Writesets.{Message}
 use Rattle.protocol.specs.Replica.{Store}
 use Rattle.protocol.specs.Journal as model
 use Rattle.protocol.specs.Blocks.{readBlocks}
-use Rattle.protocol.specs.Journal.{inSlotOrder, highestOf, lastOf}
+use Rattle.protocol.specs.Journal.{inSlotOrder, highestOf, ofOutSlot, lastOf}
 use Rattle.protocol.specs.Moves.{storeAfter}
-use Rattle.agreement.specs.Group.{writeOf, writesetFrom, messageIn, givenIn}
+use Rattle.agreement.specs.Group.{writeOf, writesetFrom, messageIn, noticeIn, givenIn}
 use Rattle.agreement.proofs.DeliverStep.{kind-some, slot-said}
 use Rattle.agreement.proofs.BlockView.{counted, writeset-read, sender-seen, values-after, stamps-after}
 
@@ -116,13 +118,34 @@ given-one none true b d e = e
 given-one none false b d e = refl
 given-one (some m) mine b d e = refl
 
-pub given-last : (n k : ℕ) (d : List ℕ) (bs : List (List ℕ)) → AllGood n bs → givenIn (lastOwn k d bs) ≡ opt (lastOf k (map messageIn bs)) (givenIn d) some
+-- the slots that the notices put out
+pub puts-same : (b : Bool) (l : List Notice) (k s : ℕ) → outBy b (noticesAbout k (map noticeIn l)) s ≡ putsOut b l k s
+unfolding outBy keep putsOut
+puts-same b [] k s = refl
+puts-same b (a ∷ l) k s = bool-by (eqb (a .about) k) (λ e. rw e (puts-same (cond (leb (a .slot) s) (a .out) b) l k s)) (λ e. rw e (puts-same b l k s))
+
+-- an own block outside out slots
+abbrev givesBack : List Notice → ℕ → List ℕ → Bool
+givesBack l k b = isFrom k b && not (putsOut false l k (headerOf b .slot))
+
+mine-same : (l : List Notice) (k : ℕ) (b : List ℕ) → eqb (messageIn b .sender) k && not (ofOutSlot (map noticeIn l) (messageIn b)) ≡ givesBack l k b
+mine-same l k b =
+    bool-by (eqb (getD b 1 0) k)
+    (λ e. rw (sender-seen b, e)
+    (ap not
+    (ap (λ (j : ℕ). outBy false (noticesAbout j (map noticeIn l)) (messageIn b .slot)) (eqb-true (getD b 1 0) k e)
+    ∙ puts-same false l k (messageIn b .slot)
+    ∙ ap (putsOut false l k) (slot-said b))))
+    (λ e. rw (sender-seen b, e) refl)
+
+pub given-last : (l : List Notice) (n k : ℕ) (d : List ℕ) (bs : List (List ℕ)) → AllGood n bs
+    → givenIn (lastOwn k l d bs) ≡ opt (lastOf k (map noticeIn l) (map messageIn bs)) (givenIn d) some
 unfolding lastOwn lastOf
-given-last n k d [] g = refl
-given-last n k d (b ∷ bs) g =
-    given-last n k (cond (isFrom k b) b d) bs (λ c q. g c (List·Memᴰ·tail q))
-    ∙ given-one (lastOf k (map messageIn bs)) (isFrom k b) b d (given-some b (good-taken n b (g b (List·Memᴰ·head refl))))
-    ∙ ap (λ (s : ℕ). opt (opt (lastOf k (map messageIn bs)) (cond (eqb s k) (some (messageIn b)) none) some) (givenIn d) some) (sym (sender-seen b))
+given-last l n k d [] g = refl
+given-last l n k d (b ∷ bs) g =
+    given-last l n k (cond (givesBack l k b) b d) bs (λ c q. g c (List·Memᴰ·tail q))
+    ∙ given-one (lastOf k (map noticeIn l) (map messageIn bs)) (givesBack l k b) b d (given-some b (good-taken n b (g b (List·Memᴰ·head refl))))
+    ∙ ap (λ (z : Bool). opt (opt (lastOf k (map noticeIn l) (map messageIn bs)) (cond z (some (messageIn b)) none) some) (givenIn d) some) (sym (mine-same l k b))
 
 -- ---- commits, values and stamps
 

@@ -1,7 +1,7 @@
 -- A run of the group as one of the machine: the same memory, observer and handouts, and the messages of the blocks. Assumes nothing.
 use Prim.Native.Nat.{ℕ, _*_, _<_, _≤_}
 use mathlib.Core.Path.{_≡_, refl, sym, ap, _∙_, subst}
-use mathlib.Core.Bool.{Bool, true, false, cond}
+use mathlib.Core.Bool.{Bool, Bool-set, true, false, cond}
 use mathlib.Core.Option.{Option, none, some}
 use mathlib.Core.List.{List, List·Memᴰ·head, List·Memᴰ·tail, Memᴰ·append-left, [], _∷_, _++_, append-assoc, map}
 use native.Mathlib.Omega.{arith}
@@ -12,30 +12,33 @@ use borrow.Author.Tests.{eqb-true}
 use Rattle.block.specs.Message.{signed32}
 use Rattle.block.specs.Answers.{recordAt}
 use Rattle.memory.specs.Memory.{Memory}
+use Rattle.memory.specs.Notices.{Notice}
 use Rattle.engine.specs.Make.{Setting}
 use Rattle.engine.specs.Answers.{Answer, WorkDone, Outcome}
-use Rattle.engine.specs.Answers.Answer.{refused, made, began, got, wrote, queued, readOnly, withdrew, reported, sent, kept, worked, loaded, restarted}
+use Rattle.engine.specs.Answers.Answer.{refused, made, began, got, wrote, queued, readOnly, withdrew, reported, sent, kept, worked, loaded, noticed, restarted}
 use Rattle.engine.specs.Client.{beginAt, readOnlyAt, queueAt, rewriteAt, insertWrite, staleAt, withdrawAt, reportStep}
-use Rattle.engine.specs.Moves.{sendNow, deliverNow, blockAtTurn, passNext, commitWriteset}
+use Rattle.engine.specs.Moves.{sendNow, deliverNow, blockAtTurn, passNext, commitWriteset, passOut}
 use Rattle.engine.specs.Calls.{Call, step}
-use Rattle.engine.specs.Calls.Call.{begin, read, write, ask, withdraw, report, send, deliver, work, load}
+use Rattle.engine.specs.Calls.Call.{begin, read, write, ask, withdraw, report, send, deliver, work, load, notice}
 use Rattle.engine.specs.Restart.{restartStep}
 use Rattle.engine.specs.History.{AnyCall, anyStep}
 use Rattle.engine.specs.History.AnyCall.{call, restart}
-use Rattle.engine.proofs.Tests.{cond-by}
+use Rattle.engine.proofs.Tests.{cond-by, clash}
 use Rattle.engine.proofs.Passed.{restart-passed}
-use Rattle.engine.proofs.Steps.{begin-by, read-by, write-by, ask-by, withdraw-by, send-by, deliver-by, work-by, load-by, restart-by}
+use Rattle.engine.proofs.Steps.{begin-by, read-by, write-by, ask-by, withdraw-by, send-by, deliver-by, work-by, load-by, notice-by, restart-by}
 use Rattle.protocol.specs.Lists.{opt, update, Mem}
 use Rattle.protocol.specs.Writesets.{Message}
+use Rattle.protocol.specs.Notices as protocol
 use Rattle.protocol.specs.Replica.{Event}
-use Rattle.protocol.specs.Journal.{Journal, journal, Cut, journalAfter, appended}
+use Rattle.protocol.specs.Journal.{Journal, journal, Cut}
 use Rattle.protocol.specs.Observer.{Placed}
-use Rattle.protocol.specs.System.{messagesAfter, HandedOut}
+use Rattle.protocol.specs.System as system
+use Rattle.protocol.specs.System.{messagesAfter, noticesAfter, HandedOut}
 use Rattle.protocol.specs.Machine.{Machine, CommandClaim, MachineSystem, CommandAt, afterCommand, runCommands, CommandLent, CommandClaims}
 use Rattle.protocol.proofs.ListLaws.{update-by, mem-map}
 use Rattle.protocol.proofs.SequenceLaws.{map-append}
 use Rattle.agreement.specs.Group as group
-use Rattle.agreement.specs.Group.{messageIn, argumentsOf, givenIn, heard, Disk, diskAfter, Members, CallAt, fresh, did, blocksAfter, next, run, Comes, Calls, Lent, PremiseFrom}
+use Rattle.agreement.specs.Group.{messageIn, noticeIn, firstNotice, argumentsOf, givenIn, heard, Disk, diskAfter, isTaken, takenAfter, Members, CallAt, fresh, did, blocksAfter, next, run, Comes, Calls, Lent, PremiseFrom}
 use Rattle.agreement.proofs.View.{setup, viewAt, Sound, meant, Owed}
 use Rattle.agreement.proofs.RestartStep.{lentMessages, meantBy, sound-any}
 use Rattle.agreement.proofs.MemberStep.{Ours, view-own}
@@ -70,7 +73,55 @@ messages-after B c (sent b) = sym (map-append messageIn B (b ∷ []))
 messages-after B c kept = refl
 messages-after B c (worked s) = work-message (map messageIn B) c s
 messages-after B c loaded = refl
+messages-after B c noticed = refl
 messages-after B c (restarted k b) = given-message B b
+
+-- ---- the notices taken
+
+work-notices : (l : List protocol.Notice) (c : AnyCall) (s : WorkDone) → noticesAfter l (heard c (worked s)) ≡ l
+unfolding heard noticesAfter
+work-notices l c s = cond-by (λ (e : Event ℤ). noticesAfter l e ≡ l) (eqb (s .ticket) 0) (λ q. refl) (λ q. refl)
+
+-- a notice is a notice's answer alone
+abbrev Noticing : AnyCall → Answer → Type 0
+Noticing c a = isTaken a ≡ true → (b : Notice) × (argumentsOf c .notices ≡ b ∷ [])
+
+notices-after : (l : List Notice) (c : AnyCall) (a : Answer) → Noticing c a → noticesAfter (map noticeIn l) (heard c a) ≡ map noticeIn (takenAfter l c a)
+unfolding heard noticesAfter firstNotice
+notices-after l c (refused k) f = refl
+notices-after l c made f = refl
+notices-after l c (began t) f = refl
+notices-after l c (got v) f = refl
+notices-after l c wrote f = refl
+notices-after l c queued f = refl
+notices-after l c readOnly f = refl
+notices-after l c withdrew f = refl
+notices-after l c (reported r) f = refl
+notices-after l c (sent b) f = refl
+notices-after l c kept f = refl
+notices-after l c (worked s) f = work-notices (map noticeIn l) c s
+notices-after l c loaded f = refl
+notices-after l c noticed f = let b = f refl in rw (b .1) (sym (map-append noticeIn l (b .0 ∷ [])))
+notices-after l c (restarted k b) f = refl
+
+not-taken : {A : Type 0} → _≡_ {A = Bool} false true → A
+not-taken e = clash {b = true} refl (sym e)
+
+pub noticing : (m : Memory) (c : AnyCall) → Noticing c (anyStep m c .answer)
+unfolding beginAt staleAt rewriteAt insertWrite readOnlyAt queueAt withdrawAt sendNow deliverNow passNext commitWriteset passOut
+noticing m (call begin) = begin-by (λ (o : Outcome). Noticing (call begin) (o .answer)) m (λ e. not-taken) (λ e. not-taken)
+noticing m (call (read t i)) = read-by (λ (o : Outcome). Noticing (call (read t i)) (o .answer)) m t i (λ e. not-taken) (λ e. not-taken)
+noticing m (call (write t i v)) = write-by (λ (o : Outcome). Noticing (call (write t i v)) (o .answer)) m t i v (λ e. not-taken) (λ e o. not-taken) (λ e o. not-taken) (λ k e q. not-taken)
+noticing m (call (ask t)) = ask-by (λ (o : Outcome). Noticing (call (ask t)) (o .answer)) m t (λ e. not-taken) (λ e o. not-taken) (λ e. not-taken)
+noticing m (call (withdraw t)) = withdraw-by (λ (o : Outcome). Noticing (call (withdraw t)) (o .answer)) m t (λ e. not-taken) (λ e. not-taken)
+noticing m (call report) = unfold step reportStep in not-taken
+noticing m (call (send b)) = send-by (λ (o : Outcome). Noticing (call (send b)) (o .answer)) m b (λ e. not-taken) (λ k e q. not-taken)
+noticing m (call (deliver b)) = deliver-by (λ (o : Outcome). Noticing (call (deliver b)) (o .answer)) m b (λ e. not-taken) (λ e. not-taken)
+noticing m (call work) = work-by (λ (o : Outcome). Noticing (call work) (o .answer)) m (λ e k. not-taken) (λ e k. not-taken) (λ e k. not-taken) (λ e. not-taken)
+noticing m (call (load l)) = load-by (λ (o : Outcome). Noticing (call (load l)) (o .answer)) m l (λ e. not-taken) (λ e. not-taken)
+noticing m (call (notice a)) = λ e. (a, refl)
+noticing m (restart size own values j l b) =
+    restart-by (λ (o : Outcome). Noticing (restart size own values j l b) (o .answer)) m size own values j l b (λ e. not-taken) (λ e. not-taken)
 
 -- ---- the premise
 
@@ -83,7 +134,7 @@ module _ (B : List (Message ℤ)) where
   work-handed t x y f g = cond-by (HandedOut B) (eqb t 0) (λ q. f) (λ q. g)
 
   pub handed : (m : Memory) (c : Call) → ((b : List ℕ) → c ≡ deliver b → step m (deliver b) .answer ≡ kept → Mem (messageIn b) B) → Handed c (step m c)
-  unfolding heard beginAt staleAt rewriteAt insertWrite readOnlyAt queueAt withdrawAt sendNow deliverNow passNext commitWriteset
+  unfolding heard beginAt staleAt rewriteAt insertWrite readOnlyAt queueAt withdrawAt sendNow deliverNow passNext commitWriteset passOut
   handed m begin f = begin-by (Handed begin) m (λ e. tt) (λ e. tt)
   handed m (read t i) f = read-by (Handed (read t i)) m t i (λ e. tt) (λ e. tt)
   handed m (write t i v) f = write-by (Handed (write t i v)) m t i v (λ e. tt) (λ e o. tt) (λ e o. tt) (λ k e q. tt)
@@ -93,12 +144,14 @@ module _ (B : List (Message ℤ)) where
   handed m (send b) f = send-by (Handed (send b)) m b (λ e. tt) (λ k e q. tt)
   handed m (deliver b) f =
       deliver-by (λ (o : Outcome). (o .answer ≡ kept → Mem (messageIn b) B) → Handed (deliver b) o) m b (λ e g. g refl) (λ e g. tt) (f b refl)
-  handed m work f = work-by (Handed work) m (λ e k. tt) (λ e k. work-handed (recordAt (blockAtTurn m) (m .counts .done) .ticket) _ _ tt tt) (λ e. tt)
+  handed m work f = work-by (Handed work) m (λ e k. tt) (λ e k. tt) (λ e k. work-handed (recordAt (blockAtTurn m) (m .counts .done) .ticket) _ _ tt tt) (λ e. tt)
   handed m (load l) f = load-by (Handed (load l)) m l (λ e. tt) (λ e. tt)
+  handed m (notice a) f = notice-by (Handed (notice a)) m a (λ e. tt) (λ e. tt)
 
-  pub restart-handed : (m : Memory) (size own : ℕ) (values : List ℤ) (j l : List ℕ) → HandedOut B (heard (restart size own values j l) (restartStep m size own values j l .answer))
+  pub restart-handed : (m : Memory) (size own : ℕ) (values : List ℤ) (j : List ℕ) (a : List Notice) (l : List ℕ)
+      → HandedOut B (heard (restart size own values j a l) (restartStep m size own values j a l .answer))
   unfolding heard
-  restart-handed m size own values j l = restart-by (λ (o : Outcome). HandedOut B (heard (restart size own values j l) (o .answer))) m size own values j l (λ e. tt) (λ e. tt)
+  restart-handed m size own values j a l = restart-by (λ (o : Outcome). HandedOut B (heard (restart size own values j a l) (o .answer))) m size own values j a l (λ e. tt) (λ e. tt)
 
 -- ---- a run
 
@@ -116,7 +169,7 @@ module _ (n : ℕ) (start : List ℤ) (cs before rest : List CallAt) (q : cs ≡
   pub premise-part : (g : Members) → PremiseFrom n start g cs → PremiseFrom n start g before
   premise-part g A = record {
     delivered = λ b k bytes h. A .delivered b k bytes (on b _ h);
-    lent = λ b k size own values j l x y h. A .lent b k size own values j l x y (on b _ h);
+    lent = λ b k size own values j a l x y h. A .lent b k size own values j a l x y (on b _ h);
   }
     where
       on : (b : List CallAt) (d : CallAt) → Comes before b d → Comes cs b d
@@ -127,22 +180,22 @@ pub premise-rest : (n : ℕ) (start : List ℤ) (g : Members) (c : CallAt) (cs :
 unfolding run
 premise-rest n start g c cs A = record {
   delivered = λ before k b h. A .delivered (c ∷ before) k b (h .0, ap (λ (l : List CallAt). c ∷ l) (h .1));
-  lent = λ before k size own values j l x b h. A .lent (c ∷ before) k size own values j l x b (h .0, ap (λ (y : List CallAt). c ∷ y) (h .1));
+  lent = λ before k size own values j a l x b h. A .lent (c ∷ before) k size own values j a l x b (h .0, ap (λ (y : List CallAt). c ∷ y) (h .1));
 }
 
 -- what the premise says of a restart
-abbrev pub LentOurs : ℕ → List ℤ → ℕ → Memory → Disk → AnyCall → Type 0
-LentOurs n start k m d c = (size own : ℕ) (values : List ℤ) (j l : List ℕ) (x : ℕ) (b : List ℕ) → c ≡ restart size own values j l → restartStep m size own values j l .answer ≡ restarted x b
-    → (size ≡ n) × (own ≡ k) × (values ≡ start) × Lent m d j
+abbrev pub LentOurs : ℕ → List ℤ → ℕ → Memory → Disk → List Notice → AnyCall → Type 0
+LentOurs n start k m d t c = (size own : ℕ) (values : List ℤ) (j : List ℕ) (a : List Notice) (l : List ℕ) (x : ℕ) (b : List ℕ) → c ≡ restart size own values j a l
+    → restartStep m size own values j a l .answer ≡ restarted x b → (size ≡ n) × (own ≡ k) × (values ≡ start) × Lent m d j × (a ≡ t)
 
 -- and of the first call
-pub premise-first : (n : ℕ) (start : List ℤ) (g : Members) (c : CallAt) (cs : List CallAt) → PremiseFrom n start g (c ∷ cs) → LentOurs n start (c .at) (g .memories (c .at)) (g .disks (c .at)) (c .does)
+pub premise-first : (n : ℕ) (start : List ℤ) (g : Members) (c : CallAt) (cs : List CallAt) → PremiseFrom n start g (c ∷ cs) → LentOurs n start (c .at) (g .memories (c .at)) (g .disks (c .at)) (g .taken (c .at)) (c .does)
 unfolding run
-premise-first n start g c cs A size own values j l x b e = A .lent [] (c .at) size own values j l x b (cs, ap (λ (d : AnyCall). record { at = c .at; does = d } ∷ cs) e)
+premise-first n start g c cs A size own values j a l x b e = A .lent [] (c .at) size own values j a l x b (cs, ap (λ (d : AnyCall). record { at = c .at; does = d } ∷ cs) e)
 
-pub lent-ours : (n : ℕ) (start : List ℤ) (k : ℕ) (m : Memory) (d : Disk) (c : AnyCall) → LentOurs n start k m d c → Ours n start k m c
-lent-ours n start k m d (call c) f = tt
-lent-ours n start k m d (restart size own values j l) f = λ x b q. let L = f size own values j l x b refl q in (L .0, L .1, L .2)
+pub lent-ours : (n : ℕ) (start : List ℤ) (k : ℕ) (m : Memory) (d : Disk) (t : List Notice) (c : AnyCall) → LentOurs n start k m d t c → Ours n start k m c
+lent-ours n start k m d t (call c) f = tt
+lent-ours n start k m d t (restart size own values j a l) f = λ x b q. let L = f size own values j a l x b refl q in (L .0, L .1, L .2)
 
 -- ---- the memories, with no premise
 
@@ -164,7 +217,14 @@ module _ (n : ℕ) (start : List ℤ) (setting : Setting n start)
   Good = SoundAt n start setting owes
 
   abbrev pub machineOf : (ℕ → Journal ℤ) → Members → MachineSystem (setup n start) machine
-  machineOf J g = record { memories = g .memories; journals = J; observed = g .observed; handouts = g .handouts; messages = map messageIn (g .blocks) }
+  machineOf J g = record {
+    memories = g .memories;
+    journals = J;
+    notices = λ k. map noticeIn (g .taken k);
+    observed = g .observed;
+    handouts = g .handouts;
+    messages = map messageIn (g .blocks);
+  }
 
   abbrev pub command : (c : CallAt) → signed32 (argumentsOf (c .does) .value) ≡ true → CommandAt (setup n start) machine
   command c v = record { at = c .at; here = tt; command = record { call = c .does; value = v } }
@@ -173,9 +233,18 @@ module _ (n : ℕ) (start : List ℤ) (setting : Setting n start)
   commands [] f = []
   commands (c ∷ cs) f = command c (f c (List·Memᴰ·head refl) .1) ∷ commands cs (λ d h. f d (List·Memᴰ·tail h))
 
+  -- of a first part, whatever says that its values fit
+  pub commands-part : (before rest : List CallAt) (f : Calls n (before ++ rest)) (h : Calls n before)
+      → (more : List (CommandAt (setup n start) machine)) × (commands (before ++ rest) f ≡ commands before h ++ more)
+  unfolding commands
+  commands-part [] rest f h = (commands rest f, refl)
+  commands-part (c ∷ before) rest f h =
+      let p = commands-part before rest (λ d q. f d (List·Memᴰ·tail q)) (λ d q. h d (List·Memᴰ·tail q)) in
+      (p .0, λ i. command c (Bool-set _ _ (f c (List·Memᴰ·head refl) .1) (h c (List·Memᴰ·head refl) .1) i) ∷ p .1 i)
+
   -- the model's journal after a call
   abbrev pub journalNext : Journal ℤ → ℕ → Memory → AnyCall → Journal ℤ
-  journalNext J k m c = let o = anyStep m c in journalAfter J (appended (setup n start) (viewAt k m) (o .memory .turn .slot) (heard c (o .answer))) (heard c (o .answer))
+  journalNext J k m c = let o = anyStep m c in system.journalNext (setup n start) J (viewAt k m) (Rattle.protocol.specs.Replica.outcome (viewAt k (o .memory)) (heard c (o .answer)))
 
   abbrev pub journalsNext : (ℕ → Journal ℤ) → Members → CallAt → ℕ → Journal ℤ
   journalsNext J g c = update J (c .at) (journalNext (J (c .at)) (c .at) (g .memories (c .at)) (c .does))
@@ -186,9 +255,19 @@ module _ (n : ℕ) (start : List ℤ) (setting : Setting n start)
 
   pub one : (J : ℕ → Journal ℤ) (g : Members) (c : CallAt) (h : signed32 (argumentsOf (c .does) .value) ≡ true)
       → afterCommand (setup n start) machine (machineOf J g) (command c h) ≡ machineOf (journalsNext J g c) (next g c)
-  one J g c h =
-      ap (λ (l : List (Message ℤ)). record { memories = next g c .memories; journals = journalsNext J g c; observed = next g c .observed; handouts = next g c .handouts; messages = l })
-      (messages-after (g .blocks) (c .does) (did g c .answer))
+  one J g c h = λ i. record {
+    memories = next g c .memories;
+    journals = journalsNext J g c;
+    notices = λ j. taken j (eqb j (c .at)) i;
+    observed = next g c .observed;
+    handouts = next g c .handouts;
+    messages = messages-after (g .blocks) (c .does) (did g c .answer) i;
+  }
+    where
+      taken : (j : ℕ) (b : Bool) → cond b (noticesAfter (map noticeIn (g .taken (c .at))) (heard (c .does) (did g c .answer))) (map noticeIn (g .taken j))
+          ≡ map noticeIn (cond b (takenAfter (g .taken (c .at)) (c .does) (did g c .answer)) (g .taken j))
+      taken j true = notices-after (g .taken (c .at)) (c .does) (did g c .answer) (noticing (g .memories (c .at)) (c .does))
+      taken j false = refl
 
   pub runs : (cs : List CallAt) (f : Calls n cs) (J : ℕ → Journal ℤ) (g : Members) → runCommands (setup n start) machine (machineOf J g) (commands cs f) ≡ machineOf (journalsRun J g cs) (run g cs)
   unfolding runCommands commands run journalsRun
@@ -217,8 +296,8 @@ module _ (n : ℕ) (start : List ℤ) (setting : Setting n start)
 
   pub disk-next : (l : List ℕ) (J : Journal ℤ) → OnDisk n l (J .kept) → (k : ℕ) (m : Memory) → Good k m → k < n → (c : AnyCall) → Ours n start k m c
       → OnDisk n (group.journalAfter l c (anyStep m c .answer)) (journalNext J k m c .kept)
-  disk-next l J H k m s h (call c) f = rw (view-own k m (own-is k m s h)) (disk-call n l J H start m (s .sound) c)
-  disk-next l J H k m s h (restart size own values j b) f = rw (view-own k m (own-is k m s h)) (disk-restart n l J H start m size own values j b (λ x y q. f x y q .0))
+  disk-next l J H k m s h (call c) f = rw (view-own k m (own-is k m s h)) (disk-call n l J H start m (s .sound) c _)
+  disk-next l J H k m s h (restart size own values j a b) f = rw (view-own k m (own-is k m s h)) (disk-restart n l J H start m size own values j a b _ (λ x y q. f x y q .0))
 
   pub kept-next : (J : ℕ → Journal ℤ) (g : Members) → Kept J g → (c : CallAt) → signed32 (argumentsOf (c .does) .value) ≡ true → Ours n start (c .at) (g .memories (c .at)) (c .does)
       → Kept (journalsNext J g c) (next g c)
@@ -228,7 +307,7 @@ module _ (n : ℕ) (start : List ℤ) (setting : Setting n start)
     disks = λ k h. by k h (eqb k (c .at)) refl;
   }
     where
-      by : (k : ℕ) → k < n → (b : Bool) → eqb k (c .at) ≡ b → OnDisk n (cond b (diskAfter (g .disks (c .at)) (c .does) (did g c .answer)) (g .disks k) .journal)
+      by : (k : ℕ) → k < n → (b : Bool) → eqb k (c .at) ≡ b → OnDisk n (cond b (diskAfter (g .disks (c .at)) (g .memories (c .at)) (c .does) (did g c .answer)) (g .disks k) .journal)
           (cond b (journalNext (J (c .at)) (c .at) (g .memories (c .at)) (c .does)) (J k) .kept)
       by k h true e =
           let i : c .at < n = rw (eqb-true k (c .at) e) at h in
@@ -240,51 +319,57 @@ module _ (n : ℕ) (start : List ℤ) (setting : Setting n start)
   kept-run [] f J g A K = K
   kept-run (c ∷ cs) f J g A K =
       kept-run cs (λ d h. f d (List·Memᴰ·tail h)) (journalsNext J g c) (next g c) (premise-rest n start g c cs A)
-      (kept-next J g K c (f c (List·Memᴰ·head refl) .1) (lent-ours n start (c .at) (g .memories (c .at)) (g .disks (c .at)) (c .does) (premise-first n start g c cs A)))
+      (kept-next J g K c (f c (List·Memᴰ·head refl) .1) (lent-ours n start (c .at) (g .memories (c .at)) (g .disks (c .at)) (g .taken (c .at)) (c .does) (premise-first n start g c cs A)))
 
   -- ---- the premise
 
   pub handed-at : (B : List (List ℕ)) (m : Memory) (c : AnyCall) → ((b : List ℕ) → c ≡ call (deliver b) → step m (deliver b) .answer ≡ kept → Mem b B)
       → HandedOut (map messageIn B) (heard c (anyStep m c .answer))
   handed-at B m (call c) f = handed (map messageIn B) m c (λ b e q. mem-map messageIn B b (f b (ap call e) q))
-  handed-at B m (restart size own values j l) f = restart-handed (map messageIn B) m size own values j l
+  handed-at B m (restart size own values j a l) f = restart-handed (map messageIn B) m size own values j a l
 
   -- a call of document 01 is no restart
-  not-meant : (c : Call) (l : List (Message ℤ)) → meant c ≡ Rattle.protocol.specs.System.Call.restart l → ⊥
-  not-meant begin l e = let z : _≡_ {A = ℕ} 0 1 = cc in omega arith
-  not-meant (read t i) l e = let z : _≡_ {A = ℕ} 0 1 = cc in omega arith
-  not-meant (write t i v) l e = let z : _≡_ {A = ℕ} 0 1 = cc in omega arith
-  not-meant (ask t) l e = let z : _≡_ {A = ℕ} 0 1 = cc in omega arith
-  not-meant (withdraw t) l e = let z : _≡_ {A = ℕ} 0 1 = cc in omega arith
-  not-meant report l e = let z : _≡_ {A = ℕ} 0 1 = cc in omega arith
-  not-meant (send b) l e = let z : _≡_ {A = ℕ} 0 1 = cc in omega arith
-  not-meant (deliver b) l e = let z : _≡_ {A = ℕ} 0 1 = cc in omega arith
-  not-meant work l e = let z : _≡_ {A = ℕ} 0 1 = cc in omega arith
-  not-meant (load c) l e = let z : _≡_ {A = ℕ} 0 1 = cc in omega arith
+  not-meant : (c : Call) (l : List (Message ℤ)) (a : List protocol.Notice) → meant c ≡ Rattle.protocol.specs.System.Call.restart l a → ⊥
+  not-meant begin l a e = let z : _≡_ {A = ℕ} 0 1 = cc in omega arith
+  not-meant (read t i) l a e = let z : _≡_ {A = ℕ} 0 1 = cc in omega arith
+  not-meant (write t i v) l a e = let z : _≡_ {A = ℕ} 0 1 = cc in omega arith
+  not-meant (ask t) l a e = let z : _≡_ {A = ℕ} 0 1 = cc in omega arith
+  not-meant (withdraw t) l a e = let z : _≡_ {A = ℕ} 0 1 = cc in omega arith
+  not-meant report l a e = let z : _≡_ {A = ℕ} 0 1 = cc in omega arith
+  not-meant (send b) l a e = let z : _≡_ {A = ℕ} 0 1 = cc in omega arith
+  not-meant (deliver b) l a e = let z : _≡_ {A = ℕ} 0 1 = cc in omega arith
+  not-meant work l a e = let z : _≡_ {A = ℕ} 0 1 = cc in omega arith
+  not-meant (load c) l a e = let z : _≡_ {A = ℕ} 0 1 = cc in omega arith
+  not-meant (notice c) l a e = let z : _≡_ {A = ℕ} 0 1 = cc in omega arith
 
   -- the number of an accepted restart is below its N
-  among : (m : Memory) (size own : ℕ) (values : List ℤ) (j l : List ℕ) (x : ℕ) (b : List ℕ) → restartStep m size own values j l .answer ≡ restarted x b → own < size
-  among m size own values j l x b = restart-by (λ (o : Outcome). o .answer ≡ restarted x b → own < size) m size own values j l
+  among : (m : Memory) (size own : ℕ) (values : List ℤ) (j : List ℕ) (a : List Notice) (l : List ℕ) (x : ℕ) (b : List ℕ) → restartStep m size own values j a l .answer ≡ restarted x b → own < size
+  among m size own values j a l x b = restart-by (λ (o : Outcome). o .answer ≡ restarted x b → own < size) m size own values j a l
       (λ e q. restart-passed m size own values l e .below) (λ e q. absurd (let z : _≡_ {A = ℕ} 0 1 = cc in let w : ⊥ = omega arith in w))
 
   -- what is heard of a restart says that it was accepted
-  accepted : (m : Memory) (size own : ℕ) (values : List ℤ) (j l : List ℕ) (held : List (Message ℤ)) (given : Option (Message ℤ))
-      → heard (restart size own values j l) (restartStep m size own values j l .answer) ≡ Event.restarted held given → (x : ℕ) × (b : List ℕ) × (restartStep m size own values j l .answer ≡ restarted x b)
+  accepted : (m : Memory) (size own : ℕ) (values : List ℤ) (j : List ℕ) (a : List Notice) (l : List ℕ) (held : List (Message ℤ)) (told : List protocol.Notice) (given : Option (Message ℤ))
+      → heard (restart size own values j a l) (restartStep m size own values j a l .answer) ≡ Event.restarted held told given
+      → (x : ℕ) × (b : List ℕ) × (restartStep m size own values j a l .answer ≡ restarted x b)
   unfolding heard
-  accepted m size own values j l held given =
-      restart-by (λ (o : Outcome). heard (restart size own values j l) (o .answer) ≡ Event.restarted held given → (x : ℕ) × (b : List ℕ) × (o .answer ≡ restarted x b)) m size own values j l
+  accepted m size own values j a l held told given =
+      restart-by (λ (o : Outcome). heard (restart size own values j a l) (o .answer) ≡ Event.restarted held told given → (x : ℕ) × (b : List ℕ) × (o .answer ≡ restarted x b)) m size own values j a l
       (λ e h. (_, _, refl)) (λ e h. let z : _≡_ {A = ℕ} 0 1 = cc in absurd (let w : ⊥ = omega arith in w))
 
-  pub lent-at : (J : Journal ℤ) (d : Disk) (k : ℕ) → (k < n → OnDisk n (d .journal) (J .kept)) → (k < n → 512 * J .safe ≤ d .floor) → (m : Memory) → Good k m → (c : AnyCall) (v : signed32 (argumentsOf c .value) ≡ true)
-      → LentOurs n start k m d c → CommandLent (setup n start) machine J k m (record { call = c; value = v })
-  lent-at J d k H low m s (call c) v f lent held given q e = absurd (not-meant c lent (let i : meant c ≡ Rattle.protocol.specs.System.Call.restart lent = cc in i))
-  lent-at J d k H low m s (restart size own values j l) v f lent held given q e =
-      let w = accepted m size own values j l held given e in
-      let L = f size own values j l (w .0) (w .1) refl (w .2) in
+  pub lent-at : (J : Journal ℤ) (d : Disk) (t : List Notice) (k : ℕ) → (k < n → OnDisk n (d .journal) (J .kept)) → (k < n → 512 * J .safe ≤ d .floor) → (m : Memory) → Good k m
+      → (c : AnyCall) (v : signed32 (argumentsOf c .value) ≡ true) → LentOurs n start k m d t c → CommandLent (setup n start) machine J (map noticeIn t) k m (record { call = c; value = v })
+  lent-at J d t k H low m s (call c) v f lent held notices told given q e =
+      absurd (not-meant c lent notices (let i : meant c ≡ Rattle.protocol.specs.System.Call.restart lent notices = cc in i))
+  lent-at J d t k H low m s (restart size own values j a l) v f lent held notices told given q e =
+      let w = accepted m size own values j a l held told given e in
+      let L = f size own values j a l (w .0) (w .1) refl (w .2) in
       let i : lentMessages size j ≡ lent = cc in
-      let h : k < n = omega (arith, among m size own values j l (w .0) (w .1) (w .2), L .0, L .1) in
-      let C = lent-cut n (d .journal) J (H h) start m (s .sound) (d .floor) (low h) j (L .3) in
-      (record { call = call (L .3 .ended); value = L .3 .value }, tt, rw (view-own k m (own-is k m s h)) (subst (Cut J _) (ap (λ (z : ℕ). lentMessages z j) (sym (L .0)) ∙ i) C))
+      let z : map noticeIn a ≡ notices = cc in
+      let h : k < n = omega (arith, among m size own values j a l (w .0) (w .1) (w .2), L .0, L .1) in
+      let C = lent-cut n (d .journal) J (H h) start m (s .sound) (d .floor) (low h) j (L .3) in (
+        (record { call = call (L .3 .ended); value = L .3 .value }, tt, rw (view-own k m (own-is k m s h)) (subst (Cut J _) (ap (λ (z : ℕ). lentMessages z j) (sym (L .0)) ∙ i) C)),
+        sym z ∙ ap (map noticeIn) (L .4),
+      )
 
   -- ---- what is claimed of a call
 

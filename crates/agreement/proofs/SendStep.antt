@@ -1,6 +1,6 @@
 -- A send does what the model's send does, on the memory's view. Assumes nothing.
 use Prim.Native.Nat.{ℕ, suc, _<_}
-use mathlib.Core.Path.{_≡_, refl, ap}
+use mathlib.Core.Path.{_≡_, refl, ap, _∙_}
 use mathlib.Core.Bool.{Bool, true, false, cond}
 use mathlib.Core.Option.{some}
 use mathlib.Core.List.{List, [], _∷_, map}
@@ -23,12 +23,12 @@ use Rattle.engine.specs.Calls.Call.{send}
 use Rattle.engine.proofs.Steps.{send-by}
 use Rattle.protocol.specs.Replica.{Setup, transactions, Replica, replica, handedOut, Outcome, outcome}
 use Rattle.protocol.specs.Moves as model
-use Rattle.protocol.specs.Moves.{markSent, sendTxn, outgoing, sendStep}
+use Rattle.protocol.specs.Moves.{outHere, markSent, sendTxn, outgoing, sendStep}
 use Rattle.protocol.specs.System as system
 use Rattle.protocol.specs.Machine.{Alike}
 use Rattle.agreement.specs.Group as group
 use Rattle.agreement.specs.Group.{messageIn, heard}
-use Rattle.agreement.proofs.View.{setup, txnOf, rowsFrom, openTxns, view, Sound, Owed}
+use Rattle.agreement.proofs.View.{out-same, setup, txnOf, rowsFrom, openTxns, view, Sound, Owed}
 use Rattle.agreement.proofs.ClientStep.{refused-owes}
 use Rattle.agreement.proofs.RowView.{find-row}
 use Rattle.agreement.proofs.Sendable.{send-passed, asked-row, sendable}
@@ -38,12 +38,12 @@ use Rattle.agreement.proofs.Sendable.{send-passed, asked-row, sendable}
 abbrev sentBy : Replica ℤ → Outcome ℤ
 sentBy r =
     outcome (replica (r .own) (markSent (r .cursor)) (r .store) (transactions (r .transactions .tickets) (map sendTxn (r .transactions .txns)) [])
-    (record { places = r .blocks .places; outbox = some (outgoing r) })) (handedOut (outgoing r))
+    (record { places = r .blocks .places; outbox = some (outgoing r); outages = r .blocks .outages })) (handedOut (outgoing r))
 
-sends : (S : Setup ℤ) (r : Replica ℤ) → r .cursor .turn < S .slotLimit → S .owner (r .cursor .turn) ≡ r .own → r .cursor .sent ≡ false
+sends : (S : Setup ℤ) (r : Replica ℤ) → r .cursor .turn < S .slotLimit → S .owner (r .cursor .turn) ≡ r .own → outHere S r (r .cursor .turn) ≡ false → r .cursor .sent ≡ false
     → system.step S r system.Call.send ≡ sentBy r
 unfolding system.step sendStep
-sends S r h o u = rw (lt-leb (S .slotLimit) (r .cursor .turn) h, eq-eqb (S .owner (r .cursor .turn)) (r .own) o, u)
+sends S r h o i u = rw (lt-leb (S .slotLimit) (r .cursor .turn) h, eq-eqb (S .owner (r .cursor .turn)) (r .own) o, i, u)
 
 -- ---- what is handed out
 
@@ -91,9 +91,9 @@ sent-rows x r (t ∷ ts) = go (isOpen t) (sent-rows x (suc r) ts)
 
 -- ---- the call
 
-alike-sent : (m : Memory) → Alike (sentBy (view m) .replica) (view (sendNow m .memory))
+alike-sent : (n : ℕ) (start : List ℤ) (m : Memory) → Alike (setup n start) (sentBy (view m) .replica) (view (sendNow m .memory))
 unfolding sendNow waiting
-alike-sent m =
+alike-sent n start m =
     let e = sent-rows (m .txns) 0 (m .txns .table) in
     record {
       own = refl;
@@ -106,6 +106,7 @@ alike-sent m =
       there = λ u h. rw e h;
       back = λ u h. rw e at h;
       places = λ p. refl;
+      outages = λ t. refl;
     }
 
 pub send-owes : (n : ℕ) (start : List ℤ) (m : Memory) → Sound n m → (b : List ℕ) → Owed n start m (send b) (step m (send b))
@@ -116,5 +117,5 @@ send-owes n start m s b = send-by (Owed n start m (send b)) m b accepted (λ k h
     accepted e =
         let p = send-passed m b e in
         let f : ownerOf n (m .turn .slot) ≡ m .group .own = rw (← s .size) (p .owner) in
-        let q = sends (setup n start) (view m) (p .slot) f (p .unsent) in
-        Owed.follows (rw q (ap handedOut (handed m (s .shape) (theorems .round-trip (messageFor m) (sendable n m s b e) .message)))) (rw q (alike-sent m))
+        let q = sends (setup n start) (view m) (p .slot) f (out-same n start m (s .size) (m .turn .slot) ∙ p .live) (p .unsent) in
+        Owed.follows (rw q (ap handedOut (handed m (s .shape) (theorems .round-trip (messageFor m) (sendable n m s b e) .message)))) (rw q (alike-sent n start m))

@@ -20,7 +20,7 @@ use Rattle.memory.specs.declared.Txn.{Txn}
 use Rattle.memory.specs.Memory.{Transactions, Memory, slotLimit}
 use Rattle.memory.specs.Turns.{isOn}
 use Rattle.memory.specs.Rows.{rowOf, rowAt, writeCount}
-use Rattle.engine.specs.Moves.{waiting, writesetOf, messageFor, sendRefusal}
+use Rattle.engine.specs.Moves.{outAtTurn, waiting, writesetOf, messageFor, sendRefusal}
 use Rattle.engine.specs.Shape.{RowShape, Shape}
 use Rattle.engine.proofs.Tests.{bool-by, passes}
 use Rattle.engine.proofs.QueueLaws.{length-waiting, waiting-at}
@@ -32,6 +32,7 @@ use Rattle.agreement.proofs.View.{Sound}
 pub record SendPassed (m : Memory) : Type 0 where
   pub slot : m .turn .slot < slotLimit
   pub owner : ownerOf (m .group .replicas) (m .turn .slot) ≡ m .group .own
+  pub live : outAtTurn m ≡ false
   pub unsent : isOn (m .turn .sent) ≡ false
 
 pub send-passed : (m : Memory) (b : List ℕ) → sendRefusal m b ≡ 0 → SendPassed m
@@ -40,8 +41,9 @@ send-passed m b e =
     let a = passes _ _ refl e in
     let s = passes _ _ refl (a .1) in
     let o = passes _ _ refl (s .1) in
-    let u = passes _ _ refl (o .1) in
-    record { slot = leb-false slotLimit (m .turn .slot) (s .0); owner = eqb-true _ _ (not-false _ (o .0)); unsent = u .0 }
+    let l = passes _ _ refl (o .1) in
+    let u = passes _ _ refl (l .1) in
+    record { slot = leb-false slotLimit (m .turn .slot) (s .0); owner = eqb-true _ _ (not-false _ (o .0)); live = l .0; unsent = u .0 }
 
 -- ---- tests that hold
 

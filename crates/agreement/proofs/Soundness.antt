@@ -16,14 +16,14 @@ use Rattle.engine.specs.Answers.{Outcome}
 use Rattle.engine.specs.Make.{Setting, SettingOf, madeMemory}
 use Rattle.engine.specs.Station.{stationMemory}
 use Rattle.engine.specs.Client.{rowNo, rowIn, beginAt, rewriteAt, insertWrite, staleAt, readOnlyAt, queueAt, withdrawAt, reportStep}
-use Rattle.engine.specs.Moves.{sendRefusal, sendNow, deliverNow, passNext, isLast, commitWriteset}
+use Rattle.engine.specs.Moves.{sendRefusal, sendNow, deliverNow, passNext, isLast, commitWriteset, passOut}
 use Rattle.engine.specs.Calls.{Call, step}
-use Rattle.engine.specs.Calls.Call.{begin, read, write, ask, withdraw, report, send, deliver, work, load}
+use Rattle.engine.specs.Calls.Call.{begin, read, write, ask, withdraw, report, send, deliver, work, load, notice}
 use Rattle.engine.specs.History.AnyCall.{call}
 use Rattle.engine.proofs.Tests.{clash, same-by, less-by, passes}
 use Rattle.engine.proofs.PartLaws.{insert-before, insert-here, insert-moved, insert-after, below-part}
 use Rattle.engine.proofs.Passed.{write-passed}
-use Rattle.engine.proofs.Steps.{begin-by, read-by, write-by, ask-by, withdraw-by, send-by, deliver-by, work-by, load-by}
+use Rattle.engine.proofs.Steps.{begin-by, read-by, write-by, ask-by, withdraw-by, send-by, deliver-by, work-by, load-by, notice-by}
 use Rattle.engine.proofs.ShapeMade.{shape-station}
 use Rattle.engine.proofs.Shapes.{shapes}
 use Rattle.engine.proofs.Sent.{sent-shapes}
@@ -112,6 +112,10 @@ module _ (n : ℕ) (m : Memory) (s : Rest n m) where
   unfolding passNext
   next-rests = record { size = s .size; fits = s .fits }
 
+  out-rests : Rests (passOut m)
+  unfolding passOut
+  out-rests = record { size = s .size; fits = s .fits }
+
   writeset-rests : (mine : Bool) (w : Record) → Rests (commitWriteset m mine w)
   unfolding commitWriteset
   writeset-rests mine w = record { size = s .size; fits = s .fits }
@@ -127,8 +131,9 @@ rest-each n m s (withdraw t) e = withdraw-by (Rests n m s) m t (λ p. withdraw-r
 rest-each n m s report e = unfold step reportStep in s
 rest-each n m s (send b) e = send-by (Rests n m s) m b (λ p. send-rests n m s) (λ k p q. s)
 rest-each n m s (deliver b) e = deliver-by (Rests n m s) m b (λ p. deliver-rests n m s b) (λ p. s)
-rest-each n m s work e = work-by (Rests n m s) m (λ p k. next-rests n m s) (λ p k. writeset-rests n m s _ _) (λ p. s)
+rest-each n m s work e = work-by (Rests n m s) m (λ p k. out-rests n m s) (λ p k. next-rests n m s) (λ p k. writeset-rests n m s _ _) (λ p. s)
 rest-each n m s (load l) e = load-by (Rests n m s) m l (λ p. record { size = s .size; fits = s .fits }) (λ p. s)
+rest-each n m s (notice a) e = notice-by (Rests n m s) m a (λ p. record { size = s .size; fits = s .fits }) (λ p. s)
 
 -- ---- the whole
 

@@ -4,12 +4,13 @@ use mathlib.Core.Path.{_≡_, refl, sym, ap, _∙_, subst}
 use mathlib.Core.Logic.{_⊎_, inl, inr, _≢_, ∥∥₁-elim}
 use mathlib.Core.HLevel.{⊥-prop, ¬-prop}
 use mathlib.Core.Bool.{Bool, true, false, cond}
-use mathlib.Core.List.{List, List·Mem, List·Memᴰ·append-cases, List·Memᴰ·cases-cons, List·Memᴰ·head, List·Memᴰ·not-nil, List·Memᴰ·tail, Memᴰ·append-left, Memᴰ·append-right, List·Nodup, Nodup·of-append-left, nodup-append, Pairwise·nil, Pairwise·map, Pairwise·of-map, [], _∷_, _++_, append-assoc, map}
+use mathlib.Core.List.{List, List·Mem, List·Memᴰ·append-cases, List·Memᴰ·cases-cons, List·Memᴰ·head, List·Memᴰ·not-nil, List·Memᴰ·tail, Memᴰ·append-left, Memᴰ·append-right, List·Nodup, Nodup·of-append-left, nodup-append, Pairwise·nil, Pairwise·map, Pairwise·of-map, [], _∷_, _++_, append-assoc, append-nil, map}
 use native.Mathlib.Omega.{arith}
 use lib.IntN.{ℤ}
 use lib.ListN.{take, drop, take-append-drop}
 use borrow.Author.Tests.{eqb-true}
 use Rattle.block.specs.Message.{Record}
+use Rattle.memory.specs.Notices.{Notice}
 use Rattle.engine.specs.Make.{Setting}
 use Rattle.engine.specs.Answers.{Answer, Outcome}
 use Rattle.engine.specs.Answers.Answer.{restarted}
@@ -25,11 +26,15 @@ use Rattle.protocol.specs.Writesets.{Writeset}
 use Rattle.protocol.specs.Observer.{TxnId, Observed, Placed, txnIds, observedAfter, sequence, idOf}
 use Rattle.protocol.proofs.ListLaws.{update-same}
 use Rattle.protocol.proofs.SequenceLaws.{map-append}
+use Rattle.protocol.proofs.Fates.{outOf}
+use Rattle.protocol.proofs.Slots.{handed-once}
 use Rattle.agreement.specs.Group.{writesetFrom, messageIn, heard, Members, CallAt, fresh, next, run, Comes, Calls, Premise}
 use Rattle.agreement.specs.Tickets.{Tickets}
+use Rattle.agreement.proofs.View.{setup}
 use Rattle.agreement.proofs.BlockView.{sender-seen}
 use Rattle.agreement.proofs.RestartView.{writesets-read, writesets-seen}
-use Rattle.agreement.proofs.Runs.{run-on, calls-part, premise-part}
+use Rattle.agreement.proofs.Runs.{run-on}
+use Rattle.agreement.proofs.OneList.{modelLists}
 use Rattle.agreement.proofs.Theorem.{InvAfter, inv-after}
 
 -- ---- a block's tickets, and its transactions
@@ -106,50 +111,50 @@ module _ (n k : ℕ) where
 
 module _ (n : ℕ) (start : List ℤ) where
   -- what is observed of a restart's commits
-  commits-seen : (g : Members) (k : ℕ) (journal block : List ℕ) (count : ℕ) (given : List ℕ) → restartStep (g .memories k) n k start journal block .answer ≡ restarted count given
-      → next g (record { at = k; does = restart n k start journal block }) .observed k .commits ≡ txnIds (map messageIn (blocksIn n journal))
+  commits-seen : (g : Members) (k : ℕ) (journal : List ℕ) (notices : List Notice) (block : List ℕ) (count : ℕ) (given : List ℕ)
+      → restartStep (g .memories k) n k start journal notices block .answer ≡ restarted count given
+      → next g (record { at = k; does = restart n k start journal notices block }) .observed k .commits ≡ txnIds (map messageIn (blocksIn n journal))
   unfolding heard observedAfter
-  commits-seen g k journal block count given e =
-      ap (λ (p : Observed ℤ). p .commits) (update-same (g .observed) k _ ∙ ap (λ (a : Answer). observedAfter (g .observed k) (heard (restart n k start journal block) a)) e)
+  commits-seen g k journal notices block count given e =
+      ap (λ (p : Observed ℤ). p .commits) (update-same (g .observed) k _ ∙ ap (λ (a : Answer). observedAfter (g .observed k) (heard (restart n k start journal notices block) a)) e)
 
 -- ---- the theorem
 
 once : (n : ℕ) (start : List ℤ) → Setting n start → (cs : List CallAt) → Calls n cs → Premise n start cs
     → List·Nodup (map idOf (sequence (run (fresh n start) cs .handouts)))
-once n start setting cs f p = inv-after n start setting cs f p .inv .whole .once
+once n start setting cs f p = handed-once (setup n start) (outOf (setup n start) (modelLists (p .lists))) _ (inv-after n start setting cs f p cs [] (sym (append-nil cs)) .inv)
 
 first-once : (c : ℕ) (F : List (Placed ℤ)) → List·Nodup (map idOf F) → List·Nodup (map idOf (take c F))
 first-once c F d = Nodup·of-append-left (map idOf (drop c F)) (subst List·Nodup (ap (map idOf) (sym (take-append-drop c F)) ∙ map-append idOf (take c F) (drop c F)) d)
 
 lent-once : (n : ℕ) (start : List ℤ) → Setting n start → (cs : List CallAt) → Calls n cs → Premise n start cs
-    → (before : List CallAt) (k : ℕ) (journal block : List ℕ) (count : ℕ) (given : List ℕ) → Comes cs before (record { at = k; does = restart n k start journal block })
-    → restartStep (run (fresh n start) before .memories k) n k start journal block .answer ≡ restarted count given → List·Nodup (ownTickets k (blocksIn n journal))
-lent-once n start setting cs f p before k journal block count given q e =
+    → (before : List CallAt) (k : ℕ) (journal : List ℕ) (notices : List Notice) (block : List ℕ) (count : ℕ) (given : List ℕ)
+    → Comes cs before (record { at = k; does = restart n k start journal notices block })
+    → restartStep (run (fresh n start) before .memories k) n k start journal notices block .answer ≡ restarted count given → List·Nodup (ownTickets k (blocksIn n journal))
+lent-once n start setting cs f p before k journal notices block count given q e =
     own-once n k (blocksIn n journal) (reads-good n 0 _ journal)
-    (subst List·Nodup (sym (I .inv .each k .track .logged) ∙ seen) (first-once (G .memories k .counts .commits) (sequence (G .handouts)) (I .inv .whole .once)))
+    (subst List·Nodup (sym (I .inv .each k .track .logged) ∙ seen) (first-once (G .memories k .counts .commits) (sequence (I .inv .log)) (I .inv .whole .once)))
   where
     c : CallAt
-    c = record { at = k; does = restart n k start journal block }
+    c = record { at = k; does = restart n k start journal notices block }
 
     G : Members
-    G = run (fresh n start) (before ++ (record { at = k; does = restart n k start journal block } ∷ []))
+    G = run (fresh n start) (before ++ (record { at = k; does = restart n k start journal notices block } ∷ []))
 
-    I : InvAfter n start setting (before ++ (c ∷ []))
-    I =
-        let e : cs ≡ (before ++ (c ∷ [])) ++ q .0 = q .1 ∙ sym (append-assoc before (c ∷ []) (q .0)) in
-        inv-after n start setting (before ++ (c ∷ [])) (calls-part n start cs (before ++ (c ∷ [])) (q .0) e f) (premise-part n start cs (before ++ (c ∷ [])) (q .0) e (fresh n start) p)
+    I : InvAfter n start setting (p .lists) (before ++ (c ∷ []))
+    I = inv-after n start setting cs f p (before ++ (c ∷ [])) (q .0) (q .1 ∙ sym (append-assoc before (c ∷ []) (q .0)))
 
     seen : run (fresh n start) (before ++ (c ∷ [])) .observed k .commits ≡ txnIds (map messageIn (blocksIn n journal))
-    seen = ap (λ (g : Members). g .observed k .commits) (run-on before (fresh n start) c) ∙ commits-seen n start (run (fresh n start) before) k journal block count given e
+    seen = ap (λ (g : Members). g .observed k .commits) (run-on before (fresh n start) c) ∙ commits-seen n start (run (fresh n start) before) k journal notices block count given e
 
 pub tickets : Tickets
 tickets = record {
   once = once;
-  restarts = λ n start setting cs f p before k journal block count given q e.
-      let d = lent-once n start setting cs f p before k journal block count given q e in (
+  restarts = λ n start setting cs f p before k journal notices block count given q e.
+      let d = lent-once n start setting cs f p before k journal notices block count given q e in (
         d,
-        restart-by (λ (o : Outcome). o .answer ≡ restarted count given → CountsOf k (blocksIn n journal) (reportOf (o .memory))) (run (fresh n start) before .memories k) n k start journal block
-            (λ z r. tickets-once .counts n k start journal d)
+        restart-by (λ (o : Outcome). o .answer ≡ restarted count given → CountsOf k (blocksIn n journal) (reportOf (o .memory))) (run (fresh n start) before .memories k) n k start journal notices block
+            (λ z r. tickets-once .counts n k start journal notices d)
             (λ z r. let w : _≡_ {A = ℕ} 0 1 = cc in absurd (let v : ⊥ = omega arith in v)) e,
       );
 }

@@ -11,7 +11,9 @@ use lib.Seq.{slice}
 use Rattle.block.specs.Message.{ownerOf, signed32, maxTicket}
 use Rattle.block.specs.Writing.{entriesFrom}
 use Rattle.memory.specs.declared.Txn.{Txn}
+use Rattle.memory.specs.declared.Group.{Group}
 use Rattle.memory.specs.Memory.{Transactions, Memory, slotLimit}
+use Rattle.memory.specs.Notices.{isOut}
 use Rattle.memory.specs.Turns.{isOn}
 use Rattle.memory.specs.Rows.{isOpen, writeCount, itemsOf}
 use Rattle.engine.specs.Answers.{Outcome}
@@ -19,14 +21,16 @@ use Rattle.engine.specs.Moves.{waiting}
 use Rattle.engine.specs.Shape.{Shape}
 use Rattle.engine.specs.Sent.{SentShape}
 use Rattle.engine.specs.Calls.{Call}
-use Rattle.engine.specs.Calls.Call.{begin, read, write, ask, withdraw, report, send, deliver, work, load}
+use Rattle.engine.specs.Calls.Call.{begin, read, write, ask, withdraw, report, send, deliver, work, load, notice}
 use Rattle.engine.specs.History.AnyCall.{call}
 use Rattle.protocol.specs.Writesets.{Write, Message}
+use Rattle.protocol.specs.Notices.{Outage, outage}
+use Rattle.protocol.specs.Moves.{outHere}
 use Rattle.protocol.specs.Replica.{Setup, Transaction, transaction, Cursor, Store, transactions, Blocks, Replica, replica, refused}
 use Rattle.protocol.specs.System.{step}
 use Rattle.protocol.specs.Machine.{Alike}
 use Rattle.protocol.proofs.Stations.{numbered}
-use Rattle.agreement.specs.Group.{writeOf, messageIn, heard}
+use Rattle.agreement.specs.Group.{writeOf, messageIn, noticeIn, heard}
 
 -- `sameMessage` is not asked: where a deliver of the replica's own block is accepted, its bytes are those sent
 abbrev pub setup : ℕ → List ℤ → Setup ℤ
@@ -70,8 +74,12 @@ cursorOf m = record { turn = m .turn .slot; sent = isOn (m .turn .sent); done = 
 abbrev pub storeOf : Memory → Store ℤ
 storeOf m = record { commits = m .counts .commits; values = m .store .values; stamps = λ i. getD (m .store .stamps) i 0 }
 
+-- of each replica the last outage
+abbrev pub outagesIn : Group → ℕ → Outage
+outagesIn g k = outage (getD (g .from) k 0) (getD (g .until) k 0)
+
 abbrev pub blocksOf : Memory → Blocks ℤ
-blocksOf m = record { places = placeAt (m .blocks .places); outbox = some (messageIn (m .blocks .outbox)) }
+blocksOf m = record { places = placeAt (m .blocks .places); outbox = some (messageIn (m .blocks .outbox)); outages = outagesIn (m .group) }
 
 abbrev pub view : Memory → Replica ℤ
 view m = replica (m .group .own) (cursorOf m) (storeOf m) (transactions (m .counts .tickets) (openTxns (m .txns)) (waiting (m .txns .queue))) (blocksOf m)
@@ -101,14 +109,15 @@ meant (send b) = Rattle.protocol.specs.System.Call.send
 meant (deliver b) = Rattle.protocol.specs.System.Call.deliver (messageIn b)
 meant work = Rattle.protocol.specs.System.Call.work
 meant (load l) = Rattle.protocol.specs.System.Call.load
+meant (notice a) = Rattle.protocol.specs.System.Call.notice (noticeIn a)
 
 -- what the outcome o of call c on memory m owes: a refusal other than 9 that leaves the view alone, or the model's step
 pub data Owed (n : ℕ) (start : List ℤ) (m : Memory) (c : Call) (o : Outcome) : Type 0 where
-  refuses : (k : ℕ) → (k ≡ 9 → ⊥) → heard (call c) (o .answer) ≡ refused k → Alike (view m) (view (o .memory)) → Owed n start m c o
-  follows : heard (call c) (o .answer) ≡ step (setup n start) (view m) (meant c) .event → Alike (step (setup n start) (view m) (meant c) .replica) (view (o .memory))
+  refuses : (k : ℕ) → (k ≡ 9 → ⊥) → heard (call c) (o .answer) ≡ refused k → Alike (setup n start) (view m) (view (o .memory)) → Owed n start m c o
+  follows : heard (call c) (o .answer) ≡ step (setup n start) (view m) (meant c) .event → Alike (setup n start) (step (setup n start) (view m) (meant c) .replica) (view (o .memory))
       → Owed n start m c o
 
-pub alike-same : (r : Replica ℤ) → Alike r r
+pub alike-same : {S : Setup ℤ} (r : Replica ℤ) → Alike S r r
 alike-same r = record {
   own = refl;
   cursor = refl;
@@ -120,4 +129,9 @@ alike-same r = record {
   there = λ u h. h;
   back = λ u h. h;
   places = λ p. refl;
+  outages = λ t. refl;
 }
+
+-- a slot is out for the model where it is out
+pub out-same : (n : ℕ) (start : List ℤ) (m : Memory) → m .group .replicas ≡ n → (s : ℕ) → outHere (setup n start) (view m) s ≡ isOut (m .group) s
+out-same n start m size s = rw size refl

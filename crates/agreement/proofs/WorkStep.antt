@@ -1,4 +1,4 @@
--- A work does what the model's does: it passes a *next*, commits the replica's own writeset, or another's. Assumes nothing.
+-- A work does what the model's does: it passes an out slot or a *next*, commits the replica's own writeset, or another's. Assumes nothing.
 use Prim.Native.Nat.{ℕ, suc, _+_, _%_, _<_}
 use mathlib.Core.Path.{_≡_, refl, sym, ap, _∙_, subst}
 use mathlib.Core.Bool.{Bool, true, false, cond, not}
@@ -9,7 +9,7 @@ use lib.Dec.{eqb, ltb, leb}
 use lib.IntN.{ℤ}
 use lib.ListN.{length, getD}
 use borrow.Author.Tests.{eqb-true, eqb-false, eq-eqb, ne-eqb, ltb-true, le-leb, lt-leb}
-use Rattle.block.specs.Message.{Record}
+use Rattle.block.specs.Message.{ownerOf, Record}
 use Rattle.block.specs.Answers.{blockRefusal}
 use Rattle.block.proofs.BoolLaws.{both}
 use Rattle.memory.specs.declared.Turn.{Turn}
@@ -19,7 +19,7 @@ use Rattle.memory.specs.Rows.{rowOf, rowAt}
 use Rattle.memory.specs.Turns.{isOn, markApplying}
 use Rattle.engine.specs.Answers.{WorkDone, Outcome}
 use Rattle.engine.specs.Answers.Answer.{worked}
-use Rattle.engine.specs.Moves.{waiting, blockAtTurn, writesetAt, hitTickets, workRefusal, turnBlocks, passNext, isLast, commitWriteset}
+use Rattle.engine.specs.Moves.{outAtTurn, waiting, blockAtTurn, writesetAt, hitTickets, workRefusal, turnBlocks, passNext, isLast, commitWriteset, passOut}
 use Rattle.engine.specs.Calls.Call.{work}
 use Rattle.engine.specs.Shape.{Shape}
 use Rattle.engine.specs.Sent.{SentShape}
@@ -38,11 +38,12 @@ use Rattle.protocol.specs.Lists.{keep, anyOf}
 use Rattle.protocol.specs.Writesets.{Writeset, Message, noWriteset}
 use Rattle.protocol.specs.Replica.{Setup, Transaction, transactions, Replica, replica, passed, outcome}
 use Rattle.protocol.specs.Client.{findTxn, without}
-use Rattle.protocol.specs.Moves.{advance, cursorAfter, storeAfter, afterAborts, afterEnd, conflicts, abortedBy, isSent, clearTurn, blocksAfter, commitStep, workStep}
+use Rattle.protocol.specs.Moves as model
+use Rattle.protocol.specs.Moves.{outHere, advance, cursorAfter, storeAfter, afterAborts, afterEnd, conflicts, abortedBy, isSent, clearTurn, blocksAfter, commitStep, workStep}
 use Rattle.protocol.specs.System.{step}
 use Rattle.protocol.specs.Machine.{Alike}
 use Rattle.agreement.specs.Group.{writeOf, writesetFrom, messageIn, heard}
-use Rattle.agreement.proofs.View.{setup, placeAt, openTxns, cursorOf, storeOf, blocksOf, view, Sound, Owed, follows, txnOf}
+use Rattle.agreement.proofs.View.{out-same, setup, placeAt, openTxns, cursorOf, storeOf, blocksOf, view, Sound, Owed, follows, txnOf}
 use Rattle.agreement.proofs.ClientStep.{refused-owes}
 use Rattle.agreement.proofs.RowView.{find-row}
 use Rattle.agreement.proofs.RowChange.{SameMembers, row-closed}
@@ -52,11 +53,11 @@ use Rattle.agreement.proofs.AbortLaws.{queue-kept, rows-beside, Staged,
 
 -- ---- the model's work, where the message is found
 
-module _ (S : Setup ℤ) (r : Replica ℤ) (a : Message ℤ) (found : r .blocks .places (S .place (r .cursor .turn)) ≡ some a) where
+module _ (S : Setup ℤ) (r : Replica ℤ) (a : Message ℤ) (found : r .blocks .places (S .place (r .cursor .turn)) ≡ some a) (live : outHere S r (r .cursor .turn) ≡ false) where
   model-next : length (a .writesets) ≡ 0
       → workStep S r ≡ outcome (replica (r .own) (advance (r .cursor)) (r .store) (r .transactions) (clearTurn S (r .cursor) (r .blocks))) (passed (a .sender) [])
   unfolding workStep
-  model-next z = rw (found, eq-eqb (length (a .writesets)) 0 z)
+  model-next z = rw (live, found, eq-eqb (length (a .writesets)) 0 z)
 
   module _ (some : length (a .writesets) ≡ 0 → ⊥) (w : Writeset ℤ) (is : getD (a .writesets) (r .cursor .done) noWriteset ≡ w) where
     abbrev total : ℕ
@@ -66,13 +67,13 @@ module _ (S : Setup ℤ) (r : Replica ℤ) (a : Message ℤ) (found : r .blocks 
         → workStep S r ≡ outcome (replica (r .own) (cursorAfter total (r .cursor)) (storeAfter (w .writes) (r .store)) (afterEnd (w .ticket) (r .transactions))
         (blocksAfter S total (r .cursor) (r .blocks))) (Rattle.protocol.specs.Replica.Event.committed (a .sender) (w .ticket) [])
     unfolding workStep commitStep
-    model-own e s = rw (found, ne-eqb total 0 some, is, eq-eqb (a .sender) (r .own) e, s)
+    model-own e s = rw (live, found, ne-eqb total 0 some, is, eq-eqb (a .sender) (r .own) e, s)
 
     model-other : (a .sender ≡ r .own → ⊥)
         → workStep S r ≡ outcome (replica (r .own) (cursorAfter total (r .cursor)) (storeAfter (w .writes) (r .store)) (afterAborts (w .writes) (r .transactions))
         (blocksAfter S total (r .cursor) (r .blocks))) (Rattle.protocol.specs.Replica.Event.committed (a .sender) (w .ticket) (abortedBy (w .writes) (r .transactions .txns)))
     unfolding workStep commitStep
-    model-other d = rw (found, ne-eqb total 0 some, is, ne-eqb (a .sender) (r .own) d)
+    model-other d = rw (live, found, ne-eqb total 0 some, is, ne-eqb (a .sender) (r .own) d)
 
 -- ---- one fact each
 
@@ -99,13 +100,13 @@ cursor-same t done total false false u e = let z : done + 1 ≡ suc done = omega
 
 -- what the model does at a call is what the outcome shows
 owed-by : (n : ℕ) (start : List ℤ) (m : Memory) (o : Outcome) (q : Rattle.protocol.specs.Replica.Outcome ℤ) → workStep (setup n start) (view m) ≡ q
-    → heard (call work) (o .answer) ≡ q .event → Alike (q .replica) (view (o .memory)) → Owed n start m work o
+    → heard (call work) (o .answer) ≡ q .event → Alike (setup n start) (q .replica) (view (o .memory)) → Owed n start m work o
 unfolding step
 owed-by n start m o q e a b = follows (rw e a) (rw e b)
 
 -- ---- the block at the turn
 
-module _ (start : List ℤ) {over : ℕ} (m : Memory) (S : Shape over m) (Q : SentShape m) (k : Working m) where
+module _ (start : List ℤ) {over : ℕ} (m : Memory) (S : Shape over m) (Q : SentShape m) (k : Working m) (live : outAtTurn m ≡ false) where
   abbrev n : ℕ
   n = m .group .replicas
 
@@ -121,10 +122,13 @@ module _ (start : List ℤ) {over : ℕ} (m : Memory) (S : Shape over m) (Q : Se
   found : placeAt (m .blocks .places) (m .turn .slot % n) ≡ some (messageIn b)
   found = place-taken n (m .turn .slot) (m .blocks .places) (k .waits)
 
+  here : outHere (setup n start) (view m) (m .turn .slot) ≡ false
+  here = out-same n start m refl (m .turn .slot) ∙ live
+
   next-owes : getD b 0 0 ≡ 1 → Owed n start m work (passNext m)
   unfolding passNext heard
   next-owes h =
-      owed-by n start m (passNext m) _ (model-next (setup n start) (view m) (messageIn b) found (count-seen b ∙ taken-block b taken .next h))
+      owed-by n start m (passNext m) _ (model-next (setup n start) (view m) (messageIn b) found here (count-seen b ∙ taken-block b taken .next h))
       (ap (λ (i : ℕ). passed i []) (sym (sender-seen b)))
       (record {
         own = refl;
@@ -137,6 +141,7 @@ module _ (start : List ℤ) {over : ℕ} (m : Memory) (S : Shape over m) (Q : Se
         there = λ u q. q;
         back = λ u q. q;
         places = place-emptied n (m .turn .slot) (m .blocks .places) pos (S .lengths .places);
+        outages = λ t. refl;
       })
 
   -- ---- a writeset
@@ -163,10 +168,16 @@ module _ (start : List ℤ) {over : ℕ} (m : Memory) (S : Shape over m) (Q : Se
     places-same true e p = rw e (place-emptied n (m .turn .slot) (m .blocks .places) pos (S .lengths .places) p)
     places-same false e p = rw e
 
+    outages-same : (last : Bool) → eqb (suc (m .counts .done)) count ≡ last → (t : ℕ)
+        → blocksOf m .outages (ownerOf n t) ≡ blocksAfter (setup n start) count (cursorOf m) (blocksOf m) .outages (ownerOf n t)
+    unfolding blocksAfter
+    outages-same true e t = rw e
+    outages-same false e t = rw e
+
     -- all but the transactions
     commit-alike : (mine : Bool) (txns : List (Transaction ℤ)) (queue : List ℕ) → SameMembers txns (openTxns (committed m mine mine (isLast m) w .txns))
         → waiting (committed m mine mine (isLast m) w .txns .queue) ≡ queue
-        → Alike (replica (m .group .own) (cursorAfter count (cursorOf m)) (storeAfter (map writeOf (w .entries)) (storeOf m))
+        → Alike (setup n start) (replica (m .group .own) (cursorAfter count (cursorOf m)) (storeAfter (map writeOf (w .entries)) (storeOf m))
         (transactions (m .counts .tickets) txns queue) (blocksAfter (setup n start) count (cursorOf m) (blocksOf m))) (view (committed m mine mine (isLast m) w))
     commit-alike mine txns queue same left = record {
       own = refl;
@@ -181,6 +192,7 @@ module _ (start : List ℤ) {over : ℕ} (m : Memory) (S : Shape over m) (Q : Se
       there = same .there;
       back = same .back;
       places = places-same (isLast m) last-is;
+      outages = outages-same (eqb (suc (m .counts .done)) count) refl;
     }
 
     ticket : w .ticket ≡ 0 → ⊥
@@ -203,7 +215,7 @@ module _ (start : List ℤ) {over : ℕ} (m : Memory) (S : Shape over m) (Q : Se
         let open-sent : isSent (findTxn (w .ticket) (openTxns (m .txns))) ≡ true = rw (find-row m S (w .ticket) r) (unfold txnOf in s .right) in
         rw (ends-own table (w .ticket) ∙ its)
         (owed-by n start m (record { answer = commitWriteset m true w .answer; memory = committed m true true (isLast m) w }) _
-        (model-own (setup n start) (view m) (messageIn b) found any-writeset (writesetFrom w) (writeset-seen b taken (m .counts .done) more) (sender-seen b ∙ e) open-sent)
+        (model-own (setup n start) (view m) (messageIn b) found here any-writeset (writesetFrom w) (writeset-seen b taken (m .counts .done) more) (sender-seen b ∙ e) open-sent)
         (heard-committed n _ ticket ∙ ap (λ (i : ℕ). Rattle.protocol.specs.Replica.Event.committed i (w .ticket) []) (sym (sender-seen b)))
         (commit-alike true (without (w .ticket) (openTxns (m .txns))) (waiting (m .txns .queue)) (row-closed m S row r (f .live) (w .ticket) (f .is)) refl))
 
@@ -237,7 +249,7 @@ module _ (start : List ℤ) {over : ℕ} (m : Memory) (S : Shape over m) (Q : Se
     unfolding commitWriteset
     other-owes d =
         owed-by n start m (commitWriteset m false w) _
-        (model-other (setup n start) (view m) (messageIn b) found any-writeset (writesetFrom w) (writeset-seen b taken (m .counts .done) more) (λ e. d (sym (sender-seen b) ∙ e)))
+        (model-other (setup n start) (view m) (messageIn b) found here any-writeset (writesetFrom w) (writeset-seen b taken (m .counts .done) more) (λ e. d (sym (sender-seen b) ∙ e)))
         (heard-committed n _ ticket
         ∙ ap (λ (i : ℕ). Rattle.protocol.specs.Replica.Event.committed i (w .ticket) gone) (sym (sender-seen b))
         ∙ ap (Rattle.protocol.specs.Replica.Event.committed (messageIn b .sender) (w .ticket)) (sym hit))
@@ -247,6 +259,29 @@ module _ (start : List ℤ) {over : ℕ} (m : Memory) (S : Shape over m) (Q : Se
     by-sender true e = own-owes (eqb-true (getD b 1 0) (m .group .own) e)
     by-sender false e = other-owes (eqb-false (getD b 1 0) (m .group .own) e)
 
+-- ---- an out slot
+
+out-owes : (start : List ℤ) {over : ℕ} (m : Memory) → Shape over m → outAtTurn m ≡ true → Owed (m .group .replicas) start m work (passOut m)
+unfolding passOut heard workStep
+out-owes start m S u =
+    owed-by (m .group .replicas) start m (passOut m) _ passes refl
+    (record {
+      own = refl;
+      cursor = rw (bumps m S .slot);
+      commits = refl;
+      values = refl;
+      stamps = λ i. refl;
+      tickets = refl;
+      queue = refl;
+      there = λ t h. h;
+      back = λ t h. h;
+      places = λ p. refl;
+      outages = λ t. refl;
+    })
+  where
+    passes : workStep (setup (m .group .replicas) start) (view m) ≡ model.passOut (setup (m .group .replicas) start) (view m)
+    passes = rw (out-same (m .group .replicas) start m refl (m .turn .slot) ∙ u)
+
 never-nine : (m : Memory) → workRefusal m ≡ 9 → ⊥
 unfolding workRefusal
 never-nine m = not-first 9 _ refl
@@ -254,7 +289,8 @@ never-nine m = not-first 9 _ refl
 owes-here : (start : List ℤ) {over : ℕ} (m : Memory) → Shape over m → SentShape m → Owed (m .group .replicas) start m work (Rattle.engine.specs.Calls.step m work)
 unfolding heard
 owes-here start m S Q =
-    work-by (Owed (m .group .replicas) start m work) m (λ z h. next-owes start m S Q (working m S z) h) (λ z h. by-sender start m S Q (working m S z) h _ refl)
+    work-by (Owed (m .group .replicas) start m work) m (λ z u. out-owes start m S u)
+    (λ a h. next-owes start m S Q (working m S a) (a .live) h) (λ a h. by-sender start m S Q (working m S a) (a .live) h _ refl)
     (λ z. refused-owes (m .group .replicas) start m work (workRefusal m) (never-nine m))
 
 pub work-owes : (n : ℕ) (start : List ℤ) (m : Memory) → Sound n m → Owed n start m work (Rattle.engine.specs.Calls.step m work)

@@ -10,6 +10,7 @@ use Rattle.block.specs.Form.{messageOf}
 use Rattle.block.specs.Answers.{blockRefusal}
 use Rattle.block.specs.Theorems.{AreBytes}
 use Rattle.memory.specs.Memory.{Memory}
+use Rattle.memory.specs.Notices.{Notice}
 use Rattle.engine.specs.Make.{Setting}
 use Rattle.engine.specs.Answers.Answer.{sent, kept, restarted}
 use Rattle.engine.specs.Moves.{messageFor}
@@ -23,7 +24,8 @@ pub record ReadsBack : Type 0 where
   pub sends : (n : ℕ) (start : List ℤ) → Setting n start → (cs : List CallAt) → Calls n cs → (k : ℕ) → k < n → (lent block : List ℕ)
       → let m = run (fresh n start) cs .memories k in step m (send lent) .answer ≡ sent block → (blockRefusal block ≡ 0) × (messageOf block ≡ messageFor m)
   -- the block that a restart gives back, on any memory and from any journal
-  pub restarts : (m : Memory) (n own : ℕ) (values : List ℤ) (journal lent : List ℕ) (count : ℕ) (block : List ℕ) → restartStep m n own values journal lent .answer ≡ restarted count block
+  pub restarts : (m : Memory) (n own : ℕ) (values : List ℤ) (journal : List ℕ) (notices : List Notice) (lent : List ℕ) (count : ℕ) (block : List ℕ)
+      → restartStep m n own values journal notices lent .answer ≡ restarted count block
       → (block ≡ replicate 512 0) ⊎ (blockRefusal block ≡ 0)
   -- on any memory
   pub keeps : (m : Memory) (bytes : List ℕ) → AreBytes bytes → step m (deliver bytes) .answer ≡ kept → bytes ≡ blockOf (messageOf bytes)

@@ -3,6 +3,7 @@ use Prim.Native.Nat.{ℕ}
 use mathlib.Core.Path.{_≡_}
 use mathlib.Core.List.{List, List·Nodup, map}
 use lib.IntN.{ℤ}
+use Rattle.memory.specs.Notices.{Notice}
 use Rattle.engine.specs.Make.{Setting}
 use Rattle.engine.specs.Answers.Answer.{restarted}
 use Rattle.engine.specs.Client.{reportOf}
@@ -18,6 +19,7 @@ pub record Tickets : Type 0 where
       → List·Nodup (map idOf (sequence (run (fresh n start) cs .handouts)))
   -- nor does one stand twice in the own blocks of the journal that an accepted restart is lent, all else as the premise has it: `repeated` is 0, and Report's counts after it are those of the blocks
   pub restarts : (n : ℕ) (start : List ℤ) → Setting n start → (cs : List CallAt) → Calls n cs → Premise n start cs
-      → (before : List CallAt) (k : ℕ) (journal block : List ℕ) (count : ℕ) (given : List ℕ) → Comes cs before (record { at = k; does = restart n k start journal block })
-      → let o = restartStep (run (fresh n start) before .memories k) n k start journal block in o .answer ≡ restarted count given
+      → (before : List CallAt) (k : ℕ) (journal : List ℕ) (notices : List Notice) (block : List ℕ) (count : ℕ) (given : List ℕ)
+      → Comes cs before (record { at = k; does = restart n k start journal notices block })
+      → let o = restartStep (run (fresh n start) before .memories k) n k start journal notices block in o .answer ≡ restarted count given
       → List·Nodup (ownTickets k (blocksIn n journal)) × CountsOf k (blocksIn n journal) (reportOf (o .memory))

@@ -6,10 +6,11 @@ use lib.IntN.{ℤ, pos}
 use lib.ListN.{replicate, set, take, getD}
 use Rattle.block.specs.Message.{Record}
 use Rattle.block.specs.Bytes.{blockOf}
+use Rattle.memory.specs.Notices.{Notice}
 use Rattle.engine.specs.Answers.{numberOf}
 use Rattle.engine.specs.Calls.{Call, step}
-use Rattle.engine.specs.Calls.Call.{begin, write, ask, send, deliver, work}
-use Rattle.engine.specs.Worked.{zeros}
+use Rattle.engine.specs.Calls.Call.{begin, write, ask, send, deliver, work, notice}
+use Rattle.engine.specs.Worked.{zeros, outFrom}
 use Rattle.protocol.specs.Writesets.{newWrite}
 use Rattle.protocol.specs.Observer.{TxnId, Placed, Handout}
 use Rattle.engine.specs.History.AnyCall.{call, restart}
@@ -45,15 +46,39 @@ calls = at 0 (begin ∷ write 1 5 (pos 7) ∷ ask 1 ∷ begin ∷ write 2 6 (pos
 
 -- a restart of replica 1 from both blocks, with a torn one behind
 abbrev pub tornRestart : CallAt
-tornRestart = record { at = 1; does = restart 3 1 start (block0 ++ (block1 ++ take 100 block0)) noBlock }
+tornRestart = record { at = 1; does = restart 3 1 start (block0 ++ (block1 ++ take 100 block0)) [] noBlock }
 
 -- a restart of replica 1 from no journal, lent this number and these values
 abbrev pub restartWith : ℕ → List ℤ → List CallAt
-restartWith own values = record { at = 1; does = restart 3 own values [] noBlock } ∷ []
+restartWith own values = record { at = 1; does = restart 3 own values [] [] noBlock } ∷ []
 
 -- replica 0 sends at once, a *next*
 abbrev pub nextBlock : List ℕ
 nextBlock = blockOf (record { kind = 1; sender = 0; replicas = 3; slot = 0; records = [] })
+
+-- the *next* of slot 1
+abbrev pub nextBlock1 : List ℕ
+nextBlock1 = blockOf (record { kind = 1; sender = 1; replicas = 3; slot = 1; records = [] })
+
+-- replica 1 has committed that of slot 0, and sent nothing
+abbrev pub toNotice : List CallAt
+toNotice = at 0 (send noBlock ∷ []) ++ at 1 (deliver nextBlock ∷ work ∷ [])
+
+-- a restart of replica 1 from a journal, lent those notices
+abbrev pub restartLent : List ℕ → List Notice → List CallAt
+restartLent journal l = record { at = 1; does = restart 3 1 start journal l noBlock } ∷ []
+
+-- the *next* of slot 2
+abbrev pub nextBlock2 : List ℕ
+nextBlock2 = blockOf (record { kind = 1; sender = 2; replicas = 3; slot = 2; records = [] })
+
+-- replica 2 takes a notice with slot 0, which station 3 has left without it
+abbrev pub stationAhead : List CallAt
+stationAhead = at 0 (send noBlock ∷ []) ++ (at 3 (deliver nextBlock ∷ work ∷ []) ++ at 2 (notice (outFrom 1 0) ∷ []))
+
+-- replica 1 takes one about slot 0, whose block was handed out, and passes the slot
+abbrev pub outHanded : List CallAt
+outHanded = at 0 (send noBlock ∷ []) ++ at 1 (notice (outFrom 0 0) ∷ work ∷ [])
 
 abbrev pub after : List CallAt → Members
 after cs = run (fresh 3 start) cs
@@ -102,3 +127,16 @@ pub record RightGroup : Type 0 where
   pub other-values : Premise 3 start (restartWith 1 zeros) → ⊥
   -- a value of 33 bits is not written
   pub too-large : Calls 3 (at 0 (write 1 5 (pos 2147483648) ∷ [])) → ⊥
+  -- document 02's Req 10: another's block may be lost; what is there when a notice is taken is not, nor the *next* of an out slot, passed by a work or committed by a restart
+  pub no-floor : after toNotice .disks 1 ≡ disk nextBlock 0
+  pub notice-floor : after (toNotice ++ at 1 (notice (outFrom 1 1) ∷ [])) .disks 1 ≡ disk nextBlock 512
+  pub out-floor : after (toNotice ++ at 1 (notice (outFrom 1 1) ∷ work ∷ [])) .disks 1 ≡ disk (nextBlock ++ nextBlock1) 1024
+  pub restart-floor : after (restartLent (nextBlock ++ (nextBlock1 ++ nextBlock2)) (outFrom 1 1 ∷ [])) .disks 1 ≡ disk (nextBlock ++ (nextBlock1 ++ nextBlock2)) 1024
+  pub floor-kept : after (toNotice ++ (at 1 (notice (outFrom 2 5) ∷ []) ++ restartLent nextBlock (outFrom 2 5 ∷ []))) .disks 1 ≡ disk nextBlock 512
+  pub taken : after (at 1 (notice (outFrom 2 5) ∷ notice (outFrom 2 6) ∷ notice (outFrom 0 3) ∷ [])) .taken 1 ≡ outFrom 2 5 ∷ outFrom 0 3 ∷ []
+  -- a restart that is accepted was lent the notices taken
+  pub other-notices : Premise 3 start (restartLent [] (outFrom 1 1 ∷ [])) → ⊥
+  -- no station stands above a notice that it lacks
+  pub station-ahead : Premise 3 start stationAhead → ⊥
+  -- no block was handed out for an out slot
+  pub out-handed : Premise 3 start outHanded → ⊥

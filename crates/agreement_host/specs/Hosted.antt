@@ -1,28 +1,38 @@
--- A host's calls are the engine's. The contracts of the exported functions that are lent a table have `called`, which puts the test of its length in front of a step (a deliver
--- and a load are lent none, and have the step itself), and a work also has `withBlock`, the test of the bytes lent for the block to append; on every memory that calls lead to, with 512 bytes
--- lent, it is the step, and with any other length it is refused by 1. In front of the table's length a write and a send have the test for a station, `unlessStation`. So what is
--- proved of lists of calls, the agreement of the copies too, is proved of what hosts' calls do, one after the other, restarts too.
-use Prim.Native.Nat.{ℕ}
+-- A host's calls are the engine's. The contracts of the exported functions that are lent a table have `called`, which puts the test of its length in front of a step (a deliver,
+-- a load, an out and a back are lent none, and have the step itself), and a work also has `withBlock`, the test of the bytes lent for the block to append; on every memory that calls lead to, with
+-- 512 bytes lent, it is the step, and with any other length it is refused by 1. In front of the table's length a write and a send have the test for a station, `unlessStation`. A restart is
+-- lent its notices as numbers, `restartLent`: three for each, and any other length is refused by 1. So what is proved of lists of calls, the agreement of the copies too, is proved of what
+-- hosts' calls do, one after the other, restarts too.
+use Prim.Native.Nat.{ℕ, _%_}
 use mathlib.Core.Path.{_≡_}
-use mathlib.Core.Bool.{true}
+use mathlib.Core.Bool.{true, false, cond}
 use mathlib.Core.List.{List, [], _∷_, map}
 use lib.IntN.{ℤ}
 use lib.ListN.{length}
 use Rattle.memory.specs.Memory.{Memory, isStation}
+use Rattle.memory.specs.Notices.{Notice}
 use Rattle.engine.specs.Answers.{Outcome, outcome, unlessStation}
 use Rattle.engine.specs.Answers.Answer.{refused}
 use Rattle.engine.specs.Make.{Setting, SettingOf, madeMemory, makeStep}
 use Rattle.engine.specs.Moves.{sendStep, deliverStep, workStep}
 use Rattle.engine.specs.Classes.{loadStep}
 use Rattle.engine.specs.Client.{beginStep, readStep, writeStep, askStep, withdrawStep, reportStep}
+use Rattle.engine.specs.Notices.{noticeStep}
 use Rattle.engine.specs.Calls.{Call, step, after}
-use Rattle.engine.specs.Calls.Call.{begin, read, write, ask, withdraw, report, send, deliver, work, load}
-use Rattle.engine.specs.Restart.{restartStep}
+use Rattle.engine.specs.Calls.Call.{begin, read, write, ask, withdraw, report, send, deliver, work, load, notice}
 use Rattle.engine.specs.Station.{stationMemory, stationStep}
 use Rattle.engine.specs.History.{AnyCall, anyStep, afterAll}
 use Rattle.engine.specs.History.AnyCall.{call, restart}
 use Rattle.call_reply.specs.Called.{called, withBlock}
+use Rattle.call_reply.specs.Notices.{noticesIn, restartLent}
 use Rattle.agreement.specs.Group.{Members, CallAt, nextBy, fresh, run, Calls}
+
+-- *Out k from v* and *Back k at w*: each is a call of its own
+abbrev pub outStep : Memory → (k v : ℕ) → Outcome
+outStep m k v = noticeStep m (record { about = k; out = true; slot = v })
+
+abbrev pub backStep : Memory → (k w : ℕ) → Outcome
+backStep m k w = noticeStep m (record { about = k; out = false; slot = w })
 
 -- a host's call at one replica or station
 abbrev pub hostStep : Memory → Call → Outcome
@@ -36,11 +46,17 @@ hostStep m (send b) = unlessStation m (called (λ x. sendStep x b) m)
 hostStep m (deliver b) = deliverStep m b
 hostStep m work = called workStep m
 hostStep m (load l) = loadStep m l
+hostStep m (notice a) = cond (a .out) (outStep m (a .about) (a .slot)) (backStep m (a .about) (a .slot))
+
+-- the notices in numbers
+unfoldable pub numbersOf : List Notice → List ℕ
+numbersOf [] = []
+numbersOf (a ∷ l) = a .about ∷ (cond (a .out) 1 0 ∷ (a .slot ∷ numbersOf l))
 
 -- or a restart
 abbrev pub hostAny : Memory → AnyCall → Outcome
 hostAny m (call c) = hostStep m c
-hostAny m (restart n own values journal block) = called (λ x. restartStep x n own values journal block) m
+hostAny m (restart n own values journal notices block) = called (λ x. restartLent x n own values journal (numbersOf notices) block) m
 
 -- what a list of them leaves
 unfoldable pub hostAfter : Memory → List AnyCall → Memory
@@ -63,6 +79,12 @@ pub record Hosted : Type 0 where
   pub works : (m : Memory) (block : List ℕ) → length block ≡ 512 → called (withBlock block workStep) m ≡ called workStep m
   -- lent any other length it is refused by 1, whatever the table, and the memory is as before
   pub works-not : (m : Memory) (block : List ℕ) → (length block ≡ 512 → ⊥) → called (withBlock block workStep) m ≡ outcome (refused 1) m
+  -- a restart that is lent three numbers for each notice, a kind above 1 also for an Out
+  pub restarts : (m : Memory) (n own : ℕ) (values : List ℤ) (journal numbers block : List ℕ) → length numbers % 3 ≡ 0
+      → called (λ x. restartLent x n own values journal numbers block) m ≡ hostAny m (restart n own values journal (noticesIn numbers) block)
+  -- lent any other length it is refused by 1, whatever the table, and the memory is as before
+  pub restarts-not : (m : Memory) (n own : ℕ) (values : List ℤ) (journal numbers block : List ℕ) → (length numbers % 3 ≡ 0 → ⊥)
+      → called (λ x. restartLent x n own values journal numbers block) m ≡ outcome (refused 1) m
   -- one call or restart
   pub steps : (n own : ℕ) (values : List ℤ) → SettingOf n own values → (cs : List AnyCall) (c : AnyCall)
       → let m = afterAll (madeMemory n own values) cs in hostAny m c ≡ anyStep m c

@@ -1,7 +1,7 @@
 -- The blocks handed out: each is good and of this group; the one of a replica's turn that it has sent is its block sent last. Assumes nothing.
 use Prim.Native.Nat.{ℕ}
 use mathlib.Core.Path.{_≡_, refl, sym, ap, _∙_, subst}
-use mathlib.Core.Bool.{Bool, true, false, cond}
+use mathlib.Core.Bool.{Bool, true, false, cond, not, _&&_}
 use mathlib.Core.Logic.{_⊎_, inl, inr}
 use mathlib.Core.Option.{none, some}
 use mathlib.Core.List.{List, List·Memᴰ·append-cases, List·Memᴰ·cases-cons, List·Memᴰ·head, List·Memᴰ·not-nil, List·Memᴰ·tail, [], _∷_, _++_}
@@ -13,19 +13,21 @@ use Rattle.block.specs.Message.{Record}
 use Rattle.block.specs.Bytes.{blockOf}
 use Rattle.block.specs.Form.{messageOf}
 use Rattle.block.specs.Answers.{blockRefusal, headerOf}
+use Rattle.block.proofs.BoolLaws.{both}
 use Rattle.block.proofs.Theorems.{theorems}
 use Rattle.memory.specs.Memory.{Memory}
+use Rattle.memory.specs.Notices.{Notice, putsOut}
 use Rattle.engine.specs.Answers.{Outcome}
 use Rattle.engine.specs.Answers.Answer.{restarted}
 use Rattle.engine.specs.Client.{beginAt, readOnlyAt, queueAt, rewriteAt, insertWrite, staleAt, withdrawAt, reportStep}
-use Rattle.engine.specs.Moves.{messageFor, sentAlready, sendRefusal, sendNow, deliverNow, blockAtTurn, writesetAt, isLast, passNext, commitWriteset}
+use Rattle.engine.specs.Moves.{messageFor, sentAlready, sendRefusal, sendNow, deliverNow, blockAtTurn, writesetAt, isLast, passNext, commitWriteset, passOut}
 use Rattle.engine.specs.Calls.{Call, step}
-use Rattle.engine.specs.Calls.Call.{begin, read, write, ask, withdraw, report, send, deliver, work, load}
+use Rattle.engine.specs.Calls.Call.{begin, read, write, ask, withdraw, report, send, deliver, work, load, notice}
 use Rattle.engine.specs.Restart.{isFrom, blocksIn, lastOwn, restartedMemory, restartStep}
 use Rattle.engine.specs.History.{AnyCall, anyStep}
 use Rattle.engine.specs.History.AnyCall.{call, restart}
 use Rattle.engine.proofs.Tests.{cond-by, clash}
-use Rattle.engine.proofs.Steps.{begin-by, read-by, write-by, ask-by, withdraw-by, send-by, deliver-by, work-by, load-by, restart-by}
+use Rattle.engine.proofs.Steps.{begin-by, read-by, write-by, ask-by, withdraw-by, send-by, deliver-by, work-by, load-by, notice-by, restart-by}
 use Rattle.engine.proofs.Passed.{send-passed}
 use Rattle.engine.proofs.RestartLaws.{AllGood, good-taken, good-replicas, reads-good}
 use Rattle.engine.proofs.ShapeWriteset.{committed}
@@ -109,7 +111,7 @@ module _ (n k : ℕ) (m : Memory) (B : List (List ℕ)) (s : Sound n m) (own : m
   worked-last false false w = L
 
   hands-call : (c : Call) → Hands n k B (step m c)
-  unfolding beginAt staleAt rewriteAt insertWrite readOnlyAt queueAt withdrawAt deliverNow passNext commitWriteset
+  unfolding beginAt staleAt rewriteAt insertWrite readOnlyAt queueAt withdrawAt deliverNow passNext commitWriteset passOut
   hands-call begin = begin-by (Hands n k B) m (λ e. quiet _ refl L) (λ e. quiet _ refl L)
   hands-call (read t i) = read-by (Hands n k B) m t i (λ e. quiet _ refl L) (λ e. quiet _ refl L)
   hands-call (write t i v) = write-by (Hands n k B) m t i v (λ e. quiet _ refl L) (λ e o. quiet _ refl L) (λ e o. quiet _ refl L) (λ i e q. quiet _ refl L)
@@ -119,23 +121,28 @@ module _ (n k : ℕ) (m : Memory) (B : List (List ℕ)) (s : Sound n m) (own : m
   hands-call (send b) = send-by (Hands n k B) m b (sent-hands b) (λ i e q. quiet _ refl L)
   hands-call (deliver b) = deliver-by (Hands n k B) m b (λ e. quiet _ refl L) (λ e. quiet _ refl L)
   hands-call work = work-by (Hands n k B) m
+      (λ e u. quiet (passOut m) refl (λ t. clash {b = false} t refl))
       (λ e q. quiet (passNext m) refl (λ t. clash {b = false} t refl))
       (λ e q. quiet _ refl (worked-last (eqb (getD (blockAtTurn m) 1 0) (m .group .own)) (isLast m) (writesetAt (blockAtTurn m) (m .counts .done))))
       (λ e. quiet _ refl L)
   hands-call (load l) = load-by (Hands n k B) m l (λ e. quiet _ refl L) (λ e. quiet _ refl L)
+  hands-call (notice a) = notice-by (Hands n k B) m a (λ e. quiet _ refl L) (λ e. quiet _ refl L)
 
   -- ---- a restart
 
   abbrev Back : List ℕ → Type 0
   Back b = (getD b 0 0 ≡ 0) ⊎ NewBlock n k b
 
-  last-back : (d : List ℕ) (bs : List (List ℕ)) → AllGood n bs → Back d → Back (lastOwn k d bs)
+  last-back : (l : List Notice) (d : List ℕ) (bs : List (List ℕ)) → AllGood n bs → Back d → Back (lastOwn k l d bs)
   unfolding lastOwn headerOf
-  last-back d [] g h = h
-  last-back d (b ∷ bs) g h =
-      last-back (cond (isFrom k b) b d) bs (λ c q. g c (List·Memᴰ·tail q))
-      (cond-by Back (isFrom k b)
-      (λ e. let q = g b (List·Memᴰ·head refl) in inr (record { good = record { taken = good-taken n b q; replicas = good-replicas n b q }; sender = eqb-true (getD b 1 0) k e }))
+  last-back l d [] g h = h
+  last-back l d (b ∷ bs) g h =
+      last-back l (cond (isFrom k b && not (putsOut false l k (headerOf b .slot))) b d) bs (λ c q. g c (List·Memᴰ·tail q))
+      (cond-by Back (isFrom k b && not (putsOut false l k (headerOf b .slot)))
+      (λ e. let q = g b (List·Memᴰ·head refl) in inr (record {
+        good = record { taken = good-taken n b q; replicas = good-replicas n b q };
+        sender = eqb-true (getD b 1 0) k (both (isFrom k b) _ e .left);
+      }))
       (λ e. h))
 
   given-back : (b : List ℕ) → Back b → Grown n k B (opt (cond (eqb (getD b 0 0) 0) none (some b)) B (λ (x : List ℕ). B ++ (x ∷ [])))
@@ -146,16 +153,17 @@ module _ (n k : ℕ) (m : Memory) (B : List (List ℕ)) (s : Sound n m) (own : m
       go false e (inl z) = absurd (eqb-false (getD b 0 0) 0 e z)
       go false e (inr w) = one-more n k B b w
 
-  hands-restart : (start : List ℤ) (size own : ℕ) (values : List ℤ) (j l : List ℕ) → Ours n start k m (restart size own values j l) → Hands n k B (restartStep m size own values j l)
+  hands-restart : (start : List ℤ) (size own : ℕ) (values : List ℤ) (j : List ℕ) (a : List Notice) (l : List ℕ) → Ours n start k m (restart size own values j a l)
+      → Hands n k B (restartStep m size own values j a l)
   unfolding restartedMemory
-  hands-restart start size own values j l =
-      restart-by (λ (o : Outcome). ((x : ℕ) (y : List ℕ) → o .answer ≡ restarted x y → AsMade n start k size own values) → Hands n k B o) m size own values j l
+  hands-restart start size own values j a l =
+      restart-by (λ (o : Outcome). ((x : ℕ) (y : List ℕ) → o .answer ≡ restarted x y → AsMade n start k size own values) → Hands n k B o) m size own values j a l
       (λ e f. let z = f _ _ refl in record {
-        grown = rw (z .0, z .1) (given-back (lastOwn k (replicate 512 0) (blocksIn n j)) (last-back (replicate 512 0) (blocksIn n j) (reads-good n 0 _ j) (inl refl)));
+        grown = rw (z .0, z .1) (given-back (lastOwn k a (replicate 512 0) (blocksIn n j)) (last-back a (replicate 512 0) (blocksIn n j) (reads-good n 0 _ j) (inl refl)));
         last = λ t. clash {b = false} t refl;
       })
       (λ e f. quiet _ refl L)
 
   pub hands : (start : List ℤ) (c : AnyCall) → Ours n start k m c → Hands n k B (anyStep m c)
   hands start (call c) f = hands-call c
-  hands start (restart size own values j l) f = hands-restart start size own values j l f
+  hands start (restart size own values j a l) f = hands-restart start size own values j a l f

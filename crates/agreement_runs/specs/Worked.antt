@@ -72,7 +72,7 @@ forgery =
 
 -- of replica k of n, lent what it was made with
 abbrev pub restarting : ℕ → ℕ → List ℕ → CallAt
-restarting n k journal = record { at = k; does = restart n k zeros journal (replicate 512 0) }
+restarting n k journal = record { at = k; does = restart n k zeros journal [] (replicate 512 0) }
 
 abbrev pub first : List ℕ
 first = blockCommitting 0 0 1 10 (pos 80)
@@ -129,12 +129,14 @@ halfApplied =
     ++ taking 2 twoWritesets
 
 -- the n is set at both; the block is applied, and what replica 1 wrote is sent
-abbrev pub classes : List CallAt
-classes =
-    halfApplied
-    ++ (at 1 (write 1 5 (pos 84)) ∷ at 2 (write 1 5 (pos 86)) ∷ at 1 work ∷ at 2 work ∷ at 1 (ask 1) ∷ sending 1 ∷ taking 1 (blockCommitting 1 1 1 5 (pos 84)))
+abbrev pub writing : List CallAt
+writing =
+    (at 1 (write 1 5 (pos 84)) ∷ at 2 (write 1 5 (pos 86)) ∷ at 1 work ∷ at 2 work ∷ at 1 (ask 1) ∷ sending 1 ∷ taking 1 (blockCommitting 1 1 1 5 (pos 84)))
     ++ taking 0 (blockCommitting 1 1 1 5 (pos 84))
     ++ taking 2 (blockCommitting 1 1 1 5 (pos 84))
+
+abbrev pub classes : List CallAt
+classes = halfApplied ++ writing
 
 -- ---- and stations
 
@@ -162,8 +164,11 @@ pub record HeldBy : Type 0 where
   pub values : List ℤ
   pub commits : ℕ
 
+abbrev pub heldIn : Members → ℕ → HeldBy
+heldIn g k = record { values = g .memories k .store .values; commits = reportOf (g .memories k) .commits }
+
 abbrev pub held : List CallAt → ℕ → HeldBy
-held cs k = record { values = after cs .memories k .store .values; commits = reportOf (after cs .memories k) .commits }
+held cs k = heldIn (after cs) k
 
 abbrev pub holding : List ℤ → ℕ → HeldBy
 holding values commits = record { values = values; commits = commits }
@@ -229,9 +234,9 @@ pub record Seen : Type 0 where
 
 abbrev pub seen : Members → Seen
 seen g = record {
-  replica-0 = holding (g .memories 0 .store .values) (reportOf (g .memories 0) .commits);
-  station-3 = holding (g .memories 3 .store .values) (reportOf (g .memories 3) .commits);
-  station-4 = holding (g .memories 4 .store .values) (reportOf (g .memories 4) .commits);
+  replica-0 = heldIn g 0;
+  station-3 = heldIn g 3;
+  station-4 = heldIn g 4;
   applied-before = step (g .memories 3) (read 2 10) .answer;
   applied-after = step (g .memories 3) (read 2 20) .answer;
   report = reportOf (g .memories 3);

@@ -1,2 +1,3 @@
 -- The laws that the writers' proofs cite, and those of who calls them.
 pub mod WriterLaws
+pub mod WholeLaws

@@ -19,6 +19,7 @@ use Rattle.block.proofs.BoolLaws.{both}
 use Rattle.memory.specs.declared.Group.{Group}
 use Rattle.memory.specs.declared.Turn.{Turn}
 use Rattle.memory.specs.Memory.{Memory, withBlocks}
+use Rattle.memory.specs.Notices.{isOut}
 use Rattle.memory.specs.Turns.{isOn, placeStart}
 use Rattle.engine.specs.Answers.{outcome}
 use Rattle.engine.specs.Answers.Answer.{refused, kept}
@@ -128,6 +129,7 @@ module _ (m : Memory) (bytes : List ℕ) where
           ≡ firstOf
           (refuse 16 (not (eqb (h .replicas) (m .group .replicas)))
           ∷ refuse 17 (ltb (h .slot) (m .turn .slot))
+          ∷ refuse 29 (isOut (m .group) (h .slot))
           ∷ refuse 18 (leb (m .turn .slot + m .group .replicas) (h .slot))
           ∷ refuse 19 (eqb (h .sender) (m .group .own) && not (isOn (m .turn .sent) && sameBytes bytes (m .blocks .outbox)))
           ∷ refuse 20 (not (eqb (getD (m .blocks .places) (placeStart (m .group .replicas) (h .slot)) 0) 0))
@@ -144,52 +146,44 @@ module _ (m : Memory) (bytes : List ℕ) where
         unfolding firstOf
         refused-past l = rw (past, eq-eqb (h .replicas) (m .group .replicas) group, lt-ltb (h .slot) (m .turn .slot) l)
 
-        module _ (low : m .turn .slot ≤ h .slot) where
-          pub refused-ahead : m .group .replicas ≤ h .slot - m .turn .slot → 18 ≡ deliverRefusal m bytes
+        module _ (low : m .turn .slot ≤ h .slot) (out : Bool) (said : out ≡ isOut (m .group) (h .slot)) where
+          pub refused-out : out ≡ true → 29 ≡ deliverRefusal m bytes
           unfolding firstOf
-          refused-ahead l =
-              rw (
-                past,
-                eq-eqb (h .replicas) (m .group .replicas) group,
-                le-ltb (h .slot) (m .turn .slot) low,
-                le-leb (m .turn .slot + m .group .replicas) (h .slot) (omega arith),
-              )
+          refused-out e = rw (past, eq-eqb (h .replicas) (m .group .replicas) group, le-ltb (h .slot) (m .turn .slot) low, ← said, e)
 
-          module _ (high : h .slot - m .turn .slot < m .group .replicas) (own : Bool)
-              (foreign : own ≡ eqb (h .sender) (m .group .own) && not (isOn (m .turn .sent) && sameBytes bytes (m .blocks .outbox))) where
-            pub refused-own : own ≡ true → 19 ≡ deliverRefusal m bytes
+          module _ (live : out ≡ false) where
+            -- past the slot's own tests
+            near : deliverRefusal m bytes
+                ≡ firstOf
+                (refuse 18 (leb (m .turn .slot + m .group .replicas) (h .slot))
+                ∷ refuse 19 (eqb (h .sender) (m .group .own) && not (isOn (m .turn .sent) && sameBytes bytes (m .blocks .outbox)))
+                ∷ refuse 20 (not (eqb (getD (m .blocks .places) (placeStart (m .group .replicas) (h .slot)) 0) 0))
+                ∷ [])
             unfolding firstOf
-            refused-own e =
-                rw (
-                  past,
-                  eq-eqb (h .replicas) (m .group .replicas) group,
-                  le-ltb (h .slot) (m .turn .slot) low,
-                  lt-leb (m .turn .slot + m .group .replicas) (h .slot) (omega arith),
-                  ← foreign,
-                  e,
-                )
+            near = rw (past, eq-eqb (h .replicas) (m .group .replicas) group, le-ltb (h .slot) (m .turn .slot) low, ← said, live)
 
-            module _ (here : own ≡ false) (at : ℕ) (place : at ≡ placeStart (m .group .replicas) (h .slot)) where
-              last : deliverRefusal m bytes ≡ firstOf (refuse 20 (not (eqb (getD (m .blocks .places) at 0) 0)) ∷ [])
-              unfolding firstOf
-              last =
-                  rw (
-                    past,
-                    eq-eqb (h .replicas) (m .group .replicas) group,
-                    le-ltb (h .slot) (m .turn .slot) low,
-                    lt-leb (m .turn .slot + m .group .replicas) (h .slot) (omega arith),
-                    ← foreign,
-                    here,
-                    ← place,
-                  )
+            pub refused-ahead : m .group .replicas ≤ h .slot - m .turn .slot → 18 ≡ deliverRefusal m bytes
+            unfolding firstOf
+            refused-ahead l = rw (near, le-leb (m .turn .slot + m .group .replicas) (h .slot) (omega arith))
 
-              pub refused-taken : (getD (m .blocks .places) at 0 ≡ 0 → ⊥) → 20 ≡ deliverRefusal m bytes
+            module _ (high : h .slot - m .turn .slot < m .group .replicas) (own : Bool)
+                (foreign : own ≡ eqb (h .sender) (m .group .own) && not (isOn (m .turn .sent) && sameBytes bytes (m .blocks .outbox))) where
+              pub refused-own : own ≡ true → 19 ≡ deliverRefusal m bytes
               unfolding firstOf
-              refused-taken d = rw (last, ne-eqb (getD (m .blocks .places) at 0) 0 d)
+              refused-own e = rw (near, lt-leb (m .turn .slot + m .group .replicas) (h .slot) (omega arith), ← foreign, e)
 
-              pub refused-not : getD (m .blocks .places) at 0 ≡ 0 → 0 ≡ deliverRefusal m bytes
-              unfolding firstOf
-              refused-not e = rw (last, eq-eqb (getD (m .blocks .places) at 0) 0 e)
+              module _ (here : own ≡ false) (at : ℕ) (place : at ≡ placeStart (m .group .replicas) (h .slot)) where
+                last : deliverRefusal m bytes ≡ firstOf (refuse 20 (not (eqb (getD (m .blocks .places) at 0) 0)) ∷ [])
+                unfolding firstOf
+                last = rw (near, lt-leb (m .turn .slot + m .group .replicas) (h .slot) (omega arith), ← foreign, here, ← place)
+
+                pub refused-taken : (getD (m .blocks .places) at 0 ≡ 0 → ⊥) → 20 ≡ deliverRefusal m bytes
+                unfolding firstOf
+                refused-taken d = rw (last, ne-eqb (getD (m .blocks .places) at 0) 0 d)
+
+                pub refused-not : getD (m .blocks .places) at 0 ≡ 0 → 0 ≡ deliverRefusal m bytes
+                unfolding firstOf
+                refused-not e = rw (last, eq-eqb (getD (m .blocks .places) at 0) 0 e)
 
 -- ---- the place
 

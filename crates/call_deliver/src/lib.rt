@@ -17,6 +17,7 @@ use memory::Group;
 use memory::Turn;
 use memory::bytes::copy_bytes;
 use memory::cursor::place_start;
+use memory::notices::is_out;
 
 // The lengths of N places of 512 bytes, of the block sent last and of the block that arrives.
 fn lengths_fit(replicas: u8, places: usize, outbox: usize, bytes: usize) -> bool
@@ -81,6 +82,9 @@ fn refusal(
     }
     if header.slot < turn.slot {
         return 17;
+    }
+    if is_out(group, header.slot) {
+        return 29;
     }
     if group.replicas as u32 <= header.slot - turn.slot {
         return 18;

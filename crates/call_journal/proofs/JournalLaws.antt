@@ -1,23 +1,25 @@
 -- One turn of the loop over the blocks of a journal. Assumes nothing.
 use Prim.Native.Nat.{ℕ, suc, _+_, _-_, _*_, _/_, _≤_, _<_, max}
-use mathlib.Core.Path.{_≡_, sym, ap, _∙_}
-use mathlib.Core.Bool.{Bool, true, false, _&&_}
+use mathlib.Core.Path.{_≡_, refl, sym, ap, _∙_, subst}
+use mathlib.Core.Bool.{Bool, true, false, cond, _&&_}
 use mathlib.Core.List.{List, [], _∷_}
 use native.Mathlib.Numerals.{add-one}
 use native.Mathlib.Omega.{arith}
 use lib.Dec.{eqb}
 use lib.IntN.{ℤ}
 use lib.ListN.{length, getD, take, drop, replicate, length-drop}
+use borrow.Author.Tests.{eqb-true}
 use lib.Seq.{drop-drop, length-take-le}
 use Rattle.block.specs.Answers.{headerOf}
 use Rattle.block.proofs.BoolLaws.{both}
 use Rattle.block.proofs.ListLaws.{lent}
+use Rattle.memory.specs.Notices.{Notice}
 use Rattle.engine.specs.Restart.{Replayed, isGood, blocksFrom, blocksIn, writesetsIn, commitAll, commitBlocks, isFrom, highestOwn, ownWritesets, lastOwn}
 use Rattle.engine.proofs.Tests.{bool-by}
 use Rattle.engine.proofs.BlockFacts.{taken-block}
 use Rattle.engine.proofs.RestartLaws.{good-taken, reads-good, reads-few, count-few, own-few}
 use Rattle.call_journal.specs.declared.JournalTally.{JournalTally}
-use Rattle.call_journal.specs.Replays.{replayed, blockNumber, lastNumber, tallied, Replays}
+use Rattle.call_journal.specs.Replays.{replayed, blockNumber, isGiven, lastNumber, tallied, Replays}
 
 -- block i of a journal, and the blocks read from it on
 abbrev pub blockAt : List ℕ → ℕ → List ℕ
@@ -56,20 +58,25 @@ module _ (n : ℕ) (journal : List ℕ) (i : ℕ) where
   unfolding blocksFrom
   rest-none h = let k : length journal / 512 - i ≡ 0 = omega arith in rw k
 
+-- of one block more the slot is known
+last-cons : (own : ℕ) (notices : List Notice) (d b : List ℕ) (bs : List (List ℕ)) {k : ℕ} → headerOf b .slot ≡ k → lastOwn own notices d (b ∷ bs) ≡ lastOwn own notices (cond (isGiven own notices k b) b d) bs
+unfolding lastOwn
+last-cons own notices d b bs e = subst (λ (k : ℕ). lastOwn own notices d (b ∷ bs) ≡ lastOwn own notices (cond (isGiven own notices k b) b d) bs) e refl
+
 -- all blocks come to what the blocks still to be read come to on top of the tally, of values and stamps as they are now
-pub record Replaying (n own : ℕ) (journal : List ℕ) (before : Replayed) (values : List ℤ) (stamps : List ℕ) (t : JournalTally) : Type 0 where
+pub record Replaying (n own : ℕ) (journal : List ℕ) (notices : List Notice) (before : Replayed) (values : List ℤ) (stamps : List ℕ) (t : JournalTally) : Type 0 where
   pub there : t .blocks ≤ length journal / 512
   pub blocks : length (blocksIn n journal) ≡ t .blocks + length (rest n journal (t .blocks))
   pub store : commitBlocks before (blocksIn n journal) ≡ commitBlocks (replayed (t .commits) values stamps) (rest n journal (t .blocks))
   pub highest : highestOwn own (blocksIn n journal) ≡ max (t .highest) (highestOwn own (rest n journal (t .blocks)))
   pub committed : ownWritesets own (blocksIn n journal) ≡ t .committed + ownWritesets own (rest n journal (t .blocks))
-  pub last : lastNumber own 0 0 (blocksIn n journal) ≡ lastNumber own (t .last) (t .blocks) (rest n journal (t .blocks))
-  pub last-block : lastOwn own (replicate 512 0) (blocksIn n journal) ≡ lastOwn own (blockNumber (t .last) journal) (rest n journal (t .blocks))
+  pub last : lastNumber own notices 0 0 (blocksIn n journal) ≡ lastNumber own notices (t .last) (t .blocks) (rest n journal (t .blocks))
+  pub last-block : lastOwn own notices (replicate 512 0) (blocksIn n journal) ≡ lastOwn own notices (blockNumber (t .last) journal) (rest n journal (t .blocks))
   pub last-there : t .last ≤ t .blocks
 
-module _ (n own : ℕ) (journal : List ℕ) where
+module _ (n own : ℕ) (journal : List ℕ) (notices : List Notice) where
   pub replay-start : (values : List ℤ) (stamps : List ℕ)
-      → Replaying n own journal (replayed 0 values stamps) values stamps (record { blocks = 0; commits = 0; highest = 0; committed = 0; last = 0 })
+      → Replaying n own journal notices (replayed 0 values stamps) values stamps (record { blocks = 0; commits = 0; highest = 0; committed = 0; last = 0 })
   unfolding blockNumber
   replay-start values stamps =
       let k : length journal / 512 - 0 ≡ length journal / 512 = omega arith in
@@ -84,8 +91,8 @@ module _ (n own : ℕ) (journal : List ℕ) where
         last-there = omega arith;
       }
 
-  module _ (before : Replayed) (values : List ℤ) (stamps : List ℕ) (t : JournalTally) (p : Replaying n own journal before values stamps t) where
-    pub replay-end : rest n journal (t .blocks) ≡ [] → Replays n own journal before values stamps t
+  module _ (before : Replayed) (values : List ℤ) (stamps : List ℕ) (t : JournalTally) (p : Replaying n own journal notices before values stamps t) where
+    pub replay-end : rest n journal (t .blocks) ≡ [] → Replays n own journal notices before values stamps t
     unfolding commitBlocks highestOwn ownWritesets lastOwn lastNumber
     replay-end e = record {
       blocks = sym (rw e at (p .blocks) ∙ omega arith);
@@ -109,11 +116,12 @@ module _ (n own : ℕ) (journal : List ℕ) where
           (omega arith, omega arith)
 
       pub replay-turn : (c : ℕ) (v : List ℤ) (s : List ℕ) → replayed c v s ≡ commitAll (replayed (t .commits) values stamps) (writesetsIn (blockAt journal (t .blocks)))
-          → Replaying n own journal before v s (tallied own t c (blockAt journal (t .blocks)))
+          → Replaying n own journal notices before v s (tallied own notices t c (blockAt journal (t .blocks)))
       unfolding tallied commitBlocks highestOwn ownWritesets lastOwn lastNumber blockNumber
       replay-turn c v s did =
           let b = blockAt journal (t .blocks) in
           let e = rest-cons n journal (t .blocks) more next in
+          let slot : headerOf b .slot ≡ t .blocks = eqb-true (headerOf b .slot) (t .blocks) (both (isGood n b) _ next .right) in
           record {
             there = omega arith;
             blocks = rw e at (p .blocks) ∙ omega arith;
@@ -123,6 +131,7 @@ module _ (n own : ℕ) (journal : List ℕ) where
             last = rw e at (p .last);
             last-block =
                 rw e at (p .last-block)
-                ∙ ap (λ (d : List ℕ). lastOwn own d (rest n journal (t .blocks + 1))) (bool-by (isFrom own b) (λ f. rw (f, add-one (t .blocks))) (λ f. rw f));
-            last-there = bool-by (isFrom own b) (λ f. rw f (omega arith)) (λ f. rw f (omega arith));
+                ∙ last-cons own notices (blockNumber (t .last) journal) b (rest n journal (t .blocks + 1)) slot
+                ∙ ap (λ (d : List ℕ). lastOwn own notices d (rest n journal (t .blocks + 1))) (bool-by (isGiven own notices (t .blocks) b) (λ f. rw (f, add-one (t .blocks))) (λ f. rw f));
+            last-there = bool-by (isGiven own notices (t .blocks) b) (λ f. rw f (omega arith)) (λ f. rw f (omega arith));
           }

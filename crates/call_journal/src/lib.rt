@@ -7,6 +7,7 @@ ghost use lib.ListN.{length, getD};
 ghost use Prim.Native.Nat.{_+_, _≤_, _<_, max};
 ghost use Rattle.block.specs.Answers.{headerOf};
 ghost use Rattle.engine.specs.Restart.{isGood, writesetsIn, commitAll, highestTicket};
+ghost use Rattle.call_reply.specs.Notices.{noticesIn};
 ghost use Rattle.call_journal.specs.Replays.{replayed, tallied, Replays};
 use block::Read;
 use block_reader::read_block;
@@ -14,8 +15,12 @@ use block_reader::record_at;
 use call_commit::apply;
 use memory::rows::bump;
 
+pub mod notices;
+
+use notices::puts_out;
+
 // What the blocks read so far come to: how many they are, the commit count behind them, and of the own ones the highest ticket, how many writesets they have, and
-// which is the last: how many blocks there are up to it, 0 where none is own.
+// which is the last outside out slots: how many blocks there are up to it, 0 where there is none.
 pub struct JournalTally {
     pub blocks: u32,
     pub commits: u32,
@@ -73,10 +78,16 @@ fn highest_ticket(ticket: u32, block: &[u8]) -> u32
     highest
 }
 
-// One block more, with the commit count behind it.
-fn count_block(before: JournalTally, commits: u32, own: u32, block: &[u8]) -> JournalTally
+// One block more, with the commit count behind it: its slot is the number of blocks before it.
+fn count_block(
+    before: JournalTally,
+    commits: u32,
+    own: u32,
+    block: &[u8],
+    notices: &[u32],
+) -> JournalTally
     requires { ⌜ (length (now block) ≡ 512) × (before .blocks < 4294967295) × (before .committed + getD (now block) 3 0 ≤ 4294967295) ⌝ }
-    ensures { λ r. ⌜ r ≡ tallied own before commits (now (block .entry)) ⌝ }
+    ensures { λ r. ⌜ r ≡ tallied own (noticesIn (now (notices .entry))) before commits (now (block .entry)) ⌝ }
 {
     let next = before.blocks + 1;
     let mut after = before;
@@ -87,6 +98,9 @@ fn count_block(before: JournalTally, commits: u32, own: u32, block: &[u8]) -> Jo
     }
     after.highest = highest_ticket(before.highest, block);
     after.committed = before.committed + block[3] as u32;
+    if puts_out(notices, own, before.blocks) {
+        return after;
+    }
     after.last = next;
     after
 }
@@ -96,10 +110,11 @@ pub fn read_journal(
     n: u32,
     own: u32,
     journal: &[u8],
+    notices: &[u32],
     values: &mut [i32],
     stamps: &mut [u32],
 ) -> JournalTally
-    ensures { λ r. ⌜ Replays n own (now (journal .entry)) (replayed 0 (now (values .entry)) (now (stamps .entry))) (now (values .exit)) (now (stamps .exit)) r ⌝ }
+    ensures { λ r. ⌜ Replays n own (now (journal .entry)) (noticesIn (now (notices .entry))) (replayed 0 (now (values .entry)) (now (stamps .entry))) (now (values .exit)) (now (stamps .exit)) r ⌝ }
 {
     let most = journal.len() / 512;
     let mut tally = JournalTally {
@@ -116,7 +131,7 @@ pub fn read_journal(
             return tally;
         }
         let commits = commit_block(&mut *values, &mut *stamps, block, tally.commits);
-        let after = count_block(tally, commits, own, block);
+        let after = count_block(tally, commits, own, block, notices);
         tally = after;
     }
     tally

@@ -28,7 +28,7 @@ use memory::rows::clear_numbers;
 use memory::rows::clear_values;
 use memory::rows::copy_values;
 
-// The number, and group, turn and counts of a replica with no call behind it.
+// The number, and group, with nobody out, turn and counts of a replica with no call behind it.
 fn answer(number: u8, replicas: u8, own: u8) -> Made
     ensures { λ r. ⌜ r ≡ record { number = number; group = groupOf replicas own; turn = turnZero; counts = countsZero } ⌝ }
 {
@@ -37,6 +37,8 @@ fn answer(number: u8, replicas: u8, own: u8) -> Made
         group: Group {
             replicas: replicas,
             own: own,
+            from: [0; 6],
+            until: [0; 6],
         },
         turn: Turn {
             slot: 0,

@@ -102,6 +102,16 @@ workParts m group turn counts table queue items values stamps places = record {
   blocks = record { places = places; outbox = m .blocks .outbox };
 }
 
+abbrev pub noticeParts : Memory → Group → Turn → List ℕ → Memory
+noticeParts m group turn places = record {
+  group = group;
+  turn = turn;
+  counts = m .counts;
+  txns = m .txns;
+  store = m .store;
+  blocks = record { places = places; outbox = m .blocks .outbox };
+}
+
 abbrev pub loadParts : Memory → Turn → List ℕ → Memory
 loadParts m turn classes = record {
   group = m .group;

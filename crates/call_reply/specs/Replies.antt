@@ -9,7 +9,7 @@ use lib.ListN.{length, replicate}
 use Rattle.memory.specs.Memory.{Memory}
 use Rattle.engine.specs.declared.Report.{Report}
 use Rattle.engine.specs.Answers.{WorkDone, Answer, numberOf, Outcome}
-use Rattle.engine.specs.Answers.Answer.{refused, made, began, got, wrote, queued, readOnly, withdrew, reported, sent, kept, worked, loaded, restarted}
+use Rattle.engine.specs.Answers.Answer.{refused, made, began, got, wrote, queued, readOnly, withdrew, reported, sent, kept, worked, loaded, noticed, restarted}
 use Rattle.call_reply.specs.declared.BeginReply.{BeginReply}
 use Rattle.call_reply.specs.declared.ReadReply.{ReadReply}
 use Rattle.call_reply.specs.declared.AskReply.{AskReply}
@@ -33,6 +33,7 @@ ticketIn (sent b) = 0
 ticketIn kept = 0
 ticketIn (worked s) = 0
 ticketIn loaded = 0
+ticketIn noticed = 0
 ticketIn (restarted c b) = 0
 
 abbrev pub valueIn : Answer → ℤ
@@ -49,6 +50,7 @@ valueIn (sent b) = pos 0
 valueIn kept = pos 0
 valueIn (worked s) = pos 0
 valueIn loaded = pos 0
+valueIn noticed = pos 0
 valueIn (restarted c b) = pos 0
 
 abbrev pub isReadOnly : Answer → Bool
@@ -65,6 +67,7 @@ isReadOnly (sent b) = false
 isReadOnly kept = false
 isReadOnly (worked s) = false
 isReadOnly loaded = false
+isReadOnly noticed = false
 isReadOnly (restarted c b) = false
 
 abbrev pub noReport : Report
@@ -84,6 +87,7 @@ reportIn (sent b) = noReport
 reportIn kept = noReport
 reportIn (worked s) = noReport
 reportIn loaded = noReport
+reportIn noticed = noReport
 reportIn (restarted c b) = noReport
 
 abbrev pub noStep : WorkDone
@@ -103,6 +107,7 @@ stepIn (reported r) = noStep
 stepIn (sent b) = noStep
 stepIn kept = noStep
 stepIn loaded = noStep
+stepIn noticed = noStep
 stepIn (restarted c b) = noStep
 
 abbrev pub countIn : Answer → ℕ
@@ -120,6 +125,7 @@ countIn (sent b) = 0
 countIn kept = 0
 countIn (worked s) = 0
 countIn loaded = 0
+countIn noticed = 0
 
 -- ---- the replies
 
@@ -181,6 +187,7 @@ blockLeft withdrew old = old
 blockLeft (reported r) old = old
 blockLeft kept old = old
 blockLeft loaded old = old
+blockLeft noticed old = old
 
 abbrev pub GivesWith : {R : Type 0} → (Outcome → R) → Outcome → List ℕ → R → Memory → List ℕ → Type 0
 GivesWith of o lent r left block = Gives of o r left × (block ≡ blockLeft (o .answer) lent)

@@ -35,7 +35,7 @@ pub struct ReportReply {
     pub report: Report,
 }
 
-// Whose writeset was committed (ticket 0 for a *next*), whether the turn moved, the tickets aborted, rising, zeros behind the first `count`, and whether the lent
+// Whose writeset was committed (ticket 0 for a *next*, or for an out slot), whether the turn moved, the tickets aborted, rising, zeros behind the first `count`, and whether the lent
 // bytes now hold a block to append to the journal.
 #[repr(C)]
 pub struct WorkReply {
@@ -95,6 +95,12 @@ pub struct Worked {
     pub turn: Turn,
     pub counts: Counts,
     pub ended: [bool; 6],
+}
+
+// The answer to a notice, and the group after the call.
+pub struct Noticed {
+    pub number: u8,
+    pub group: Group,
 }
 
 // The answer, and group, turn and counts of a replica restarted; of a refused restart nothing is stored.

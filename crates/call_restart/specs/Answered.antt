@@ -1,13 +1,13 @@
 -- What a restart is answered, by what was read of the journal.
-use Prim.Native.Nat.{ℕ, _-_}
-use Rattle.memory.specs.Memory.{groupOf}
+use Prim.Native.Nat.{_-_}
+use Rattle.memory.specs.declared.Group.{Group}
 use Rattle.call_reply.specs.declared.Restarted.{Restarted}
 use Rattle.call_journal.specs.declared.JournalTally.{JournalTally}
 
-unfoldable pub answered : ℕ → ℕ → JournalTally → Restarted
-answered n own r = record {
+unfoldable pub answered : Group → JournalTally → Restarted
+answered g r = record {
   reply = record { number = 0; count = r .blocks };
-  group = groupOf n own;
+  group = g;
   turn = record { slot = r .blocks; sent = 0; applying = 0 };
   counts = record {
     commits = r .commits;

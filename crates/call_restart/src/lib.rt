@@ -1,22 +1,27 @@
-// A restart from a journal: the blocks that it has in slot order are committed, and the last own one is given back.
+// A restart from a journal: the blocks that it has in slot order are committed, and the last own one outside out slots is given back.
 ghost use mathlib.Core.Path.{_≡_};
+ghost use mathlib.Core.Bool.{_&&_};
 ghost use mathlib.Core.List.{List};
+ghost use lib.Dec.{eqb};
 ghost use lib.ListN.{length, replicate};
-ghost use Prim.Native.Nat.{_*_, _≤_};
+ghost use Prim.Native.Nat.{_*_, _%_, _≤_};
 ghost use Rattle.memory.specs.declared.Counts.{Counts};
 ghost use Rattle.memory.specs.declared.Group.{Group};
 ghost use Rattle.memory.specs.declared.Turn.{Turn};
 ghost use Rattle.memory.specs.declared.Txn.{Txn};
 ghost use Rattle.memory.specs.Memory.{groupOf};
+ghost use Rattle.memory.specs.Notices.{withNotices};
 ghost use Rattle.memory.specs.Rows.{closed};
 ghost use Rattle.engine.specs.Make.{turnZero, countsZero};
-ghost use Rattle.engine.specs.Restart.{blocksIn, restartedMemory, restartStep};
+ghost use Rattle.engine.specs.Restart.{blocksIn, restartedMemory};
 ghost use Rattle.call_reply.specs.Parts.{allParts};
 ghost use Rattle.call_reply.specs.Replies.{restartReply, GivesWith};
+ghost use Rattle.call_reply.specs.Notices.{noticesIn, restartLent};
 ghost use Rattle.call_make.specs.Made.{ifMade};
 ghost use Rattle.call_journal.specs.Replays.{blockNumber};
 ghost use Rattle.call_restart.specs.Answered.{answered};
 use call_journal::JournalTally;
+use call_journal::notices::with_notices;
 use call_journal::read_journal;
 use call_make::make;
 use call_reply::RestartReply;
@@ -51,6 +56,8 @@ fn refused(number: u8) -> Restarted
         group: Group {
             replicas: 0,
             own: 0,
+            from: [0; 6],
+            until: [0; 6],
         },
         turn: Turn {
             slot: 0,
@@ -70,8 +77,8 @@ fn refused(number: u8) -> Restarted
 }
 
 // The group, the turn behind the blocks committed, and the counts by them. The own blocks of an altered journal may have more writesets than their highest ticket says.
-fn answer(replicas: u8, own: u8, tally: JournalTally) -> Restarted
-    ensures { λ r. ⌜ r ≡ answered replicas own tally ⌝ }
+fn answer(group: Group, tally: JournalTally) -> Restarted
+    ensures { λ r. ⌜ r ≡ answered group tally ⌝ }
 {
     let mut aborted: u32 = 0;
     if tally.committed < tally.highest {
@@ -82,10 +89,7 @@ fn answer(replicas: u8, own: u8, tally: JournalTally) -> Restarted
             number: 0,
             count: tally.blocks,
         },
-        group: Group {
-            replicas: replicas,
-            own: own,
-        },
+        group: group,
         turn: Turn {
             slot: tally.blocks,
             sent: 0,
@@ -103,7 +107,18 @@ fn answer(replicas: u8, own: u8, tally: JournalTally) -> Restarted
     }
 }
 
-// What a make is lent, a journal of any length, and 512 bytes for the block that is given back: the last own one of those committed, zeros where there is none.
+// The lengths of what a restart is lent beside a make's parts and the journal.
+fn lent_fit(notices: usize, block: usize) -> bool
+    ensures { λ r. ⌜ r ≡ (eqb (notices % 3) 0 && eqb block 512) ⌝ }
+{
+    if notices % 3 != 0 {
+        return false;
+    }
+    block == 512
+}
+
+// What a make is lent, a journal of any length, the notices taken, in order, and 512 bytes for the block that is given back: the last own one of those committed whose slot the notices do not put
+// out, zeros where there is none.
 pub fn restart(
     n: u32,
     own: u32,
@@ -118,25 +133,26 @@ pub fn restart(
     places: &mut [u8],
     outbox: &mut [u8],
     journal: &[u8],
+    notices: &[u32],
     block: &mut [u8],
 ) -> Restarted
     ensures { λ r. ⌜ ((group : Group) (turn : Turn) (counts : Counts) (rows : List Txn) →
         GivesWith restartReply
-        (restartStep
+        (restartLent
         (allParts group turn counts rows (now (queue .entry)) (now (items .entry)) (now (writes .entry)) (now (snapshots .entry))
         (now (values .entry)) (now (stamps .entry)) (now (classes .entry)) (now (places .entry)) (now (outbox .entry)))
-        n own (now (start .entry)) (now (journal .entry)) (now (block .entry)))
+        n own (now (start .entry)) (now (journal .entry)) (now (notices .entry)) (now (block .entry)))
         (now (block .entry))
         (r .reply)
         (allParts (ifMade (r .reply .number) (r .group) group) (ifMade (r .reply .number) (r .turn) turn) (ifMade (r .reply .number) (r .counts) counts) (ifMade (r .reply .number) (replicate 6 closed) rows)
         (now (queue .exit)) (now (items .exit)) (now (writes .exit)) (now (snapshots .exit))
         (now (values .exit)) (now (stamps .exit)) (now (classes .exit)) (now (places .exit)) (now (outbox .exit)))
         (now (block .exit)))
-        × (r .group ≡ ifMade (r .reply .number) (groupOf n own) (groupOf 0 0))
-        × (r .turn ≡ ifMade (r .reply .number) (restartedMemory n own (now (start .entry)) (blocksIn n (now (journal .entry))) .turn) turnZero)
-        × (r .counts ≡ ifMade (r .reply .number) (restartedMemory n own (now (start .entry)) (blocksIn n (now (journal .entry))) .counts) countsZero) ⌝ }
+        × (r .group ≡ ifMade (r .reply .number) (withNotices (groupOf n own) (noticesIn (now (notices .entry)))) (groupOf 0 0))
+        × (r .turn ≡ ifMade (r .reply .number) (restartedMemory n own (now (start .entry)) (noticesIn (now (notices .entry))) (blocksIn n (now (journal .entry))) .turn) turnZero)
+        × (r .counts ≡ ifMade (r .reply .number) (restartedMemory n own (now (start .entry)) (noticesIn (now (notices .entry))) (blocksIn n (now (journal .entry))) .counts) countsZero) ⌝ }
 {
-    if block.len() != 512 {
+    if !lent_fit(notices.len(), block.len()) {
         return refused(1);
     }
     let made = make(
@@ -156,7 +172,8 @@ pub fn restart(
     if made.number != 0 {
         return refused(made.number);
     }
-    let tally = read_journal(n, own, journal, &mut *values, &mut *stamps);
+    let tally = read_journal(n, own, journal, notices, &mut *values, &mut *stamps);
     give_back(journal, tally.last, &mut *block);
-    answer(n as u8, own as u8, tally)
+    let group = with_notices(made.group, notices);
+    answer(group, tally)
 }

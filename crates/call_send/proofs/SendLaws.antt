@@ -1,7 +1,7 @@
 -- Each refusal of a send, from the tests that lead to it, and its two answers. Assumes nothing.
 use Prim.Native.Nat.{ℕ, _≤_, _<_}
 use mathlib.Core.Path.{_≡_, refl, sym, ap, _∙_}
-use mathlib.Core.Bool.{true, false}
+use mathlib.Core.Bool.{Bool, true, false}
 use mathlib.Core.List.{List, map}
 use borrow.Author.Tests.{eq-eqb, ne-eqb, le-leb, lt-leb, eqb-true, not-false}
 use lib.ListN.{length, replicate}
@@ -11,11 +11,11 @@ use Rattle.block.specs.Message.{ownerOf}
 use Rattle.block.proofs.BoolLaws.{both}
 use Rattle.memory.specs.declared.Turn.{Turn}
 use Rattle.memory.specs.declared.Txn.{Txn}
-use Rattle.memory.specs.Memory.{Memory}
+use Rattle.memory.specs.Memory.{Memory, slotLimit}
 use Rattle.memory.specs.Turns.{markSent}
 use Rattle.engine.specs.Answers.{outcome}
 use Rattle.engine.specs.Answers.Answer.{refused, sent}
-use Rattle.engine.specs.Moves.{messageFor, sendRow, sendLent, sendRefusal, sendNow, sendStep}
+use Rattle.engine.specs.Moves.{messageFor, sendRow, sendLent, outAtTurn, sendRefusal, sendNow, sendStep}
 use Rattle.engine.proofs.Tests.{passes}
 use Rattle.call_reply.specs.Parts.{sendParts}
 
@@ -33,23 +33,28 @@ module _ (m : Memory) (block : List ℕ) where
   send-lengths h = rw h
 
   module _ (lent : sendLent m block ≡ true) where
-    pub send-spent : 100_000_000 ≤ m .turn .slot → 13 ≡ sendRefusal m block
+    pub send-spent : slotLimit ≤ m .turn .slot → 13 ≡ sendRefusal m block
     unfolding sendRefusal firstOf
-    send-spent h = rw (lent, le-leb 100_000_000 (m .turn .slot) h)
+    send-spent h = rw (lent, le-leb slotLimit (m .turn .slot) h)
 
-    module _ (low : m .turn .slot < 100_000_000) (k : ℕ) (owner : k ≡ ownerOf (m .group .replicas) (m .turn .slot)) where
+    module _ (low : m .turn .slot < slotLimit) (k : ℕ) (owner : k ≡ ownerOf (m .group .replicas) (m .turn .slot)) where
       pub send-others : (k ≡ m .group .own → ⊥) → 11 ≡ sendRefusal m block
       unfolding sendRefusal firstOf
-      send-others h = rw (lent, lt-leb 100_000_000 (m .turn .slot) low, ← owner, ne-eqb k (m .group .own) h)
+      send-others h = rw (lent, lt-leb slotLimit (m .turn .slot) low, ← owner, ne-eqb k (m .group .own) h)
 
-      module _ (own : k ≡ m .group .own) where
-        pub send-already : (m .turn .sent ≡ 0 → ⊥) → 12 ≡ sendRefusal m block
+      module _ (own : k ≡ m .group .own) (out : Bool) (said : out ≡ outAtTurn m) where
+        pub send-out : out ≡ true → 29 ≡ sendRefusal m block
         unfolding sendRefusal firstOf
-        send-already h = rw (lent, lt-leb 100_000_000 (m .turn .slot) low, ← owner, eq-eqb k (m .group .own) own, ne-eqb (m .turn .sent) 0 h)
+        send-out h = rw (lent, lt-leb slotLimit (m .turn .slot) low, ← said, ← owner, eq-eqb k (m .group .own) own, h)
 
-        pub send-free : m .turn .sent ≡ 0 → 0 ≡ sendRefusal m block
-        unfolding sendRefusal firstOf
-        send-free h = rw (lent, lt-leb 100_000_000 (m .turn .slot) low, ← owner, eq-eqb k (m .group .own) own, eq-eqb (m .turn .sent) 0 h)
+        module _ (live : out ≡ false) where
+          pub send-already : (m .turn .sent ≡ 0 → ⊥) → 12 ≡ sendRefusal m block
+          unfolding sendRefusal firstOf
+          send-already h = rw (lent, lt-leb slotLimit (m .turn .slot) low, ← said, ← owner, eq-eqb k (m .group .own) own, live, ne-eqb (m .turn .sent) 0 h)
+
+          pub send-free : m .turn .sent ≡ 0 → 0 ≡ sendRefusal m block
+          unfolding sendRefusal firstOf
+          send-free h = rw (lent, lt-leb slotLimit (m .turn .slot) low, ← said, ← owner, eq-eqb k (m .group .own) own, live, eq-eqb (m .turn .sent) 0 h)
 
   module _ (n : ℕ) (number : n ≡ sendRefusal m block) where
     pub send-refused : (n ≡ 0 → ⊥) → outcome (refused n) m ≡ sendStep m block

@@ -17,9 +17,11 @@ use block_writer::write_header;
 use block_writer::write_record;
 use call_reply::Sent;
 use memory::Group;
+use memory::SLOT_LIMIT;
 use memory::Turn;
 use memory::Txn;
 use memory::bytes::copy_bytes;
+use memory::notices::is_out;
 use memory::rows::clear_numbers;
 use memory::rows::queue_end;
 use memory::rows::row_at;
@@ -53,12 +55,15 @@ fn refusal(fits: bool, group: Group, turn: Turn) -> u8
     if !fits {
         return 1;
     }
-    if 100000000 <= turn.slot {
+    if SLOT_LIMIT <= turn.slot {
         return 13;
     }
     let owned = turn.owner(group);
     if owned.replica != group.own as u32 {
         return 11;
+    }
+    if is_out(group, turn.slot) {
+        return 29;
     }
     if turn.sent != 0 {
         return 12;

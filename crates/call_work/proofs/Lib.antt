@@ -1,2 +1,3 @@
--- One law for each answer of a work, over plain variables.
+-- One law for each answer of a work, over plain variables, and those of an out slot.
 pub mod WorkLaws
+pub mod OutLaws

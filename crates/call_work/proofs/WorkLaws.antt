@@ -28,7 +28,7 @@ use Rattle.engine.proofs.Tests.{less-by, passes}
 use Rattle.engine.specs.Answers.{Outcome, outcome}
 use Rattle.engine.specs.Answers.Outcome.{memory}
 use Rattle.engine.specs.Answers.Answer.{refused, worked}
-use Rattle.engine.specs.Moves.{workLent, workRefusal, blockAtTurn, writesetAt, applied, stamped, hitTickets, endsOwn, isLast, appending, passNext, commitWriteset, workStep}
+use Rattle.engine.specs.Moves.{workLent, outAtTurn, workRefusal, blockAtTurn, writesetAt, applied, stamped, hitTickets, endsOwn, isLast, appending, passNext, commitWriteset, passOut, passBlock, workStep}
 use Rattle.call_commit.proofs.EndLaws.{end-none, end-mark, end-hit}
 use Rattle.call_reply.specs.Parts.{workParts}
 use Rattle.call_reply.specs.Replies.{workReply, Gives, blockLeft, GivesWith}
@@ -67,14 +67,19 @@ module _ (m : Memory) where
   unfolding workRefusal firstOf
   refused-lengths h = rw h
 
-  module _ (long : workLent m ≡ true) (at : ℕ) (start : at ≡ placeStart (m .group .replicas) (m .turn .slot)) (k : ℕ) (kind : k ≡ getD (m .blocks .places) at 0) where
-    pub refused-empty : k ≡ 0 → 21 ≡ workRefusal m
+  module _ (long : workLent m ≡ true) (out : Bool) (said : outAtTurn m ≡ out) where
+    pub refused-never : out ≡ true → 0 ≡ workRefusal m
     unfolding workRefusal firstOf
-    refused-empty h = rw (long, ← start, ← kind, eq-eqb k 0 h)
+    refused-never h = rw (long, said, h)
 
-    pub refused-not : (k ≡ 0 → ⊥) → 0 ≡ workRefusal m
-    unfolding workRefusal firstOf
-    refused-not h = rw (long, ← start, ← kind, ne-eqb k 0 h)
+    module _ (live : out ≡ false) (at : ℕ) (start : at ≡ placeStart (m .group .replicas) (m .turn .slot)) (k : ℕ) (kind : k ≡ getD (m .blocks .places) at 0) where
+      pub refused-empty : k ≡ 0 → 21 ≡ workRefusal m
+      unfolding workRefusal firstOf
+      refused-empty h = rw (long, said, live, ← start, ← kind, eq-eqb k 0 h)
+
+      pub refused-not : (k ≡ 0 → ⊥) → 0 ≡ workRefusal m
+      unfolding workRefusal firstOf
+      refused-not h = rw (long, said, live, ← start, ← kind, ne-eqb k 0 h)
 
   -- ---- the answers
 
@@ -92,35 +97,45 @@ module _ (m : Memory) where
     unfolding endedMarks
     marks-refused lent full h = rw (eq-eqb (length lent) 512 full, ← number, ne-eqb n 0 h)
 
-    module _ (none : n ≡ 0) (at : ℕ) (start : at ≡ placeStart (m .group .replicas) (m .turn .slot)) where
-      -- the block at the turn lies in the places
-      pub work-room : at + 512 ≤ length (m .blocks .places)
-      unfolding workRefusal
-      work-room =
-          let l = both _ _ (not-false _ (passes _ _ refl (sym number ∙ none) .0)) in
-          place-within (m .group .replicas) (m .turn .slot) (m .blocks .places) (eqb-true _ _ (l .left)) at start (getD (m .blocks .places) at 0) refl
-          (λ e. eqb-false (getD (m .blocks .places) (placeStart (m .group .replicas) (m .turn .slot)) 0) 0 (work-passed m (sym number ∙ none)) (rw (← start) e))
-
-      pub work-next : getD (m .blocks .places) at 0 ≡ 1 → passNext m ≡ workStep m
+    module _ (none : n ≡ 0) where
+      pub work-out : outAtTurn m ≡ true → passOut m ≡ workStep m
       unfolding workStep
-      work-next h = rw (← number, none, ← start, first-byte (m .blocks .places) at, eq-eqb (getD (m .blocks .places) at 0) 1 h)
+      work-out h = rw (← number, none, h)
 
-      pub work-writeset : (getD (m .blocks .places) at 0 ≡ 1 → ⊥)
-          → commitWriteset m (eqb (getD (blockAtTurn m) 1 0) (m .group .own)) (writesetAt (blockAtTurn m) (m .counts .done)) ≡ workStep m
-      unfolding workStep
-      work-writeset h = rw (← number, none, ← start, first-byte (m .blocks .places) at, ne-eqb (getD (m .blocks .places) at 0) 1 h)
+      pub marks-out : (lent : List ℕ) → length lent ≡ 512 → outAtTurn m ≡ true → noMarks ≡ endedMarks lent m
+      unfolding endedMarks
+      marks-out lent full h = rw (eq-eqb (length lent) 512 full, ← number, none, h)
 
-      module _ (lent : List ℕ) (full : length lent ≡ 512) where
-        pub marks-next : getD (m .blocks .places) at 0 ≡ 1 → noMarks ≡ endedMarks lent m
-        unfolding endedMarks
-        marks-next h = rw (eq-eqb (length lent) 512 full, ← number, none, ← start, first-byte (m .blocks .places) at, eq-eqb (getD (m .blocks .places) at 0) 1 h)
+      module _ (live : outAtTurn m ≡ false) (at : ℕ) (start : at ≡ placeStart (m .group .replicas) (m .turn .slot)) where
+        -- the block at the turn lies in the places
+        pub work-room : at + 512 ≤ length (m .blocks .places)
+        unfolding workRefusal
+        work-room =
+            let l = both _ _ (not-false _ (passes _ _ refl (sym number ∙ none) .0)) in
+            place-within (m .group .replicas) (m .turn .slot) (m .blocks .places) (eqb-true _ _ (l .left)) at start (getD (m .blocks .places) at 0) refl
+            (λ e. eqb-false (getD (m .blocks .places) (placeStart (m .group .replicas) (m .turn .slot)) 0) 0
+            (work-passed m (record { passed = sym number ∙ none; live = live })) (rw (← start) e))
 
-        pub marks-writeset : (getD (m .blocks .places) at 0 ≡ 1 → ⊥) →
-            let block = slice at (at + 512) (m .blocks .places) in
-            (e : Ended) → e ≡ endedOf (eqb (getD block 1 0) (m .group .own)) (writesetAt block (m .counts .done)) (m .turn) (m .counts) (m .txns .table) (m .txns .items)
-            → e .marks ≡ endedMarks lent m
-        unfolding endedMarks endedOf
-        marks-writeset h e ee = rw (ee, eq-eqb (length lent) 512 full, ← number, none, ← start, first-byte (m .blocks .places) at, ne-eqb (getD (m .blocks .places) at 0) 1 h)
+        pub work-next : getD (m .blocks .places) at 0 ≡ 1 → passNext m ≡ workStep m
+        unfolding workStep passBlock
+        work-next h = rw (← number, none, live, ← start, first-byte (m .blocks .places) at, eq-eqb (getD (m .blocks .places) at 0) 1 h)
+
+        pub work-writeset : (getD (m .blocks .places) at 0 ≡ 1 → ⊥)
+            → commitWriteset m (eqb (getD (blockAtTurn m) 1 0) (m .group .own)) (writesetAt (blockAtTurn m) (m .counts .done)) ≡ workStep m
+        unfolding workStep passBlock
+        work-writeset h = rw (← number, none, live, ← start, first-byte (m .blocks .places) at, ne-eqb (getD (m .blocks .places) at 0) 1 h)
+
+        module _ (lent : List ℕ) (full : length lent ≡ 512) where
+          pub marks-next : getD (m .blocks .places) at 0 ≡ 1 → noMarks ≡ endedMarks lent m
+          unfolding endedMarks
+          marks-next h = rw (eq-eqb (length lent) 512 full, ← number, none, live, ← start, first-byte (m .blocks .places) at, eq-eqb (getD (m .blocks .places) at 0) 1 h)
+
+          pub marks-writeset : (getD (m .blocks .places) at 0 ≡ 1 → ⊥) →
+              let block = slice at (at + 512) (m .blocks .places) in
+              (e : Ended) → e ≡ endedOf (eqb (getD block 1 0) (m .group .own)) (writesetAt block (m .counts .done)) (m .turn) (m .counts) (m .txns .table) (m .txns .items)
+              → e .marks ≡ endedMarks lent m
+          unfolding endedMarks endedOf
+          marks-writeset h e ee = rw (ee, eq-eqb (length lent) 512 full, ← number, none, live, ← start, first-byte (m .blocks .places) at, ne-eqb (getD (m .blocks .places) at 0) 1 h)
 
 -- ---- what is handed out
 

@@ -1,6 +1,6 @@
 -- What a work looks at, and the rows that it ends.
 use Prim.Native.Nat.{ℕ}
-use mathlib.Core.Bool.{Bool, cond, _&&_}
+use mathlib.Core.Bool.{Bool, cond, not, _&&_}
 use mathlib.Core.List.{List}
 use lib.Dec.{eqb}
 use lib.ListN.{length, getD}
@@ -9,18 +9,18 @@ use Rattle.memory.specs.declared.Group.{Group}
 use Rattle.memory.specs.declared.Turn.{Turn}
 use Rattle.memory.specs.declared.Txn.{Txn}
 use Rattle.memory.specs.Memory.{Memory}
-use Rattle.engine.specs.Moves.{blockAtTurn, writesetAt, workRefusal}
+use Rattle.engine.specs.Moves.{outAtTurn, blockAtTurn, writesetAt, workRefusal}
 use Rattle.call_reply.specs.Parts.{workParts}
 use Rattle.call_ending.specs.Writesets.{noMarks, marksOf}
 
--- a memory with the group, turn, counts, rows and places lent: what a refusal and a *next* look at
+-- a memory with the group, turn, counts, rows and places lent: what a refusal, an out slot and a *next* look at
 abbrev pub turnParts : Memory → Group → Turn → Counts → List Txn → List ℕ → Memory
 turnParts m group turn counts rows places = workParts m group turn counts rows (m .txns .queue) (m .txns .items) (m .store .values) (m .store .stamps) places
 
--- the marks of the rows that a work with these bytes lent for a block ends: none where it is refused, none by a *next*
+-- the marks of the rows that a work with these bytes lent for a block ends: none where it is refused, none in an out slot, none by a *next*
 unfoldable pub endedMarks : List ℕ → Memory → List Bool
 endedMarks lent m =
     let b = blockAtTurn m in
-    cond (eqb (length lent) 512 && eqb (workRefusal m) 0)
+    cond (eqb (length lent) 512 && (eqb (workRefusal m) 0 && not (outAtTurn m)))
     (cond (eqb (getD b 0 0) 1) noMarks (marksOf (eqb (getD b 1 0) (m .group .own)) (writesetAt b (m .counts .done)) (m .txns .table) (m .txns .items)))
     noMarks

@@ -1,19 +1,25 @@
-// The call work: what waits at the turn's place, one writeset a call, over numbers and slices.
+// The call work: an out slot, or what waits at the turn's place, one writeset a call, over numbers and slices.
 ghost use mathlib.Core.Path.{_≡_};
 ghost use mathlib.Core.Bool.{true, false, cond, not, _&&_};
+ghost use mathlib.Core.List.{[]};
 ghost use Prim.Native.Nat.{_+_, _*_, _≤_};
 ghost use lib.Dec.{eqb, leb};
 ghost use lib.ListN.{length, getD, set, replicate};
 ghost use lib.Seq.{slice};
+ghost use Rattle.block.specs.Bytes.{blockOf};
 ghost use Rattle.memory.specs.Memory.{Memory, span, withDone};
+ghost use Rattle.memory.specs.Notices.{isOut};
 ghost use Rattle.memory.specs.Rows.{endRows};
 ghost use Rattle.memory.specs.Turns.{advance, placeStart};
-ghost use Rattle.engine.specs.Moves.{workLent, workRefusal, passNext, workStep};
+ghost use Rattle.engine.specs.Moves.{workLent, outAtTurn, workRefusal, passOut, passNext, workStep};
 ghost use Rattle.call_reply.specs.Parts.{workParts};
 ghost use Rattle.call_reply.specs.Replies.{workReply, GivesWith};
 ghost use Rattle.call_reply.specs.Called.{withBlock};
 ghost use Rattle.call_ending.specs.Writesets.{noMarks};
 ghost use Rattle.call_work.specs.Works.{turnParts, endedMarks};
+use block::Header;
+use block_check::write_check;
+use block_writer::write_header;
 use call_ending::Ended;
 use call_ending::end_writeset;
 use call_reply::WorkReply;
@@ -25,7 +31,10 @@ use memory::Turn;
 use memory::Txn;
 use memory::bytes::byte_at;
 use memory::bytes::copy_bytes;
+use memory::cursor::owner_at;
 use memory::cursor::place_start;
+use memory::notices::is_out;
+use memory::rows::clear_bytes;
 
 // Whether the slices lent have their lengths.
 fn lengths_fit(
@@ -53,13 +62,16 @@ fn lengths_fit(
     stamps == 128
 }
 
-// Why a work is refused, 0 where it is not; `fits` where what it is lent has its lengths, `at` where the turn's place starts.
-fn refusal(fits: bool, at: usize, places: &[u8]) -> u8
+// Why a work is refused, 0 where it is not; `fits` where what it is lent has its lengths, `out` where the turn's slot is out, `at` where its place starts.
+fn refusal(fits: bool, out: bool, at: usize, places: &[u8]) -> u8
     ensures { λ r. ⌜ ((m : Memory) → m .blocks .places ≡ now (places .entry) → at ≡ placeStart (span (m .group)) (m .turn .slot)
-        → workLent m ≡ fits → r ≡ workRefusal m) ⌝ }
+        → workLent m ≡ fits → outAtTurn m ≡ out → r ≡ workRefusal m) ⌝ }
 {
     if !fits {
         return 1;
+    }
+    if out {
+        return 0;
     }
     if byte_at(places, at) == 0 {
         return 21;
@@ -81,6 +93,55 @@ fn unchanged(number: u8, turn: Turn, counts: Counts) -> Worked
         reply: no_work(number),
         turn: turn,
         counts: counts,
+        ended: [false; 6],
+    }
+}
+
+// The *next* of a slot, written into the bytes lent for the journal.
+fn put_next(sender: u8, replicas: u8, slot: u32, block: &mut [u8])
+    requires { ⌜ length (now block) ≡ 512 ⌝ }
+    ensures { λ _. ⌜ now (block .exit) ≡ blockOf (record { kind = 1; sender = sender; replicas = replicas; slot = slot; records = [] }) ⌝ }
+{
+    clear_bytes(&mut *block);
+    let header = Header {
+        kind: 1,
+        sender: sender,
+        replicas: replicas,
+        count: 0,
+        slot: slot,
+    };
+    write_header(&mut block[0..16], header);
+    write_check(&mut *block);
+}
+
+// An out slot passed: its *next* is handed out, also where it is the replica's own, the turn advances, and no row ends.
+fn pass_out(group: Group, turn: Turn, counts: Counts, block: &mut [u8]) -> Worked
+    requires { ⌜ (isOut group (turn .slot) ≡ true) × (length (now block) ≡ 512) ⌝ }
+    ensures { λ r. ⌜ ((m : Memory) →
+        GivesWith workReply
+        (passOut (turnParts m group turn counts (m .txns .table) (m .blocks .places)))
+        (now (block .entry))
+        (r .reply)
+        (turnParts m group (r .turn) (r .counts) (m .txns .table) (m .blocks .places))
+        (now (block .exit)))
+        × (r .ended ≡ noMarks) ⌝ }
+{
+    let sender = owner_at(group, turn.slot) as u8;
+    put_next(sender, group.replicas, turn.slot, &mut *block);
+    let mut after = counts;
+    after.done = 0;
+    Worked {
+        reply: WorkReply {
+            number: 0,
+            sender: sender,
+            moved: true,
+            count: 0,
+            ticket: 0,
+            aborted: [0; 6],
+            append: true,
+        },
+        turn: turn.advance(),
+        counts: after,
         ended: [false; 6],
     }
 }
@@ -222,7 +283,7 @@ fn pass_writeset(ended: Ended, own: u8, places: &mut [u8], at: usize, block: &mu
     answered(sender, false, false, turn, counts, ended)
 }
 
-// Processes the next step at the turn: a *next*, or one writeset. The block lent last is for the journal: another's, where the turn leaves its slot.
+// Processes the next step at the turn: an out slot, a *next*, or one writeset. The block lent last is for the journal: another's, where the turn leaves its slot, or the *next* of an out slot.
 pub fn work(
     rows: [Txn; 6],
     group: Group,
@@ -256,10 +317,14 @@ pub fn work(
         stamps.len(),
         places.len(),
     );
+    let out = is_out(group, turn.slot);
     let at = place_start(group.replicas, turn.slot);
-    let number = refusal(fits, at, &*places);
+    let number = refusal(fits, out, at, &*places);
     if number != 0 {
         return unchanged(number, turn, counts);
+    }
+    if out {
+        return pass_out(group, turn, counts, &mut *block);
     }
     if places[at] == 1 {
         return pass_next(group, turn, counts, &mut *places, at, &mut *block);

@@ -1,6 +1,7 @@
 -- What each call may change. Assumes nothing.
 use Prim.Native.Nat.{ℕ, _+_, _*_, _-_, _≤_, _<_}
 use mathlib.Core.Path.{_≡_, refl, ap}
+use mathlib.Core.Bool.{cond}
 use mathlib.Core.List.{List}
 use native.Mathlib.Nat.{mod-lt}
 use native.Mathlib.Omega.{arith}
@@ -10,21 +11,23 @@ use borrow.Author.Tests.{ltb-true, eq-eqb}
 use Rattle.block.specs.Answers.{headerOf}
 use Rattle.memory.specs.declared.Group.{Group}
 use Rattle.memory.specs.declared.Txn.{Txn}
-use Rattle.memory.specs.Memory.{Memory, withReadOnly, withAborted, withTxns, withClasses}
+use Rattle.memory.specs.Memory.{Memory, slotLimit, withGroup, withReadOnly, withAborted, withTxns, withClasses}
+use Rattle.memory.specs.Notices.{Notice, withNotice}
 use Rattle.memory.specs.Rows.{closed, freeRow, rowAt, writeCount, itemsOf, indexOf, countBelow}
 use Rattle.memory.specs.Turns.{placeStart}
 use Rattle.engine.specs.Make.{madeMemory, makeRefusal, makeStep}
 use Rattle.engine.specs.Client.{freeNo, rowNo, rowIn, ownIndex, beginAt, rewriteAt, insertWrite, staleAt, readOnlyAt, queueAt, withdrawAt, reportStep}
 use Rattle.engine.specs.Moves.{sendNow, deliverNow}
 use Rattle.engine.specs.Calls.{Call, step}
-use Rattle.engine.specs.Calls.Call.{begin, read, write, ask, withdraw, report, send, deliver, work, load}
-use Rattle.engine.specs.Frames.{Frames, SameBut, BeginFrame, WriteFrame, AskFrame, WithdrawFrame, SendFrame, DeliverFrame, WorkFrame}
-use Rattle.engine.proofs.Steps.{begin-by, read-by, write-by, ask-by, withdraw-by, send-by, deliver-by, work-by, load-by}
+use Rattle.engine.specs.Calls.Call.{begin, read, write, ask, withdraw, report, send, deliver, work, load, notice}
+use Rattle.engine.specs.Frames.{Frames, SameBut, BeginFrame, WriteFrame, AskFrame, WithdrawFrame, SendFrame, DeliverFrame, NoticeFrame, WorkFrame}
+use Rattle.engine.proofs.Tests.{cond-by}
+use Rattle.engine.proofs.Steps.{begin-by, read-by, write-by, ask-by, withdraw-by, send-by, deliver-by, work-by, notice-by, load-by}
 use Rattle.engine.proofs.Passed.{BeginPassed, begin-passed, write-passed, DeliverPassed, deliver-passed}
 use Rattle.engine.proofs.PartLaws.{set-but, paste-but, insert-but, below-part}
 use Rattle.engine.proofs.RowLaws.{others, sent-row}
 use Rattle.engine.proofs.BlockFacts.{taken-block}
-use Rattle.engine.proofs.WorkFrame.{pass-frame, commit-frame, work-same}
+use Rattle.engine.proofs.WorkFrame.{pass-frame, out-frame, commit-frame, work-same}
 
 -- ---- begin
 
@@ -213,6 +216,22 @@ deliver-frame m b p =
 deliver-same : (m : Memory) (s : ℕ) → DeliverFrame m m s
 deliver-same m s = record { rest = refl; outbox = refl; places = λ i h. refl }
 
+-- ---- notice
+
+notice-frame : (m : Memory) (a : Notice) → NoticeFrame m (withGroup m (withNotice (m .group) a)) (a .about)
+notice-frame m a =
+    let k = a .about in
+    record {
+      rest = refl;
+      replicas = refl;
+      own = refl;
+      from = cond-by (λ (l : List ℕ). SameBut 0 k 1 (m .group .from) l) (a .out) (λ b. set-but 0 (m .group .from) k 1 k (a .slot) (omega arith) (omega arith)) (λ b i h. refl);
+      until = set-but 0 (m .group .until) k 1 k (cond (a .out) slotLimit (a .slot)) (omega arith) (omega arith);
+    }
+
+notice-same : (m : Memory) (k : ℕ) → NoticeFrame m m k
+notice-same m k = record { rest = refl; replicas = refl; own = refl; from = λ i h. refl; until = λ i h. refl }
+
 -- ---- make
 
 make-frame : (m : Memory) (n own : ℕ) (values : List ℤ) → makeRefusal m n own values ≡ 0 → makeStep m n own values .memory ≡ madeMemory n own values
@@ -235,22 +254,31 @@ frames = record {
   delivers = λ m b. deliver-by (λ o. DeliverFrame m (o .memory) (headerOf b .slot)) m b
       (λ e. deliver-frame m b (deliver-passed m b e))
       (λ e. deliver-same m (headerOf b .slot));
-  works = λ m. work-by (λ o. WorkFrame m (o .memory)) m (λ e k. pass-frame m) (λ e k. commit-frame m _) (λ e. work-same m);
+  works = λ m. work-by (λ o. WorkFrame m (o .memory)) m (λ e u. out-frame m) (λ e k. pass-frame m) (λ e k. commit-frame m _) (λ e. work-same m);
   loads = λ m l. load-by (λ o. o .memory ≡ withClasses m (o .memory .store .classes)) m l (λ e. refl) (λ e. refl);
+  notices = λ m a. notice-by (λ o. NoticeFrame m (o .memory) (a .about)) m a (λ e. notice-frame m a) (λ e. notice-same m (a .about));
 }
 
--- no call changes what a replica knows of its group
-pub group-same : (m : Memory) (c : Call) → step m c .memory .group ≡ m .group
-group-same m begin = frames .begins m .kept .group
-group-same m (read t i) = ap (λ (x : Memory). x .group) (frames .reads m t i)
-group-same m (write t i v) = frames .writes m t i v .kept .group
-group-same m (ask t) = frames .asks m t .kept .group
-group-same m (withdraw t) = frames .withdraws m t .kept .group
-group-same m report = ap (λ (x : Memory). x .group) (frames .reports m)
-group-same m (send b) = frames .sends m b .group
-group-same m (deliver b) = ap (λ (x : Memory). x .group) (frames .delivers m b .rest)
-group-same m work = frames .works m .group
-group-same m (load l) = ap (λ (x : Memory). x .group) (frames .loads m l)
+-- no call changes how many replicas there are, nor the replica's own number
+pub record NumbersKept (m n : Memory) : Type 0 where
+  pub replicas : n .group .replicas ≡ m .group .replicas
+  pub own : n .group .own ≡ m .group .own
+
+group-kept : (m n : Memory) → n .group ≡ m .group → NumbersKept m n
+group-kept m n e = record { replicas = ap (λ (g : Group). g .replicas) e; own = ap (λ (g : Group). g .own) e }
+
+pub numbers-same : (m : Memory) (c : Call) → NumbersKept m (step m c .memory)
+numbers-same m begin = group-kept m _ (frames .begins m .kept .group)
+numbers-same m (read t i) = group-kept m _ (ap (λ (x : Memory). x .group) (frames .reads m t i))
+numbers-same m (write t i v) = group-kept m _ (frames .writes m t i v .kept .group)
+numbers-same m (ask t) = group-kept m _ (frames .asks m t .kept .group)
+numbers-same m (withdraw t) = group-kept m _ (frames .withdraws m t .kept .group)
+numbers-same m report = group-kept m _ (ap (λ (x : Memory). x .group) (frames .reports m))
+numbers-same m (send b) = group-kept m _ (frames .sends m b .group)
+numbers-same m (deliver b) = group-kept m _ (ap (λ (x : Memory). x .group) (frames .delivers m b .rest))
+numbers-same m work = group-kept m _ (frames .works m .group)
+numbers-same m (load l) = group-kept m _ (ap (λ (x : Memory). x .group) (frames .loads m l))
+numbers-same m (notice a) = let f = frames .notices m a in record { replicas = f .replicas; own = f .own }
 
 pub own-same : (m : Memory) (c : Call) → step m c .memory .group .own ≡ m .group .own
-own-same m c = ap (λ (g : Group). g .own) (group-same m c)
+own-same m c = numbers-same m c .own

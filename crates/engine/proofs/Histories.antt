@@ -5,6 +5,7 @@ use mathlib.Core.List.{List, [], _∷_}
 use lib.IntN.{ℤ}
 use borrow.Author.Tests.{ne-eqb}
 use Rattle.memory.specs.Memory.{Memory}
+use Rattle.memory.specs.Notices.{Notice}
 use Rattle.engine.specs.Answers.{Outcome}
 use Rattle.engine.specs.Make.{SettingOf, madeMemory}
 use Rattle.engine.specs.Moves.{waiting}
@@ -44,14 +45,14 @@ made-follows n own values g = record {
   queue = made-empty n own values;
 }
 
-restarted-follows : (n own : ℕ) (values : List ℤ) → SettingOf n own values → (journal : List ℕ)
-    → Follows (begun own (blocksIn n journal)) (restartedMemory n own values (blocksIn n journal))
-restarted-follows n own values g journal = record {
-  shape = shapes .restarted n own values g journal;
-  sent = sent-shapes .restarted n own values journal;
-  own = restarted-own n own values (blocksIn n journal);
-  numbers = restarted-kept n own values journal;
-  queue = restarted-empty n own values (blocksIn n journal);
+restarted-follows : (n own : ℕ) (values : List ℤ) → SettingOf n own values → (journal : List ℕ) (notices : List Notice)
+    → Follows (begun own (blocksIn n journal)) (restartedMemory n own values notices (blocksIn n journal))
+restarted-follows n own values g journal notices = record {
+  shape = shapes .restarted n own values g journal notices;
+  sent = sent-shapes .restarted n own values journal notices;
+  own = restarted-own n own values notices (blocksIn n journal);
+  numbers = restarted-kept n own values journal notices;
+  queue = restarted-empty n own values notices (blocksIn n journal);
 }
 
 -- ---- a call, a restart, a list of them
@@ -71,9 +72,9 @@ call-follows h m f c =
 
 any-follows : (h : History) (m : Memory) → Follows h m → (c : AnyCall) → Follows (historyAfter h c (anyStep m c .answer)) (anyStep m c .memory)
 any-follows h m f (call c) = call-follows h m f c
-any-follows h m f (restart n own values journal block) =
-    restart-by (λ (o : Outcome). Follows (historyAfter h (restart n own values journal block) (o .answer)) (o .memory)) m n own values journal block
-    (λ e. let p = restart-passed m n own values block e in restarted-follows n own values p journal)
+any-follows h m f (restart n own values journal notices block) =
+    restart-by (λ (o : Outcome). Follows (historyAfter h (restart n own values journal notices block) (o .answer)) (o .memory)) m n own values journal notices block
+    (λ e. let p = restart-passed m n own values block e in restarted-follows n own values p journal notices)
     (λ z. rw (ne-eqb (restartRefusal m n own values block) 0 z) f)
 
 all-follow : (h : History) (m : Memory) → Follows h m → (cs : List AnyCall) → Follows (history h m cs) (afterAll m cs)
@@ -86,8 +87,8 @@ histories = record {
   made = λ n own values g cs.
       let m = madeMemory n own values in
       told (history (begun own []) m cs) (afterAll m cs) (all-follow (begun own []) m (made-follows n own values g) cs);
-  restarted = λ n own values g journal cs.
+  restarted = λ n own values g journal notices cs.
       let b = begun own (blocksIn n journal) in
-      let m = restartedMemory n own values (blocksIn n journal) in
-      told (history b m cs) (afterAll m cs) (all-follow b m (restarted-follows n own values g journal) cs);
+      let m = restartedMemory n own values notices (blocksIn n journal) in
+      told (history b m cs) (afterAll m cs) (all-follow b m (restarted-follows n own values g journal notices) cs);
 }

@@ -10,6 +10,7 @@ pub mod HitLaws
 pub mod QueueLaws
 pub mod PlaceLaws
 pub mod BlockFacts
+pub mod NoticeLaws
 -- what a call does, and what its tests say
 pub mod Steps
 pub mod Passed
@@ -27,6 +28,7 @@ pub mod ShapeDeliver
 pub mod ShapeTurn
 pub mod ShapeWriteset
 pub mod ShapeWork
+pub mod ShapeNotice
 -- a restart
 pub mod RestartLaws
 pub mod ShapeRestart
@@ -38,17 +40,20 @@ pub mod Shapes
 pub mod Rising
 pub mod ReadBack
 pub mod SentLaws
-pub mod TurnStays
-pub mod Claims
 pub mod SentClient
 pub mod SentSend
 pub mod SentWork
+pub mod SentNotice
 pub mod Sent
+pub mod TurnStays
+pub mod Claims
 pub mod Reports
 pub mod Queues
 pub mod Histories
 pub mod Restarts
 pub mod Tickets
+-- out slots, and what a notice leaves alone
+pub mod NoticeClaims
 -- with restarts among the calls: own writesets that a work meets
 pub mod Reached
 -- a station; a replica is none; a write with no table of classes, and the lock before staleness

@@ -7,15 +7,17 @@ use native.Mathlib.Omega.{arith}
 use lib.IntN.{ℤ}
 use Rattle.block.specs.Answers.{Refusal, refuse, firstOf}
 use Rattle.memory.specs.Memory.{Memory, isStation}
+use Rattle.memory.specs.Notices.{Notice}
 use Rattle.engine.specs.Answers.{numberOf, Outcome}
 use Rattle.engine.specs.Answers.Answer.{refused}
 use Rattle.engine.specs.Make.{madeMemory, makeRefusal, makeStep}
 use Rattle.engine.specs.Classes.{mustWait, loadRefusal}
 use Rattle.engine.specs.Client.{rowNo, itemOut, noRow, notActive, isOwn, writeLent, beginRefusal, readRefusal, writeRefusal, askRefusal, withdrawRefusal}
 use Rattle.engine.specs.Moves.{sendRefusal, deliverRefusal, workRefusal}
+use Rattle.engine.specs.Notices.{noticeRefusal}
 use Rattle.engine.specs.Restart.{blocksIn, restartedMemory, restartRefusal, restartStep}
 use Rattle.engine.specs.Calls.{Call, refusalOf}
-use Rattle.engine.specs.Calls.Call.{begin, read, write, ask, withdraw, report, send, deliver, work, load}
+use Rattle.engine.specs.Calls.Call.{begin, read, write, ask, withdraw, report, send, deliver, work, load, notice}
 use Rattle.engine.specs.History.{AnyCall, anyStep, afterAll}
 use Rattle.engine.specs.History.AnyCall.{call, restart}
 use Rattle.engine.specs.Station.{Numbered}
@@ -39,7 +41,7 @@ write-lacks k m r i own new =
     (isOwn m r i) (λ e. not-first k _ own) (λ e. not-first k _ new)
 
 replica-numbers : (m : Memory) → isStation m ≡ false → (c : Call) → refusalOf m c ≡ 25 → ⊥
-unfolding refusalOf beginRefusal readRefusal askRefusal withdrawRefusal sendRefusal deliverRefusal workRefusal loadRefusal
+unfolding refusalOf beginRefusal readRefusal askRefusal withdrawRefusal sendRefusal deliverRefusal workRefusal loadRefusal noticeRefusal
 replica-numbers m h begin e = not-first 25 _ refl e
 replica-numbers m h (read t i) e = not-first 25 _ refl e
 replica-numbers m h (write t i v) e = write-lacks 25 m (rowNo m t) i refl refl (rw h at e)
@@ -50,6 +52,7 @@ replica-numbers m h (send b) e = not-first 25 _ refl (rw h at e)
 replica-numbers m h (deliver b) e = not-first 25 _ refl e
 replica-numbers m h work e = not-first 25 _ refl e
 replica-numbers m h (load l) e = not-first 25 _ refl e
+replica-numbers m h (notice a) e = not-first 25 _ refl e
 
 -- ---- a number that is lent
 
@@ -59,10 +62,11 @@ made-numbered m n own values z =
     unless-by (λ (o : Outcome). isStation (o .memory) ≡ false) (makeRefusal m n own values) m
     (λ e. let p = make-passed m n own values e in numbered (madeMemory n own values) n own (made-own n own values) (p .below) (p .group .most)) (λ e. absurd (e z))
 
-restarted-numbered : (m : Memory) (n own : ℕ) (values : List ℤ) (journal block : List ℕ) → restartRefusal m n own values block ≡ 0 → isStation (restartStep m n own values journal block .memory) ≡ false
-restarted-numbered m n own values journal block z =
-    restart-by (λ (o : Outcome). isStation (o .memory) ≡ false) m n own values journal block
-    (λ e. let p = restart-passed m n own values block e in numbered (restartedMemory n own values (blocksIn n journal)) n own (restarted-own n own values (blocksIn n journal)) (p .below) (p .group .most)) (λ e. absurd (e z))
+restarted-numbered : (m : Memory) (n own : ℕ) (values : List ℤ) (journal : List ℕ) (notices : List Notice) (block : List ℕ) → restartRefusal m n own values block ≡ 0
+    → isStation (restartStep m n own values journal notices block .memory) ≡ false
+restarted-numbered m n own values journal notices block z =
+    restart-by (λ (o : Outcome). isStation (o .memory) ≡ false) m n own values journal notices block
+    (λ e. let p = restart-passed m n own values block e in numbered (restartedMemory n own values notices (blocksIn n journal)) n own (restarted-own n own values notices (blocksIn n journal)) (p .below) (p .group .most)) (λ e. absurd (e z))
 
 -- ---- a list
 
@@ -72,7 +76,7 @@ restart-numbers m n own values block e = not-first 25 _ refl e
 
 any-numbers : (m : Memory) → isStation m ≡ false → (c : AnyCall) → anyStep m c .answer ≡ refused 25 → ⊥
 any-numbers m h (call c) e = replica-numbers m h c (sym (refusals .number m c) ∙ ap numberOf e)
-any-numbers m h (restart n own values journal block) e = restart-numbers m n own values block (sym (restarts .number m n own values journal block) ∙ ap numberOf e)
+any-numbers m h (restart n own values journal notices block) e = restart-numbers m n own values block (sym (restarts .number m n own values journal notices block) ∙ ap numberOf e)
 
 pub replicas-numbered : Numbered
 replicas-numbered = record {

@@ -11,6 +11,7 @@ use Rattle.block.specs.Message.{Record}
 use Rattle.block.specs.Answers.{recordAt, entryAt}
 use Rattle.block.proofs.BoolLaws.{both}
 use Rattle.memory.specs.Memory.{Store, Memory, isStation}
+use Rattle.memory.specs.Notices.{Notice}
 use Rattle.engine.specs.Answers.{Outcome}
 use Rattle.engine.specs.Answers.Answer.{loaded}
 use Rattle.engine.specs.Make.{madeMemory}
@@ -19,7 +20,7 @@ use Rattle.engine.specs.Classes.{isApplying, hasClass, classFrom, classT
 use Rattle.engine.specs.Client.{rowNo, writeRefusal, writeUnless, writeRow}
 use Rattle.engine.specs.Restart.{blocksIn, Replayed, commitAll, commitBlocks, commitOne, startReplay, writesetsIn, restartedMemory}
 use Rattle.engine.specs.Calls.{Call, step}
-use Rattle.engine.specs.Calls.Call.{begin, read, write, ask, withdraw, report, send, deliver, work, load}
+use Rattle.engine.specs.Calls.Call.{begin, read, write, ask, withdraw, report, send, deliver, work, load, notice}
 use Rattle.engine.specs.History.{AnyCall, anyStep, afterAll}
 use Rattle.engine.specs.History.AnyCall.{call, restart}
 use Rattle.engine.specs.Shape.{Shape}
@@ -93,6 +94,7 @@ stays m (send b) h = ap (λ (s : Store). s .classes) (frames .sends m b .store)
 stays m (deliver b) h = ap (λ (k : Memory). k .store .classes) (frames .delivers m b .rest)
 stays m work h = frames .works m .classes
 stays m (load l) h = clash {b = true} refl h
+stays m (notice a) h = ap (λ (k : Memory). k .store .classes) (frames .notices m a .rest)
 
 kept : (m : Memory) (c : Call) → (step m c .answer ≡ loaded → ⊥) → step m c .memory .store .classes ≡ m .store .classes
 kept m begin h = stays m begin refl
@@ -104,6 +106,7 @@ kept m report h = stays m report refl
 kept m (send b) h = stays m (send b) refl
 kept m (deliver b) h = stays m (deliver b) refl
 kept m work h = stays m work refl
+kept m (notice a) h = stays m (notice a) refl
 kept m (load l) h =
     load-by (λ (o : Outcome). (o .answer ≡ loaded → ⊥) → o .memory .store .classes ≡ m .store .classes) m l (λ e k. absurd (k refl)) (λ e k. refl) h
 
@@ -123,16 +126,16 @@ unfolding commitBlocks
 blocks-none [] r = refl
 blocks-none (b ∷ bs) r = blocks-none bs (commitAll r (writesetsIn b)) ∙ all-none (writesetsIn b) r
 
-restarted-none : (n own : ℕ) (values : List ℤ) (bs : List (List ℕ)) → Unloaded (restartedMemory n own values bs)
+restarted-none : (n own : ℕ) (values : List ℤ) (notices : List Notice) (bs : List (List ℕ)) → Unloaded (restartedMemory n own values notices bs)
 unfolding restartedMemory
-restarted-none n own values bs = blocks-none bs (startReplay values)
+restarted-none n own values notices bs = blocks-none bs (startReplay values)
 
 -- ---- a list
 
 any-none : (m : Memory) (c : AnyCall) → isLoad c ≡ false → Unloaded m → Unloaded (anyStep m c .memory)
 any-none m (call c) h u = stays m c h ∙ u
-any-none m (restart n own values journal block) h u =
-    restart-by (λ (o : Outcome). Unloaded (o .memory)) m n own values journal block (λ e. restarted-none n own values (blocksIn n journal)) (λ e. u)
+any-none m (restart n own values journal notices block) h u =
+    restart-by (λ (o : Outcome). Unloaded (o .memory)) m n own values journal notices block (λ e. restarted-none n own values notices (blocksIn n journal)) (λ e. u)
 
 none-after : (m : Memory) (cs : List AnyCall) → noLoads cs ≡ true → Unloaded m → Unloaded (afterAll m cs)
 unfolding afterAll noLoads
@@ -150,6 +153,7 @@ one-class = record {
   writes = λ m S h u. write-same m S u h;
   kept = kept;
   made = λ n own values g. write-after (madeMemory n own values) (made-reached n own values g) (made-none n own values);
-  restarted = λ n own values g journal.
-      write-after (restartedMemory n own values (blocksIn n journal)) (restarted-reached n own values g journal) (restarted-none n own values (blocksIn n journal));
+  restarted = λ n own values g journal notices.
+      write-after (restartedMemory n own values notices (blocksIn n journal)) (restarted-reached n own values g journal notices)
+      (restarted-none n own values notices (blocksIn n journal));
 }

@@ -16,16 +16,17 @@ use Rattle.engine.specs.Answers.Answer.{refused}
 use Rattle.engine.specs.Make.{madeMemory, makeRefusal}
 use Rattle.engine.specs.Classes.{loadRefusal}
 use Rattle.engine.specs.Client.{rowNo, beginRefusal, readRefusal, writeRefusal, askRefusal, withdrawRefusal}
-use Rattle.engine.specs.Moves.{blockAtTurn, isSent, workLent, nothingWaits, sendRefusal, deliverRefusal, workRefusal, isLast, appending, commitWriteset}
+use Rattle.engine.specs.Moves.{outAtTurn, blockAtTurn, isSent, workLent, nothingWaits, sendRefusal, deliverRefusal, workRefusal, isLast, appending, commitWriteset}
+use Rattle.engine.specs.Notices.{noticeRefusal}
 use Rattle.engine.specs.Restart.{restartRefusal}
 use Rattle.engine.specs.Calls.{Call, step, refusalOf}
-use Rattle.engine.specs.Calls.Call.{begin, read, write, ask, withdraw, report, send, deliver, work, load}
+use Rattle.engine.specs.Calls.Call.{begin, read, write, ask, withdraw, report, send, deliver, work, load, notice}
 use Rattle.engine.specs.Shape.{Shape}
 use Rattle.engine.specs.Sent.{SentShape}
 use Rattle.engine.specs.History.{AnyCall, anyStep, afterAll}
 use Rattle.engine.specs.History.AnyCall.{call, restart}
 use Rattle.engine.specs.OwnSent.{writesetMet, meetsOwn, EndsNobody, OwnSent}
-use Rattle.engine.proofs.Tests.{cond-by, not-first}
+use Rattle.engine.proofs.Tests.{cond-by, clash, not-first}
 use Rattle.engine.proofs.Steps.{work-by}
 use Rattle.engine.proofs.ShapeWriteset.{ends-own}
 use Rattle.engine.proofs.SentWork.{own-sent}
@@ -70,12 +71,13 @@ nobody m o u =
       aborted = λ h. omega arith;
     }
 
-ends-nobody : (m : Memory) → workLent m ≡ true → nothingWaits m ≡ false → meetsOwn m ≡ true → isSent m (writesetMet m .ticket) ≡ false → EndsNobody m (step m work)
+ends-nobody : (m : Memory) → workLent m ≡ true → outAtTurn m ≡ false → nothingWaits m ≡ false → meetsOwn m ≡ true → isSent m (writesetMet m .ticket) ≡ false → EndsNobody m (step m work)
 unfolding workRefusal firstOf
-ends-nobody m lent waits e u =
+ends-nobody m lent live waits e u =
     let o = own m e in
-    let z : workRefusal m ≡ 0 = rw (lent, waits) refl in
+    let z : workRefusal m ≡ 0 = rw (lent, live, waits) refl in
     work-by (EndsNobody m) m
+    (λ y out. clash out live)
     (λ y k. absurd (o .kind k))
     (λ y k. rw (eq-eqb (getD (blockAtTurn m) 1 0) (m .group .own) (o .mine)) (nobody m (o .mine) u))
     (λ y. absurd (y z))
@@ -83,7 +85,7 @@ ends-nobody m lent waits e u =
 -- ---- 22
 
 numbers-lack : (m : Memory) (c : Call) → refusalOf m c ≡ 22 → ⊥
-unfolding refusalOf beginRefusal readRefusal askRefusal withdrawRefusal sendRefusal deliverRefusal workRefusal loadRefusal
+unfolding refusalOf beginRefusal readRefusal askRefusal withdrawRefusal sendRefusal deliverRefusal workRefusal loadRefusal noticeRefusal
 numbers-lack m begin e = not-first 22 _ refl e
 numbers-lack m (read t i) e = not-first 22 _ refl e
 numbers-lack m (write t i v) e = write-lacks 22 m (rowNo m t) i refl refl (at-replica (isStation m) 22 (λ z. omega arith) (writeRefusal m (rowNo m t) i) e .1)
@@ -94,6 +96,7 @@ numbers-lack m (send b) e = not-first 22 _ refl (at-replica (isStation m) 22 (λ
 numbers-lack m (deliver b) e = not-first 22 _ refl e
 numbers-lack m work e = not-first 22 _ refl e
 numbers-lack m (load l) e = not-first 22 _ refl e
+numbers-lack m (notice a) e = not-first 22 _ refl e
 
 restart-lacks : (m : Memory) (n own : ℕ) (values : List ℤ) (block : List ℕ) → restartRefusal m n own values block ≡ 22 → ⊥
 unfolding restartRefusal
@@ -105,7 +108,7 @@ make-lacks m n own values e = not-first 22 _ refl e
 
 none-gives : (m : Memory) (c : AnyCall) → anyStep m c .answer ≡ refused 22 → ⊥
 none-gives m (call c) e = numbers-lack m c (sym (refusals .number m c) ∙ ap numberOf e)
-none-gives m (restart n own values journal block) e = restart-lacks m n own values block (sym (restarts .number m n own values journal block) ∙ ap numberOf e)
+none-gives m (restart n own values journal notices block) e = restart-lacks m n own values block (sym (restarts .number m n own values journal notices block) ∙ ap numberOf e)
 
 pub own-sent-ever : OwnSent
 own-sent-ever = record {

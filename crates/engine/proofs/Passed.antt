@@ -1,26 +1,29 @@
 -- What a call's tests say where it is not refused. Assumes nothing.
 use Prim.Native.Nat.{ℕ, _+_, _*_, _≤_, _<_}
 use mathlib.Core.Path.{_≡_, refl}
-use mathlib.Core.Bool.{Bool, true, false, not, _&&_, _||_}
+use mathlib.Core.Bool.{Bool, true, false, cond, not, _&&_, _||_}
 use mathlib.Core.List.{List}
 use native.Mathlib.Omega.{arith}
-use lib.Dec.{eqb, leb}
+use lib.Dec.{eqb, ltb, leb}
 use lib.IntN.{ℤ}
-use lib.ListN.{length}
+use lib.ListN.{length, getD}
 use borrow.Author.Tests.{eqb-true, eqb-false, eq-eqb, ltb-false, leb-false, not-false}
 use Rattle.block.proofs.AnswerLaws.{not-refused}
 use Rattle.block.proofs.BoolLaws.{Both, both, is-within}
 use Rattle.block.specs.Answers.{blockRefusal, headerOf}
 use Rattle.block.specs.Message.{ownerOf, within, maxTicket}
-use Rattle.memory.specs.Memory.{Memory, slotLimit}
+use Rattle.memory.specs.Memory.{Memory, span, slotLimit}
+use Rattle.memory.specs.Notices.{Notice, isOut}
 use Rattle.memory.specs.Rows.{freeRow, writeCount}
 use Rattle.memory.specs.Turns.{isEmpty}
 use Rattle.engine.specs.Classes.{loadRefusal}
 use Rattle.engine.specs.Client.{freeNo, rowNo, rowIn, isOwn, noRow, notActive, heldByOther, beginRefusal, writeRefusal, askRefusal, withdrawRefusal}
-use Rattle.engine.specs.Moves.{sentAlready, sendRefusal, sameBytes, isOwnBlock, deliverRefusal, workRefusal}
+use Rattle.engine.specs.Moves.{outAtTurn, sentAlready, sendRefusal, sameBytes, isOwnBlock, deliverRefusal, workRefusal}
+use Rattle.engine.specs.Notices.{placedFrom, sentFrom, barsOut, barsBack, noticeRefusal}
 use Rattle.engine.specs.Make.{SettingOf, placesFit, slicesFit, partsFit, sizeOut, makeRefusal}
 use Rattle.engine.specs.Restart.{restartRefusal}
 use Rattle.engine.proofs.Tests.{bool-by, clash, passes}
+use Rattle.engine.proofs.Steps.{Awaited}
 
 -- two tests joined, where their joint denial does not hold
 both-so : (a b : Bool) → not (a && b) ≡ false → Both a b
@@ -109,11 +112,16 @@ withdraw-passed m t e =
     let a = passes _ _ refl e in
     row-passed m t (a .0) (passes _ _ refl (a .1) .0)
 
+pub neither : (a b : Bool) → a || b ≡ false → (a ≡ false) × (b ≡ false)
+neither true b h = clash {b = true} refl h
+neither false b h = (refl, h)
+
 -- ---- send
 
 pub record SendPassed (m : Memory) : Type 0 where
   pub slot : m .turn .slot < slotLimit
   pub owner : ownerOf (m .group .replicas) (m .turn .slot) ≡ m .group .own
+  pub live : outAtTurn m ≡ false
   pub unsent : sentAlready m ≡ false
 
 pub send-passed : (m : Memory) (b : List ℕ) → sendRefusal m b ≡ 0 → SendPassed m
@@ -122,8 +130,9 @@ send-passed m b e =
     let a = passes _ _ refl e in
     let s = passes _ _ refl (a .1) in
     let o = passes _ _ refl (s .1) in
-    let u = passes _ _ refl (o .1) in
-    record { slot = leb-false slotLimit (m .turn .slot) (s .0); owner = eqb-true _ _ (not-false _ (o .0)); unsent = u .0 }
+    let l = passes _ _ refl (o .1) in
+    let u = passes _ _ refl (l .1) in
+    record { slot = leb-false slotLimit (m .turn .slot) (s .0); owner = eqb-true _ _ (not-false _ (o .0)); live = l .0; unsent = u .0 }
 
 -- ---- deliver
 
@@ -133,6 +142,7 @@ pub record DeliverPassed (m : Memory) (b : List ℕ) : Type 0 where
   pub taken : blockRefusal b ≡ 0
   pub replicas : headerOf b .replicas ≡ m .group .replicas
   pub low : m .turn .slot ≤ headerOf b .slot
+  pub live : isOut (m .group) (headerOf b .slot) ≡ false
   pub high : headerOf b .slot < m .turn .slot + m .group .replicas
   -- an own block is the one sent, byte for byte
   pub own : headerOf b .sender ≡ m .group .own → (sentAlready m ≡ true) × (sameBytes b (m .blocks .outbox) ≡ true)
@@ -157,7 +167,8 @@ deliver-passed m b e =
     let r = passes _ _ refl (q .1) in
     let s = passes _ _ refl (r .1) in
     let t = passes _ _ refl (s .1) in
-    let u = passes _ _ refl (t .1) in
+    let o = passes _ _ refl (t .1) in
+    let u = passes _ _ refl (o .1) in
     let v = passes _ _ refl (u .1) in
     let w = passes _ _ refl (v .1) in
     let l = both-so _ _ (p .0) in
@@ -168,6 +179,7 @@ deliver-passed m b e =
       taken = not-refused b (record { long = long; checks = not-false _ (q .0); forms = not-false _ (r .0) });
       replicas = eqb-true _ _ (not-false _ (s .0));
       low = ltb-false _ _ (t .0);
+      live = o .0;
       high = leb-false _ _ (u .0);
       own = λ q. own-block m b (only-right _ (isOwnBlock m b) (v .0) (eq-eqb (headerOf b .sender) (m .group .own) q));
       empty = not-false _ (w .0);
@@ -176,9 +188,52 @@ deliver-passed m b e =
 -- ---- work
 
 -- a block waits at the turn
-pub work-passed : (m : Memory) → workRefusal m ≡ 0 → isEmpty (m .group .replicas) (m .turn .slot) (m .blocks .places) ≡ false
+pub work-passed : (m : Memory) → Awaited m → isEmpty (m .group .replicas) (m .turn .slot) (m .blocks .places) ≡ false
 unfolding workRefusal
-work-passed m e = passes _ _ refl (passes _ _ refl e .1) .0
+work-passed m a = let e = passes _ _ refl (passes _ _ refl (a .passed) .1) .0 in rw (a .live) at e
+
+-- ---- notice
+
+pub record NoticePassed (m : Memory) (a : Notice) : Type 0 where
+  pub about : a .about < m .group .replicas
+  pub range : a .slot < slotLimit
+  -- the turn is not above its slot
+  pub turn : m .turn .slot ≤ a .slot
+  pub bars : cond (a .out) (barsOut m a) (barsBack m a) ≡ false
+
+pub notice-passed : (m : Memory) (a : Notice) → noticeRefusal m a ≡ 0 → NoticePassed m a
+unfolding noticeRefusal
+notice-passed m a e =
+    let p = passes _ _ refl e in
+    let q = passes _ _ refl (p .1) in
+    let r = passes _ _ refl (q .1) in
+    let s = neither (leb (m .group .replicas) (a .about)) (leb slotLimit (a .slot)) (q .0) in
+    let t = neither (ltb (a .slot) (m .turn .slot)) (cond (a .out) (barsOut m a) (barsBack m a)) (r .0) in
+    record { about = leb-false _ _ (s .0); range = leb-false _ _ (s .1); turn = ltb-false _ _ (t .0); bars = t .1 }
+
+pub record OutPassed (m : Memory) (a : Notice) : Type 0 where
+  -- the last outage has ended at or below the turn
+  pub ended : getD (m .group .until) (a .about) 0 ≤ m .turn .slot
+  pub unplaced : placedFrom m (a .about) (a .slot) (span (m .group)) ≡ false
+  pub unsent : sentFrom m (a .about) (a .slot) ≡ false
+
+pub out-passed : (m : Memory) (a : Notice) → noticeRefusal m a ≡ 0 → a .out ≡ true → OutPassed m a
+out-passed m a e o =
+    let b = rw o at (notice-passed m a e .bars) in
+    let p = neither _ _ b in
+    let q = neither _ _ (p .1) in
+    record { ended = ltb-false _ _ (p .0); unplaced = q .0; unsent = q .1 }
+
+pub record BackPassed (m : Memory) (a : Notice) : Type 0 where
+  -- the last outage has no end yet, and began below the slot
+  pub endless : getD (m .group .until) (a .about) 0 ≡ slotLimit
+  pub above : getD (m .group .from) (a .about) 0 < a .slot
+
+pub back-passed : (m : Memory) (a : Notice) → noticeRefusal m a ≡ 0 → a .out ≡ false → BackPassed m a
+back-passed m a e o =
+    let b = rw o at (notice-passed m a e .bars) in
+    let p = neither _ _ b in
+    record { endless = eqb-true _ _ (not-false _ (p .0)); above = leb-false _ _ (p .1) }
 
 -- ---- load
 
@@ -187,10 +242,6 @@ unfolding loadRefusal
 load-passed m l e = eqb-true (length l) 128 (both-so (eqb (length (m .store .classes)) 128) (eqb (length l) 128) (passes _ _ refl e .0) .right)
 
 -- ---- make and restart
-
-neither : (a b : Bool) → a || b ≡ false → (a ≡ false) × (b ≡ false)
-neither true b h = clash {b = true} refl h
-neither false b h = (refl, h)
 
 lent-setting : (n own : ℕ) (values : List ℤ) (fit : Bool) → not (eqb (length values) 128 && fit) ≡ false → sizeOut n own ≡ false → SettingOf n own values
 lent-setting n own values fit l s =

@@ -9,17 +9,18 @@ use lib.Dec.{eqb}
 use lib.ListN.{length, getD, replicate}
 use Rattle.block.specs.Message.{Record}
 use Rattle.memory.specs.Memory.{Memory}
+use Rattle.memory.specs.Notices.{Notice}
 use Rattle.memory.specs.Rows.{rowAt, has}
 use Rattle.engine.specs.Answers.{Outcome}
 use Rattle.engine.specs.Make.{madeMemory}
 use Rattle.engine.specs.Client.{rowNo, beginAt, rewriteAt, insertWrite, staleAt, readOnlyAt, queueAt, withdrawAt, reportStep}
-use Rattle.engine.specs.Moves.{waiting, without, hitTickets, sendNow, deliverNow, passNext, commitWriteset}
+use Rattle.engine.specs.Moves.{waiting, without, hitTickets, sendNow, deliverNow, passNext, commitWriteset, passOut}
 use Rattle.engine.specs.Calls.{Call, step, after}
-use Rattle.engine.specs.Calls.Call.{begin, read, write, ask, withdraw, report, send, deliver, work, load}
+use Rattle.engine.specs.Calls.Call.{begin, read, write, ask, withdraw, report, send, deliver, work, load, notice}
 use Rattle.engine.specs.Restart.{blocksIn, restartedMemory}
 use Rattle.engine.specs.Shape.{Shape}
 use Rattle.engine.specs.History.{pendingAfter, pending, Queues}
-use Rattle.engine.proofs.Steps.{begin-by, read-by, write-by, ask-by, withdraw-by, send-by, deliver-by, work-by, load-by}
+use Rattle.engine.proofs.Steps.{begin-by, read-by, write-by, ask-by, withdraw-by, send-by, deliver-by, work-by, notice-by, load-by}
 use Rattle.engine.proofs.Passed.{RowPassed, ask-passed}
 use Rattle.engine.proofs.HitLaws.{no-zero}
 use Rattle.engine.proofs.RowLaws.{row-found}
@@ -62,8 +63,13 @@ ordered m s (withdraw t) = withdraw-by (Ordered m (withdraw t)) m t (λ e. unfol
 ordered m s report = unfold step reportStep in refl
 ordered m s (send b) = send-by (Ordered m (send b)) m b (λ e. unfold sendNow waiting in refl) (λ n k e. refl)
 ordered m s (deliver b) = deliver-by (Ordered m (deliver b)) m b (λ e. unfold deliverNow in refl) (λ e. refl)
-ordered m s work = work-by (Ordered m work) m (λ e k. unfold passNext in sym (without-none (waiting (m .txns .queue)))) (λ e k. committed m s _ _) (λ e. refl)
+ordered m s work =
+    work-by (Ordered m work) m
+    (λ e u. unfold passOut in sym (without-none (waiting (m .txns .queue))))
+    (λ e k. unfold passNext in sym (without-none (waiting (m .txns .queue))))
+    (λ e k. committed m s _ _) (λ e. refl)
 ordered m s (load l) = load-by (Ordered m (load l)) m l (λ e. refl) (λ e. refl)
+ordered m s (notice a) = notice-by (Ordered m (notice a)) m a (λ e. refl) (λ e. refl)
 
 listed : {over : ℕ} (m : Memory) → Shape over m → (cs : List Call) → waiting (after m cs .txns .queue) ≡ pending (waiting (m .txns .queue)) m cs
 unfolding after pending Ordered
@@ -75,17 +81,17 @@ pub made-empty : (n own : ℕ) (values : List ℤ) → waiting (madeMemory n own
 unfolding madeMemory waiting
 made-empty n own values = refl
 
-pub restarted-empty : (n own : ℕ) (values : List ℤ) (bs : List (List ℕ)) → waiting (restartedMemory n own values bs .txns .queue) ≡ []
+pub restarted-empty : (n own : ℕ) (values : List ℤ) (notices : List Notice) (bs : List (List ℕ)) → waiting (restartedMemory n own values notices bs .txns .queue) ≡ []
 unfolding restartedMemory waiting
-restarted-empty n own values bs = refl
+restarted-empty n own values notices bs = refl
 
 pub queues : Queues
 queues = record {
   queue = λ n own values g cs.
       let m = madeMemory n own values in
       listed m (shapes .made n own values g) cs ∙ ap (λ (q : List ℕ). pending q m cs) (made-empty n own values);
-  restarted = λ n own values g journal cs.
+  restarted = λ n own values g journal notices cs.
       let bs = blocksIn n journal in
-      let m = restartedMemory n own values bs in
-      listed m (shapes .restarted n own values g journal) cs ∙ ap (λ (q : List ℕ). pending q m cs) (restarted-empty n own values bs);
+      let m = restartedMemory n own values notices bs in
+      listed m (shapes .restarted n own values g journal notices) cs ∙ ap (λ (q : List ℕ). pending q m cs) (restarted-empty n own values notices bs);
 }

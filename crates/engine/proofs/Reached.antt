@@ -8,6 +8,7 @@ use lib.Dec.{eqb}
 use lib.IntN.{ℤ}
 use borrow.Author.Tests.{ne-eqb}
 use Rattle.memory.specs.Memory.{Memory, noNumber, isStation}
+use Rattle.memory.specs.Notices.{Notice}
 use Rattle.engine.specs.Answers.{Outcome}
 use Rattle.engine.specs.Make.{SettingOf, madeMemory}
 use Rattle.engine.specs.Restart.{blocksIn, restartedMemory}
@@ -36,12 +37,13 @@ numbered m n own e o h = ne-eqb (m .group .own) 255 (λ z. omega arith)
 pub made-reached : (n own : ℕ) (values : List ℤ) → SettingOf n own values → Reached (madeMemory n own values)
 made-reached n own values g = record { over = 0; shape = shapes .made n own values g; sent = sent-shapes .made n own values; replica = numbered (madeMemory n own values) n own (made-own n own values) (g .below) (g .group .most) }
 
-pub restarted-reached : (n own : ℕ) (values : List ℤ) → SettingOf n own values → (journal : List ℕ) → Reached (restartedMemory n own values (blocksIn n journal))
-restarted-reached n own values g journal = record {
+pub restarted-reached : (n own : ℕ) (values : List ℤ) → SettingOf n own values → (journal : List ℕ) (notices : List Notice)
+    → Reached (restartedMemory n own values notices (blocksIn n journal))
+restarted-reached n own values g journal notices = record {
   over = _;
-  shape = shapes .restarted n own values g journal;
-  sent = sent-shapes .restarted n own values journal;
-  replica = numbered (restartedMemory n own values (blocksIn n journal)) n own (restarted-own n own values (blocksIn n journal)) (g .below) (g .group .most);
+  shape = shapes .restarted n own values g journal notices;
+  sent = sent-shapes .restarted n own values journal notices;
+  replica = numbered (restartedMemory n own values notices (blocksIn n journal)) n own (restarted-own n own values notices (blocksIn n journal)) (g .below) (g .group .most);
 }
 
 pub any-reached : (m : Memory) → Reached m → (c : AnyCall) → Reached (anyStep m c .memory)
@@ -51,9 +53,9 @@ any-reached m R (call c) = record {
   sent = sent-shapes .each m (R .shape) (R .sent) c;
   replica = ap (λ (k : ℕ). eqb k noNumber) (own-same m c) ∙ R .replica;
 }
-any-reached m R (restart n own values journal block) =
-    restart-by (λ (o : Outcome). Reached (o .memory)) m n own values journal block
-    (λ e. let p = restart-passed m n own values block e in restarted-reached n own values p journal)
+any-reached m R (restart n own values journal notices block) =
+    restart-by (λ (o : Outcome). Reached (o .memory)) m n own values journal notices block
+    (λ e. let p = restart-passed m n own values block e in restarted-reached n own values p journal notices)
     (λ z. R)
 
 pub all-reached : (m : Memory) → Reached m → (cs : List AnyCall) → Reached (afterAll m cs)

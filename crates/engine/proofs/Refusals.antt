@@ -14,12 +14,13 @@ use Rattle.engine.specs.Answers.Answer.{refused}
 use Rattle.engine.specs.Make.{makeRefusal, makeStep}
 use Rattle.engine.specs.Classes.{loadRefusal}
 use Rattle.engine.specs.Client.{freeNo, rowNo, beginRefusal, beginAt, readRefusal, writeRefusal, rewriteAt, insertWrite, staleAt, writeRow, writeStep, askRefusal, readOnlyAt, queueAt, withdrawRefusal, withdrawAt, reportStep}
-use Rattle.engine.specs.Moves.{sendRefusal, sendNow, sendStep, deliverRefusal, deliverNow, workRefusal, passNext, commitWriteset}
+use Rattle.engine.specs.Moves.{sendRefusal, sendNow, sendStep, deliverRefusal, deliverNow, workRefusal, passNext, commitWriteset, passOut}
+use Rattle.engine.specs.Notices.{noticeRefusal}
 use Rattle.engine.specs.Calls.{Call, step, refusalOf}
-use Rattle.engine.specs.Calls.Call.{begin, read, write, ask, withdraw, report, send, deliver, work, load}
+use Rattle.engine.specs.Calls.Call.{begin, read, write, ask, withdraw, report, send, deliver, work, load, notice}
 use Rattle.engine.specs.Frames.{Refusals, isWrite}
 use Rattle.engine.proofs.Tests.{not-first, unless-by}
-use Rattle.engine.proofs.Steps.{begin-by, read-by, write-step-by, ask-by, withdraw-by, deliver-by, work-by, load-by}
+use Rattle.engine.proofs.Steps.{begin-by, read-by, write-step-by, ask-by, withdraw-by, deliver-by, work-by, notice-by, load-by}
 use Rattle.engine.proofs.Passed.{stale-passed}
 use Rattle.engine.proofs.RowLaws.{row-found, open-close}
 
@@ -33,7 +34,7 @@ station-number m true n o h = refl
 station-number m false n o h = h
 
 number : (m : Memory) (c : Call) → numberOf (step m c .answer) ≡ refusalOf m c
-unfolding step refusalOf beginAt staleAt rewriteAt insertWrite readOnlyAt queueAt withdrawAt sendNow deliverNow passNext commitWriteset
+unfolding step refusalOf beginAt staleAt rewriteAt insertWrite readOnlyAt queueAt withdrawAt sendNow deliverNow passNext commitWriteset passOut
 number m begin = begin-by (Numbered (beginRefusal m (freeNo m))) m (λ e. sym e) (λ e. refl)
 number m (read t i) = read-by (Numbered (readRefusal m (rowNo m t) i)) m t i (λ e. sym e) (λ e. refl)
 number m (write t i v) =
@@ -45,8 +46,9 @@ number m report = unfold step reportStep in refl
 number m (send b) =
     station-number m (isStation m) (sendRefusal m b) (sendStep m b) (unfold sendStep in unless-by (Numbered (sendRefusal m b)) (sendRefusal m b) m (λ e. sym e) (λ e. refl))
 number m (deliver b) = deliver-by (Numbered (deliverRefusal m b)) m b (λ e. sym e) (λ e. refl)
-number m work = work-by (Numbered (workRefusal m)) m (λ e k. sym e) (λ e k. sym e) (λ e. refl)
+number m work = work-by (Numbered (workRefusal m)) m (λ e u. sym e) (λ a k. sym (a .passed)) (λ a k. sym (a .passed)) (λ e. refl)
 number m (load l) = load-by (Numbered (loadRefusal m l)) m l (λ e. sym e) (λ e. refl)
+number m (notice a) = notice-by (Numbered (noticeRefusal m a)) m a (λ e. sym e) (λ e. refl)
 
 -- the memory is as it was
 abbrev Left : Memory → Outcome → Type 0
@@ -71,8 +73,9 @@ unchanged m (send b) h k =
     station-left m (isStation m) (sendRefusal m b) (sendStep m b)
     (λ x y. unfold sendStep in unless-by (Left m) (sendRefusal m b) m (λ e. absurd (x e)) (λ e. refl)) h k
 unchanged m (deliver b) h k = deliver-by (Left m) m b (λ e. absurd (h e)) (λ e. refl)
-unchanged m work h k = work-by (Left m) m (λ e n. absurd (h e)) (λ e o. absurd (h e)) (λ e. refl)
+unchanged m work h k = work-by (Left m) m (λ e u. absurd (h e)) (λ a n. absurd (h (a .passed))) (λ a o. absurd (h (a .passed))) (λ e. refl)
 unchanged m (load l) h k = load-by (Left m) m l (λ e. absurd (h e)) (λ e. refl)
+unchanged m (notice a) h k = notice-by (Left m) m a (λ e. absurd (h e)) (λ e. refl)
 
 -- another number than 25 is answered at a replica
 pub at-replica : (station : Bool) (k : ℕ) → (25 ≡ k → ⊥) → (n : ℕ) → cond station 25 n ≡ k → (station ≡ false) × (n ≡ k)
@@ -80,7 +83,7 @@ at-replica true k d n e = absurd (d e)
 at-replica false k d n e = (refl, e)
 
 nine : (m : Memory) (c : Call) → refusalOf m c ≡ 9 → isWrite c ≡ true
-unfolding refusalOf beginRefusal readRefusal askRefusal withdrawRefusal sendRefusal deliverRefusal workRefusal loadRefusal
+unfolding refusalOf beginRefusal readRefusal askRefusal withdrawRefusal sendRefusal deliverRefusal workRefusal loadRefusal noticeRefusal
 nine m begin e = absurd (not-first 9 _ refl e)
 nine m (read t i) e = absurd (not-first 9 _ refl e)
 nine m (write t i v) e = refl
@@ -91,6 +94,7 @@ nine m (send b) e = absurd (not-first 9 _ refl (at-replica (isStation m) 9 (λ z
 nine m (deliver b) e = absurd (not-first 9 _ refl e)
 nine m work e = absurd (not-first 9 _ refl e)
 nine m (load l) e = absurd (not-first 9 _ refl e)
+nine m (notice a) e = absurd (not-first 9 _ refl e)
 
 stale : (m : Memory) (ticket item : ℕ) (value : ℤ) → refusalOf m (write ticket item value) ≡ 9
     → step m (write ticket item value) .memory

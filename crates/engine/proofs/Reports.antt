@@ -13,25 +13,27 @@ use borrow.Author.Tests.{ne-eqb}
 use Rattle.block.specs.declared.Entry.{Entry}
 use Rattle.block.specs.Message.{Record}
 use Rattle.memory.specs.declared.Turn.{Turn}
-use Rattle.memory.specs.Memory.{Memory, bump}
+use Rattle.memory.specs.Memory.{Memory, groupOf, bump}
+use Rattle.memory.specs.Notices.{Notice}
 use Rattle.memory.specs.Rows.{openCount}
 use Rattle.memory.specs.Turns.{advance, markApplying}
 use Rattle.engine.specs.Answers.{Outcome, outcome}
 use Rattle.engine.specs.Answers.Answer.{refused}
 use Rattle.engine.specs.Make.{madeMemory}
 use Rattle.engine.specs.Client.{rowNo, beginAt, rewriteAt, insertWrite, staleAt, readOnlyAt, queueAt, withdrawAt, reportOf, reportStep}
-use Rattle.engine.specs.Moves.{sendNow, deliverNow, blockAtTurn, writesetAt, hitTickets, endsOwn, isLast, passNext, commitWriteset}
+use Rattle.engine.specs.Moves.{sendNow, deliverNow, blockAtTurn, writesetAt, hitTickets, endsOwn, isLast, passNext, commitWriteset, passOut}
 use Rattle.engine.specs.Calls.{Call, step, refusalOf, after}
-use Rattle.engine.specs.Calls.Call.{begin, read, write, ask, withdraw, report, send, deliver, work, load}
+use Rattle.engine.specs.Calls.Call.{begin, read, write, ask, withdraw, report, send, deliver, work, load, notice}
 use Rattle.engine.specs.Restart.{blocksIn, startReplay, repeated, restartedMemory}
 use Rattle.engine.specs.Shape.{Shape}
 use Rattle.engine.specs.Sent.{SentShape}
 use Rattle.engine.specs.Frames.{isWrite}
 use Rattle.engine.specs.History.{Tally, noCalls, counted, tally, writesetCount, restartTally, reportFrom, Reports}
 use Rattle.engine.proofs.Tests.{clash}
-use Rattle.engine.proofs.Steps.{begin-by, read-by, write-by, ask-by, withdraw-by, send-by, deliver-by, work-by, load-by}
+use Rattle.engine.proofs.Steps.{begin-by, read-by, write-by, ask-by, withdraw-by, send-by, deliver-by, work-by, notice-by, load-by}
 use Rattle.engine.proofs.Refusals.{refusals}
 use Rattle.engine.proofs.HitLaws.{aborts-open}
+use Rattle.engine.proofs.NoticeLaws.{notices-kept}
 use Rattle.engine.proofs.Shaping.{Bumps, bumps}
 use Rattle.engine.proofs.ShapeTurn.{Working, working}
 use Rattle.engine.proofs.RestartLaws.{reads-good, reads-few, count-few, blocks-counted}
@@ -82,6 +84,10 @@ withdraw-counted m r b = record { numbers = rw (b .withdrawn); own = refl }
 pass-counted : (m : Memory) → Bumps m → Counted m (passNext m)
 unfolding kept counted passNext
 pass-counted m b = record { numbers = rw (b .slot, add-zero (m .counts .aborted)); own = refl }
+
+out-counted : (m : Memory) → Bumps m → Counted m (passOut m)
+unfolding kept counted passOut
+out-counted m b = record { numbers = rw (b .slot, add-zero (m .counts .aborted)); own = refl }
 
 -- ---- a writeset committed
 
@@ -155,6 +161,7 @@ step-counted m s Q (deliver b) =
     (λ e. refused-counted m _ (not-nine m (deliver b) refl))
 step-counted m s Q work =
     work-by (Counted m) m
+    (λ e u. out-counted m (bumps m s))
     (λ e k. pass-counted m (bumps m s))
     (λ e k. let w = working m s e in commit-counted m s w (writesetAt (blockAtTurn m) (m .counts .done)) (w .ticket k) (own-ends m s Q (w .waits) k))
     (λ e. refused-counted m _ (not-nine m work refl))
@@ -162,6 +169,10 @@ step-counted m s Q (load l) =
     load-by (Counted m) m l
     (λ e. unfold kept counted in record { numbers = refl; own = refl })
     (λ e. refused-counted m _ (not-nine m (load l) refl))
+step-counted m s Q (notice a) =
+    notice-by (Counted m) m a
+    (λ e. unfold kept counted in record { numbers = refl; own = refl })
+    (λ e. refused-counted m _ (not-nine m (notice a) refl))
 
 -- ---- a list of calls
 
@@ -189,13 +200,14 @@ tally-kept own m s Q e (c ∷ cs) =
     tally-kept own (step m c .memory) (shapes .each m s c) (sent-shapes .each m s Q c) (k .own ∙ e) cs
     ∙ ap (λ (t : Tally). tally own t (step m c .memory) cs) (k .numbers ∙ ap (λ (n : ℕ). counted n (kept m) (step m c .answer)) e)
 
-pub restarted-own : (n own : ℕ) (values : List ℤ) (bs : List (List ℕ)) → restartedMemory n own values bs .group .own ≡ own
+pub restarted-own : (n own : ℕ) (values : List ℤ) (notices : List Notice) (bs : List (List ℕ)) → restartedMemory n own values notices bs .group .own ≡ own
 unfolding restartedMemory
-restarted-own n own values bs = refl
+restarted-own n own values notices bs = notices-kept (groupOf n own) notices .own
 
-pub restarted-kept : (n own : ℕ) (values : List ℤ) (journal : List ℕ) → kept (restartedMemory n own values (blocksIn n journal)) ≡ restartTally own (blocksIn n journal)
+pub restarted-kept : (n own : ℕ) (values : List ℤ) (journal : List ℕ) (notices : List Notice)
+    → kept (restartedMemory n own values notices (blocksIn n journal)) ≡ restartTally own (blocksIn n journal)
 unfolding restartedMemory kept
-restarted-kept n own values journal =
+restarted-kept n own values journal notices =
     let bs = blocksIn n journal in
     let c = count-few n bs (reads-good n 0 _ journal) in
     let f = reads-few n 0 (length journal / 512) journal (omega arith) in
@@ -209,10 +221,11 @@ reports = record {
       ∙ ap (reportFrom 0) (tally-kept own m (shapes .made n own values g) (sent-shapes .made n own values) (made-own n own values) cs
       ∙ ap (λ (t : Tally). tally own t m cs) (made-kept n own values));
   sum = λ n own values g cs. unfold reportOf in sym (add-zero _) ∙ shape-after (madeMemory n own values) (shapes .made n own values g) cs .ranges .endings;
-  restarted = λ n own values g journal cs.
+  restarted = λ n own values g journal notices cs.
       let bs = blocksIn n journal in
-      let m = restartedMemory n own values bs in
-      let s = shape-restarted n own values g journal in
+      let m = restartedMemory n own values notices bs in
+      let s = shape-restarted n own values g journal notices in
       report-from (after m cs) (shape-after m s cs)
-      ∙ ap (reportFrom (repeated own bs)) (tally-kept own m s (sent-shapes .restarted n own values journal) (restarted-own n own values bs) cs ∙ ap (λ (t : Tally). tally own t m cs) (restarted-kept n own values journal));
+      ∙ ap (reportFrom (repeated own bs)) (tally-kept own m s (sent-shapes .restarted n own values journal notices) (restarted-own n own values notices bs) cs
+      ∙ ap (λ (t : Tally). tally own t m cs) (restarted-kept n own values journal notices));
 }

@@ -14,8 +14,8 @@ use Rattle.memory.specs.declared.Txn.{Txn}
 use Rattle.memory.specs.Memory.{Memory}
 use Rattle.memory.specs.Rows.{rowAt, has}
 use Rattle.engine.specs.Answers.{Answer, Outcome}
-use Rattle.engine.specs.Answers.Answer.{refused, made, began, got, wrote, queued, readOnly, withdrew, reported, sent, kept, worked, loaded, restarted}
-use Rattle.engine.specs.Moves.{blockAtTurn, isHit, insertRising, hitTickets, passNext, commitWriteset}
+use Rattle.engine.specs.Answers.Answer.{refused, made, began, got, wrote, queued, readOnly, withdrew, reported, sent, kept, worked, loaded, noticed, restarted}
+use Rattle.engine.specs.Moves.{blockAtTurn, isHit, insertRising, hitTickets, passNext, commitWriteset, passOut}
 use Rattle.engine.specs.Shape.{Shape}
 use Rattle.engine.specs.Calls.{step}
 use Rattle.engine.specs.Calls.Call.{work}
@@ -89,12 +89,13 @@ abortedBy (sent b) = []
 abortedBy kept = []
 abortedBy (worked s) = s .aborted
 abortedBy loaded = []
+abortedBy noticed = []
 abortedBy (restarted c b) = []
 
 pub aborted-rise : {over : ℕ} (m : Memory) → Shape over m → Rises (abortedBy (step m work .answer))
-unfolding passNext commitWriteset Rises
+unfolding passNext commitWriteset passOut Rises
 aborted-rise m S =
-    work-by (λ (o : Outcome). Rises (abortedBy (o .answer))) m (λ e k. tt)
+    work-by (λ (o : Outcome). Rises (abortedBy (o .answer))) m (λ e u. tt) (λ e k. tt)
     (λ e k. cond-by Rises (eqb (getD (blockAtTurn m) 1 0) (m .group .own)) (λ q. tt)
     (λ q. hit-rises _ (m .txns .items) 0 (m .txns .table) (λ i j h u. S .distinct i j (omega (arith, S .lengths .table)) (omega (arith, S .lengths .table)))))
     (λ e. tt)

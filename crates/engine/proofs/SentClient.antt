@@ -30,6 +30,7 @@ client : {over : ℕ} (m n : Memory) → Shape over m → Shape over n → SentS
     → (rowAt (m .txns .table) r .stage ≡ 2 → ⊥) → (rowAt (n .txns .table) r .stage ≡ 2 → ⊥) → SentShape n
 client m n S T Q k d r rows old new = record {
   turn = rw (k .turn, k .group) (Q .turn);
+  awaited = rw (k .turn, k .group) (Q .awaited);
   own = rw (k .turn, k .blocks, k .group) (Q .own);
   once = rw (k .turn, k .blocks) (Q .once);
   live = rw (k .turn, k .blocks, d) (λ e j h l.

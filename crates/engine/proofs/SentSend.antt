@@ -60,6 +60,7 @@ module _ {over : ℕ} (m : Memory) (S : Shape over m) (Q : SentShape m) (p : Sen
   unfolding sendNow
   sent-sent = record {
     turn = λ e. p .owner;
+    awaited = λ e. p .live;
     own = λ s l u w o. clash (Q .own s l u w o .0) (p .unsent);
     once = λ e j k h u q.
         S .queue .once j k h (omega (arith, count)) (sym (ticket j (omega (arith, count))) ∙ q ∙ ticket k (omega (arith, count)));
@@ -85,6 +86,7 @@ module _ {over : ℕ} (m : Memory) (bytes : List ℕ) (S : Shape over m) (Q : Se
   unfolding deliverNow
   sent-delivered = record {
     turn = Q .turn;
+    awaited = Q .awaited;
     own = λ s l u w o. same-by s (headerOf bytes .slot)
         (λ z. let h = k .own (sender s z o) in
         (h .0, rw (z, delivered.same m bytes S k) (same-bytes bytes (m .blocks .outbox) (h .1))))

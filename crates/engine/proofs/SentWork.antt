@@ -16,12 +16,12 @@ use Rattle.memory.specs.declared.Txn.{Txn}
 use Rattle.memory.specs.Memory.{Memory}
 use Rattle.memory.specs.Rows.{closed, rowOf, rowAt}
 use Rattle.memory.specs.Turns.{isEmpty, emptied}
-use Rattle.engine.specs.Moves.{sentAlready, blockAtTurn, writesetAt, afterAborts, isSent, endsOwn, isLast, passNext, commitWriteset}
+use Rattle.engine.specs.Moves.{outAtTurn, sentAlready, blockAtTurn, writesetAt, afterAborts, isSent, endsOwn, isLast, passNext, commitWriteset, passOut}
 use Rattle.engine.specs.Shape.{Shape}
 use Rattle.engine.specs.Sent.{SentShape, sentCount, sentTicket}
 use Rattle.engine.proofs.Tests.{same-by, clash}
 use Rattle.engine.proofs.RowLaws.{FoundRow, row-found, others}
-use Rattle.engine.proofs.PlaceLaws.{next-round, empty-same}
+use Rattle.engine.proofs.PlaceLaws.{place-again, next-round, empty-same}
 use Rattle.engine.proofs.BlockFacts.{TakenBlock, taken-block}
 use Rattle.engine.proofs.Shaping.{bumps}
 use Rattle.engine.proofs.ShapeTurn.{Working, beside, again}
@@ -75,6 +75,7 @@ turned : {over : ℕ} (m k : Memory) → Shape over m → Working m → SentShap
     → ((r : ℕ) → r < 6 → rowAt (k .txns .table) r .stage ≡ 2 → ⊥) → SentShape k
 turned m k S w Q a b c d e none = record {
   turn = λ t. clash t d;
+  awaited = λ t. clash t d;
   own = rw (a, b, c, e) (λ s l u v o. absurd (no-other s l u v o));
   once = λ t. clash t d;
   live = λ t. clash t d;
@@ -98,6 +99,7 @@ off : (m k : Memory) → SentShape m → sentAlready m ≡ false → k .group .r
     → ((r : ℕ) → r < 6 → rowAt (k .txns .table) r .stage ≡ 2 → ⊥) → SentShape k
 off m k Q z a b c d e none = record {
   turn = λ t. clash t d;
+  awaited = λ t. clash t d;
   own = rw (a, b, c, e) (λ s l u v o. clash (Q .own s l u v o .0) z);
   once = λ t. clash t d;
   live = λ t. clash t d;
@@ -116,6 +118,26 @@ none-after m k Q z rows r h s = go (rows r)
     go : SameOrClosed (m .txns .table) (k .txns .table) r → ⊥
     go (inl e) = none-sent m Q z r h (rw e at s)
     go (inr e) = let q : _≡_ {A = ℕ} 0 2 = rw e at s in omega arith
+
+-- ---- an out slot: nothing was sent for it
+
+pub sent-out : {over : ℕ} (m : Memory) → Shape over m → SentShape m → outAtTurn m ≡ true → SentShape (passOut m .memory)
+unfolding passOut
+sent-out m S Q u = record {
+  turn = λ t. clash {b = false} t refl;
+  awaited = λ t. clash {b = false} t refl;
+  own = rw (bumps m S .slot) (λ s l h e q. same-by s (m .turn .slot + m .group .replicas)
+      (λ z. clash again-empty (rw z at e))
+      (λ d. clash u (Q .awaited (Q .own s (omega arith) (omega (arith, d)) e q .0))));
+  once = λ t. clash {b = false} t refl;
+  live = λ t. clash {b = false} t refl;
+  only = λ r h s. clash u (Q .awaited (Q .only r h s .0));
+}
+  where
+    again-empty : isEmpty (m .group .replicas) (m .turn .slot + m .group .replicas) (m .blocks .places) ≡ true
+    again-empty =
+        ap (λ (k : ℕ). eqb (getD (m .blocks .places) k 0) 0) (place-again (m .group .replicas) (m .turn .slot))
+        ∙ S .places .clear (m .turn .slot) (omega arith) (omega (arith, S .ranges .least)) u
 
 -- ---- a *next*
 
@@ -185,6 +207,7 @@ module _ {over : ℕ} (m : Memory) (S : Shape over m) (w : Working m) (Q : SentS
     mine-more : Shape over (committed m true true false this) → SentShape (committed m true true false this)
     mine-more T = record {
       turn = Q .turn;
+      awaited = Q .awaited;
       own = Q .own;
       once = Q .once;
       live = λ t j h u.

@@ -1,13 +1,14 @@
 -- A deliver keeps the shape. Assumes nothing.
 use Prim.Native.Nat.{ℕ, _+_, _≤_, _<_}
-use mathlib.Core.Path.{_≡_, refl, sym, _∙_}
-use mathlib.Core.Bool.{false}
+use mathlib.Core.Path.{_≡_, refl, sym, ap, _∙_}
+use mathlib.Core.Bool.{true, false}
 use mathlib.Core.List.{List}
 use native.Mathlib.Omega.{arith}
 use lib.ListN.{getD}
 use lib.Seq.{paste, length-paste}
 use Rattle.block.specs.Answers.{blockRefusal, headerOf}
 use Rattle.memory.specs.Memory.{Memory}
+use Rattle.memory.specs.Notices.{isOut}
 use Rattle.memory.specs.Turns.{placeStart, blockIn, isEmpty}
 use Rattle.engine.specs.Moves.{deliverNow}
 use Rattle.engine.specs.Shape.{PlaceShape, Shape}
@@ -40,9 +41,13 @@ module _ {over : ℕ} (m : Memory) (bytes : List ℕ) (S : Shape over m) (k : De
       (λ z. rw (z, same) (k .taken, refl, k .replicas))
       (λ d. let b = beside s p q d in rw b (S .places .waits s p q (sym (empty-same n s new old b) ∙ e)))
 
+  clear : (s : ℕ) → m .turn .slot ≤ s → s < m .turn .slot + n → isOut (m .group) s ≡ true → isEmpty n s new ≡ true
+  clear s p q u =
+      same-by s (headerOf bytes .slot) (λ z. clash u (ap (isOut (m .group)) z ∙ k .live)) (λ d. empty-same n s new old (beside s p q d) ∙ S .places .clear s p q u)
+
   places : PlaceShape (deliverNow m bytes .memory)
   unfolding deliverNow
-  places = record { waits = waits; done = done; applying = S .places .applying }
+  places = record { waits = waits; clear = clear; done = done; applying = S .places .applying }
     where
       done : 0 < m .counts .done → (isEmpty n (m .turn .slot) new ≡ false) × (m .counts .done < getD (blockIn n (m .turn .slot) new) 3 0)
       done h =

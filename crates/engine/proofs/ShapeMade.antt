@@ -37,6 +37,8 @@ shape-numbered n own values setting among = record {
     classes = length-replicate {A = ℕ} 128 0;
     places = length-replicate {A = ℕ} (512 * n) 0;
     outbox = length-replicate {A = ℕ} 512 0;
+    from = refl;
+    until = refl;
   };
   ranges = record { least = setting .least; most = setting .most; own = among; slot = omega arith; tickets = omega arith; commits = omega arith; repeats = omega arith; endings = refl };
   rows = λ r h. row-of-fits (madeMemory n own values) r (rw (is-closed r h) (fits-closed 0 0 _));
@@ -49,6 +51,7 @@ shape-numbered n own values setting among = record {
   };
   places = record {
     waits = λ s h u e. clash (eq-eqb _ 0 (getD-zeros (512 * n) (placeStart n s))) e;
+    clear = λ s h u e. eq-eqb _ 0 (getD-zeros (512 * n) (placeStart n s));
     done = λ h. absurd (let z : ⊥ = omega arith in z);
     applying = λ e. clash {b = false} e refl;
   };

@@ -141,6 +141,8 @@ module _ {over : ℕ} (m : Memory) (s : Shape over m) (r : ℕ) (h : r < 6) (t :
         classes = s .lengths .classes;
         places = s .lengths .places;
         outbox = s .lengths .outbox;
+        from = s .lengths .from;
+        until = s .lengths .until;
       }
 
       ranges-changed : Ranges over (changed m r t p)
@@ -181,6 +183,6 @@ module _ {over : ℕ} (m : Memory) (s : Shape over m) (r : ℕ) (h : r < 6) (t :
             (λ i u d some e. apart i u d (λ z. some (e ∙ z)) (sym e))
             (λ i j u v a b. s .distinct i j u v);
         queue = q;
-        places = record { waits = s .places .waits; done = s .places .done; applying = s .places .applying };
+        places = record { waits = s .places .waits; clear = s .places .clear; done = s .places .done; applying = s .places .applying };
         single = single-of (set (m .txns .table) r t) (p .items) (c .items) (λ i u. fits-changed i u .few) alone-changed;
       }

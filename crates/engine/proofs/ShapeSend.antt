@@ -111,6 +111,8 @@ module _ {over : ℕ} (m : Memory) (S : Shape over m) where
       classes = S .lengths .classes;
       places = S .lengths .places;
       outbox = length-outbox m (S .lengths .queue);
+      from = S .lengths .from;
+      until = S .lengths .until;
     };
     ranges = record {
       least = S .ranges .least;
@@ -125,6 +127,6 @@ module _ {over : ℕ} (m : Memory) (S : Shape over m) where
     rows = row-shape;
     distinct = λ i j h l d. rw (sent-row table i, sent-row table j) (S .distinct i j h l d);
     queue = queue-shape;
-    places = record { waits = S .places .waits; done = S .places .done; applying = S .places .applying };
+    places = record { waits = S .places .waits; clear = S .places .clear; done = S .places .done; applying = S .places .applying };
     single = λ i j h l d x. rw (sent-row table i, sent-row table j) (S .single i j h l d x);
   }

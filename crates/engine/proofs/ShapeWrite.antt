@@ -29,7 +29,7 @@ unfolding rewriteAt
 shape-rewritten m r k v s =
     shape-besides m s (m .turn) (m .counts .done) (m .blocks .places) _ (s .lengths .places)
     (length-set (m .txns .writes) (8 * r + k) v ∙ s .lengths .writes) (s .ranges .slot) (s .ranges .commits)
-    (record { waits = s .places .waits; done = s .places .done; applying = s .places .applying })
+    (record { waits = s .places .waits; clear = s .places .clear; done = s .places .done; applying = s .places .applying })
 
 -- ---- a new item
 

@@ -91,6 +91,8 @@ module _ {over : ℕ} (m : Memory) (S : Shape over m) (k : Working m) (more : m 
     classes = S .lengths .classes;
     places = p;
     outbox = o;
+    from = S .lengths .from;
+    until = S .lengths .until;
   }
 
   shape-of : (mine ends last : Bool) (w : Record) → TxnShape over (committed m mine ends last w) → Lengths (committed m mine ends last w)

@@ -10,13 +10,13 @@ use Rattle.engine.specs.Answers.{Outcome}
 use Rattle.engine.specs.Make.{madeMemory}
 use Rattle.engine.specs.Client.{rowNo, ownIndex, reportStep}
 use Rattle.engine.specs.Calls.{Call, step, after}
-use Rattle.engine.specs.Calls.Call.{begin, read, write, ask, withdraw, report, send, deliver, work, load}
+use Rattle.engine.specs.Calls.Call.{begin, read, write, ask, withdraw, report, send, deliver, work, load, notice}
 use Rattle.engine.specs.Restart.{highestOwn, ownWritesets, restartRefusal}
 use Rattle.engine.specs.History.{AnyCall, anyStep, afterAll, History, begun, historyAfter, history}
 use Rattle.engine.specs.History.AnyCall.{call, restart}
 use Rattle.engine.specs.Shape.{Shape, Shapes}
 use Rattle.engine.proofs.RowLaws.{row-found}
-use Rattle.engine.proofs.Steps.{begin-by, read-by, write-by, ask-by, withdraw-by, send-by, deliver-by, work-by, load-by, restart-by}
+use Rattle.engine.proofs.Steps.{begin-by, read-by, write-by, ask-by, withdraw-by, send-by, deliver-by, work-by, notice-by, load-by, restart-by}
 use Rattle.engine.proofs.Passed.{RowPassed, begin-passed, write-passed, stale-passed, ask-passed, withdraw-passed, deliver-passed, load-passed, restart-passed}
 use Rattle.engine.proofs.Shaping.{shape-loaded}
 use Rattle.engine.proofs.ShapeMade.{shape-made}
@@ -26,8 +26,9 @@ use Rattle.engine.proofs.ShapeAsk.{shape-queued}
 use Rattle.engine.proofs.ShapeEnd.{shape-stale, shape-read-only, shape-withdrawn}
 use Rattle.engine.proofs.ShapeSend.{shape-sent}
 use Rattle.engine.proofs.ShapeDeliver.{shape-delivered}
-use Rattle.engine.proofs.ShapeTurn.{working, shape-next}
+use Rattle.engine.proofs.ShapeTurn.{working, shape-next, shape-out}
 use Rattle.engine.proofs.ShapeWork.{shape-committed}
+use Rattle.engine.proofs.ShapeNotice.{shape-noticed}
 use Rattle.engine.proofs.ShapeRestart.{shape-restarted}
 
 abbrev Shaped : ℕ → Outcome → Type 0
@@ -60,10 +61,12 @@ shape-each {over} m s (send b) = send-by (Shaped over) m b (λ e. shape-sent m s
 shape-each {over} m s (deliver b) = deliver-by (Shaped over) m b (λ e. shape-delivered m b s (deliver-passed m b e)) (λ e. s)
 shape-each {over} m s work =
     work-by (Shaped over) m
+    (λ e u. shape-out m s u)
     (λ e k. let w = working m s e in shape-next m s w (w .next k))
     (λ e k. shape-committed m s (working m s e) k)
     (λ e. s)
 shape-each {over} m s (load l) = load-by (Shaped over) m l (λ e. shape-loaded m s l (load-passed m l e)) (λ e. s)
+shape-each {over} m s (notice a) = notice-by (Shaped over) m a (λ e. shape-noticed m s a e) (λ e. s)
 
 pub shape-after : {over : ℕ} (m : Memory) → Shape over m → (cs : List Call) → Shape over (after m cs)
 unfolding after
@@ -74,9 +77,9 @@ shape-after m s (c ∷ cs) = shape-after (step m c .memory) (shape-each m s c) c
 
 any-shape : (h : History) (m : Memory) → Shape (h .over) m → (c : AnyCall) → Shape (historyAfter h c (anyStep m c .answer) .over) (anyStep m c .memory)
 any-shape h m s (call c) = shape-each m s c
-any-shape h m s (restart n own values journal block) =
-    restart-by (λ (o : Outcome). Shape (historyAfter h (restart n own values journal block) (o .answer) .over) (o .memory)) m n own values journal block
-    (λ e. let p = restart-passed m n own values block e in shape-restarted n own values p journal)
+any-shape h m s (restart n own values journal notices block) =
+    restart-by (λ (o : Outcome). Shape (historyAfter h (restart n own values journal notices block) (o .answer) .over) (o .memory)) m n own values journal notices block
+    (λ e. let p = restart-passed m n own values block e in shape-restarted n own values p journal notices)
     (λ z. rw (ne-eqb (restartRefusal m n own values block) 0 z) s)
 
 shape-all : (h : History) (m : Memory) → Shape (h .over) m → (cs : List AnyCall) → Shape (history h m cs .over) (afterAll m cs)

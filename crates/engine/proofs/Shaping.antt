@@ -6,13 +6,17 @@ use mathlib.Core.List.{List}
 use native.Mathlib.Omega.{arith}
 use lib.IntN.{ℤ}
 use lib.ListN.{length, getD}
+use Rattle.memory.specs.declared.Group.{Group}
 use Rattle.memory.specs.declared.Turn.{Turn}
 use Rattle.memory.specs.declared.Txn.{Txn}
-use Rattle.memory.specs.Memory.{Memory, slotLimit, bump, withDone, withClasses}
+use Rattle.memory.specs.Memory.{Memory, span, slotLimit, bump, withGroup, withDone, withClasses}
+use Rattle.memory.specs.Notices.{isOut}
 use Rattle.memory.specs.Rows.{closed, rowAt, writeCount, itemsOf, has}
+use Rattle.memory.specs.Turns.{isEmpty}
 use Rattle.engine.specs.Shape.{RowShape, PlaceShape, Shape}
 use Rattle.engine.proofs.Tests.{bump-is}
 use Rattle.engine.proofs.HasLaws.{has-part, part-has}
+use Rattle.engine.proofs.NoticeLaws.{GroupKept}
 
 -- ---- a row by itself
 
@@ -112,6 +116,8 @@ shape-besides m s t d places writes p w slot commits waits = record {
     classes = s .lengths .classes;
     places = p;
     outbox = s .lengths .outbox;
+    from = s .lengths .from;
+    until = s .lengths .until;
   };
   ranges = record {
     least = s .ranges .least;
@@ -144,6 +150,8 @@ shape-loaded m s classes long = record {
     classes = long;
     places = s .lengths .places;
     outbox = s .lengths .outbox;
+    from = s .lengths .from;
+    until = s .lengths .until;
   };
   ranges = record {
     least = s .ranges .least;
@@ -158,7 +166,42 @@ shape-loaded m s classes long = record {
   rows = λ r h. row-of-fits (withClasses m classes) r (fits-of m r (s .rows r h));
   distinct = s .distinct;
   queue = record { zeros = s .queue .zeros; asked = s .queue .asked; queued = s .queue .queued; once = s .queue .once };
-  places = record { waits = s .places .waits; done = s .places .done; applying = s .places .applying };
+  places = record { waits = s .places .waits; clear = s .places .clear; done = s .places .done; applying = s .places .applying };
+  single = s .single;
+}
+
+-- other outages, in none of whose slots a block waits
+pub shape-grouped : {over : ℕ} (m : Memory) → Shape over m → (g : Group) → GroupKept (m .group) g
+    → ((s : ℕ) → m .turn .slot ≤ s → s < m .turn .slot + span g → isOut g s ≡ true → isEmpty (span g) s (m .blocks .places) ≡ true) → Shape over (withGroup m g)
+shape-grouped m s g k clear = record {
+  lengths = record {
+    table = s .lengths .table;
+    queue = s .lengths .queue;
+    items = s .lengths .items;
+    writes = s .lengths .writes;
+    snapshots = s .lengths .snapshots;
+    values = s .lengths .values;
+    stamps = s .lengths .stamps;
+    classes = s .lengths .classes;
+    places = rw (k .replicas) (s .lengths .places);
+    outbox = s .lengths .outbox;
+    from = k .from ∙ s .lengths .from;
+    until = k .until ∙ s .lengths .until;
+  };
+  ranges = record {
+    least = rw (k .replicas) (s .ranges .least);
+    most = rw (k .replicas) (s .ranges .most);
+    own = rw (k .replicas, k .own) (s .ranges .own);
+    slot = s .ranges .slot;
+    tickets = s .ranges .tickets;
+    commits = s .ranges .commits;
+    repeats = s .ranges .repeats;
+    endings = s .ranges .endings;
+  };
+  rows = λ r h. row-of-fits (withGroup m g) r (fits-of m r (s .rows r h));
+  distinct = s .distinct;
+  queue = record { zeros = s .queue .zeros; asked = s .queue .asked; queued = s .queue .queued; once = s .queue .once };
+  places = record { waits = rw (k .replicas) (s .places .waits); clear = clear; done = rw (k .replicas) (s .places .done); applying = s .places .applying };
   single = s .single;
 }
 

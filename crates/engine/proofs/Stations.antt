@@ -18,22 +18,24 @@ use Rattle.block.proofs.MessageLaws.{message-facts, sender-small}
 use Rattle.block.proofs.AnswerLaws.{is-taken, is-formed}
 use Rattle.memory.specs.declared.Turn.{Turn}
 use Rattle.memory.specs.declared.Txn.{Txn}
-use Rattle.memory.specs.Memory.{Memory, bump, noNumber, isStation, withClasses}
+use Rattle.memory.specs.Memory.{Memory, bump, noNumber, isStation, withGroup, withClasses}
+use Rattle.memory.specs.Notices.{Notice, withNotice}
 use Rattle.memory.specs.Rows.{closed, isOpen, rowOf, rowAt, itemsOf, has}
 use Rattle.memory.specs.Turns.{isOn}
 use Rattle.engine.specs.Answers.{Answer, WorkDone, numberOf, Outcome, outcome}
-use Rattle.engine.specs.Answers.Answer.{refused, made, began, got, wrote, queued, readOnly, withdrew, reported, sent, kept, worked, loaded, restarted}
+use Rattle.engine.specs.Answers.Answer.{refused, made, began, got, wrote, queued, readOnly, withdrew, reported, sent, kept, worked, loaded, noticed, restarted}
 use Rattle.engine.specs.Make.{Setting, madeMemory, partsFit, sizeOut, makeRefusal}
 use Rattle.engine.specs.Classes.{loadRefusal}
 use Rattle.engine.specs.Client.{rowNo, isOwn, noRow, notActive, beginRefusal, beginAt, readRefusal, writeRefusal, askRefusal, readOnlyAt, withdrawRefusal, withdrawAt, reportOf, reportStep}
-use Rattle.engine.specs.Moves.{waiting, sendRefusal, deliverRefusal, deliverNow, blockAtTurn, writesetAt, shares, isHit, afterAborts, hitTickets, endsOwn, nothingWaits, workRefusal, isLast, passNext, commitWriteset}
+use Rattle.engine.specs.Moves.{waiting, sendRefusal, deliverRefusal, deliverNow, blockAtTurn, writesetAt, shares, isHit, afterAborts, hitTickets, endsOwn, nothingWaits, workRefusal, isLast, passNext, commitWriteset, passOut}
+use Rattle.engine.specs.Notices.{noticeRefusal}
 use Rattle.engine.specs.Calls.{Call, step, refusalOf, after}
-use Rattle.engine.specs.Calls.Call.{begin, read, write, ask, withdraw, report, send, deliver, work, load}
+use Rattle.engine.specs.Calls.Call.{begin, read, write, ask, withdraw, report, send, deliver, work, load, notice}
 use Rattle.engine.specs.Shape.{Shape}
 use Rattle.engine.specs.History.{Tally, noCalls, tally, reportFrom}
 use Rattle.engine.specs.Station.{stationMemory, stationRefusal, stationStep, OnlyReads, Stations}
 use Rattle.engine.proofs.Tests.{cond-by, bool-by, clash, not-first, passes, unless-by}
-use Rattle.engine.proofs.Steps.{writes-refused, sends-refused, begin-by, read-by, ask-by, withdraw-by, deliver-by, work-by, load-by}
+use Rattle.engine.proofs.Steps.{Awaited, writes-refused, sends-refused, begin-by, read-by, ask-by, withdraw-by, deliver-by, work-by, load-by, notice-by}
 use Rattle.engine.proofs.ShapeMade.{shape-station}
 use Rattle.engine.proofs.ShapeTurn.{working}
 use Rattle.engine.proofs.ShapeWriteset.{ends-other}
@@ -66,7 +68,8 @@ deliver-other m h b e =
     let r = passes _ _ refl (q .1) in
     let s = passes _ _ refl (r .1) in
     let t = passes _ _ refl (s .1) in
-    let u = passes _ _ refl (t .1) in
+    let l = passes _ _ refl (t .1) in
+    let u = passes _ _ refl (l .1) in
     let o = other-by m (headerOf b .sender) h (sender-below b (not-false _ (r .0))) in
     not-first 19 _ refl (skip _ _ (rw o refl) (u .1))
 
@@ -76,7 +79,7 @@ waits-other m S h e =
     let w = S .places .waits (m .turn .slot) (omega arith) (omega (arith, S .ranges .least)) e in
     other-by m (getD (blockAtTurn m) 1 0) h (unfold headerOf in sender-below (blockAtTurn m) (is-taken (blockAtTurn m) (w .0) .forms))
 
-work-other : {over : ℕ} (m : Memory) → Shape over m → isStation m ≡ true → workRefusal m ≡ 0 → eqb (getD (blockAtTurn m) 1 0) (m .group .own) ≡ false
+work-other : {over : ℕ} (m : Memory) → Shape over m → isStation m ≡ true → Awaited m → eqb (getD (blockAtTurn m) 1 0) (m .group .own) ≡ false
 work-other m S h e = waits-other m S h (working m S e .waits)
 
 and-false : (b : Bool) → b && false ≡ false
@@ -84,7 +87,7 @@ and-false true = refl
 and-false false = refl
 
 never-own : (m : Memory) → isStation m ≡ true → (c : Call) → refusalOf m c ≡ 19 → ⊥
-unfolding refusalOf beginRefusal readRefusal askRefusal withdrawRefusal workRefusal loadRefusal
+unfolding refusalOf beginRefusal readRefusal askRefusal withdrawRefusal workRefusal loadRefusal noticeRefusal
 never-own m h begin e = not-first 19 _ refl e
 never-own m h (read t i) e = not-first 19 _ refl e
 never-own m h (write t i v) e = clash h (at-replica (isStation m) 19 (λ z. omega arith) (writeRefusal m (rowNo m t) i) e .0)
@@ -95,6 +98,7 @@ never-own m h (send b) e = clash h (at-replica (isStation m) 19 (λ z. omega ari
 never-own m h (deliver b) e = deliver-other m h b e
 never-own m h work e = not-first 19 _ refl e
 never-own m h (load l) e = not-first 19 _ refl e
+never-own m h (notice a) e = not-first 19 _ refl e
 
 -- ---- rows that wrote nothing
 
@@ -198,6 +202,10 @@ module _ (m : Memory) (R : OnlyReads m) where
   unfolding passNext
   next-reads = record { station = R .station; active = R .active; unwritten = R .unwritten; unsent = refl; committed = R .committed; aborted = R .aborted }
 
+  out-reads : Reads (passOut m)
+  unfolding passOut
+  out-reads = record { station = R .station; active = R .active; unwritten = R .unwritten; unsent = refl; committed = R .committed; aborted = R .aborted }
+
   commit-reads : (w : Record) → Reads (commitWriteset m false w)
   unfolding commitWriteset
   commit-reads w =
@@ -216,6 +224,9 @@ module _ (m : Memory) (R : OnlyReads m) where
   load-reads : (l : List ℕ) → OnlyReads (withClasses m l)
   load-reads l = record { station = R .station; active = R .active; unwritten = R .unwritten; unsent = R .unsent; committed = R .committed; aborted = R .aborted }
 
+  notice-reads : (a : Notice) → OnlyReads (withGroup m (withNotice (m .group) a))
+  notice-reads a = record { station = R .station; active = R .active; unwritten = R .unwritten; unsent = R .unsent; committed = R .committed; aborted = R .aborted }
+
 reads-each : {over : ℕ} (m : Memory) → Shape over m → OnlyReads m → (c : Call) → OnlyReads (step m c .memory)
 reads-each m S R begin = begin-by (Reads m R) m (λ e. begin-reads m R _) (λ e. R)
 reads-each m S R (read t i) = read-by (Reads m R) m t i (λ e. R) (λ e. R)
@@ -226,9 +237,10 @@ reads-each m S R report = unfold step reportStep in R
 reads-each m S R (send b) = rw (sends-refused m (R .station) b) R
 reads-each m S R (deliver b) = deliver-by (Reads m R) m b (λ e. deliver-reads m R b) (λ e. R)
 reads-each m S R work =
-    work-by (Reads m R) m (λ e k. next-reads m R)
+    work-by (Reads m R) m (λ e u. out-reads m R) (λ e k. next-reads m R)
     (λ e k. subst (λ (mine : Bool). OnlyReads (commitWriteset m mine (writesetAt (blockAtTurn m) (m .counts .done)) .memory)) (sym (work-other m S (R .station) e)) (commit-reads m R _)) (λ e. R)
 reads-each m S R (load l) = load-by (Reads m R) m l (λ e. load-reads m R l) (λ e. R)
+reads-each m S R (notice a) = notice-by (Reads m R) m a (λ e. notice-reads m R a) (λ e. R)
 
 reads-after : {over : ℕ} (m : Memory) → Shape over m → OnlyReads m → (cs : List Call) → OnlyReads (after m cs)
 unfolding after
@@ -251,6 +263,7 @@ abortedIn (sent b) = []
 abortedIn kept = []
 abortedIn (worked s) = s .aborted
 abortedIn loaded = []
+abortedIn noticed = []
 abortedIn (restarted c b) = []
 
 module _ {over : ℕ} (m : Memory) (S : Shape over m) (R : OnlyReads m) where
@@ -258,7 +271,7 @@ module _ {over : ℕ} (m : Memory) (S : Shape over m) (R : OnlyReads m) where
   stage-zero t = rw (R .active (rowNo m t)) refl
 
   not-four : (c : Call) → refusalOf m c ≡ 4 → ⊥
-  unfolding refusalOf beginRefusal readRefusal askRefusal withdrawRefusal deliverRefusal workRefusal loadRefusal
+  unfolding refusalOf beginRefusal readRefusal askRefusal withdrawRefusal deliverRefusal workRefusal loadRefusal noticeRefusal
   not-four begin e = not-first 4 _ refl e
   not-four (read t i) e =
       let a = passes _ _ refl e in
@@ -278,6 +291,7 @@ module _ {over : ℕ} (m : Memory) (S : Shape over m) (R : OnlyReads m) where
   not-four (deliver b) e = not-first 4 _ refl e
   not-four work e = not-first 4 _ refl e
   not-four (load l) e = not-first 4 _ refl e
+  not-four (notice a) e = not-first 4 _ refl e
 
   ask-number-is : (t : ℕ) → askRefusal m (rowNo m t) ≡ cond (noRow (rowNo m t)) 3 0
   unfolding askRefusal firstOf
@@ -296,6 +310,7 @@ module _ {over : ℕ} (m : Memory) (S : Shape over m) (R : OnlyReads m) where
 
   aborts-none : (s : WorkDone) → step m work .answer ≡ worked s → s .aborted ≡ []
   aborts-none s = work-by (λ (o : Outcome). o .answer ≡ worked s → s .aborted ≡ []) m
+      (λ e u q. unfold passOut in sym (ap abortedIn q))
       (λ e k q. unfold passNext in sym (ap abortedIn q))
       (λ e k q. sym (ap abortedIn q) ∙ rw (work-other m S (R .station) e) (unfold commitWriteset in nobody-hit _ (m .txns .items) 0 (m .txns .table) (idle m R)))
       (λ e q. absurd (let z : _≡_ {A = ℕ} 0 1 = cc in let w : ⊥ = omega arith in w))

@@ -8,16 +8,18 @@ use lib.Dec.{eqb}
 use lib.IntN.{ℤ}
 use lib.ListN.{length, getD, replicate}
 use borrow.Author.Tests.{eqb-true, eqb-false}
-use Rattle.memory.specs.Memory.{Memory, isStation, withClasses}
+use Rattle.memory.specs.Memory.{Memory, isStation, withGroup, withClasses}
+use Rattle.memory.specs.Notices.{Notice, withNotice}
 use Rattle.memory.specs.Rows.{writeCount}
 use Rattle.engine.specs.Answers.{Outcome, outcome}
-use Rattle.engine.specs.Answers.Answer.{refused, got, loaded, restarted}
+use Rattle.engine.specs.Answers.Answer.{refused, got, loaded, noticed, restarted}
 use Rattle.engine.specs.Classes.{loadRefusal, loadStep}
 use Rattle.engine.specs.Client.{freeNo, rowNo, rowIn, ownIndex, isOwn, beginRefusal, beginAt, beginRow, readRefusal, valueFor, readRow, writeRefusal, rewriteAt, insertWrite, staleAt, writeRow, writeStep, askRefusal, readOnlyAt, queueAt, askRow, withdrawRefusal, withdrawAt, withdrawRow}
-use Rattle.engine.specs.Moves.{sendRefusal, sendNow, sendStep, deliverRefusal, deliverNow, deliverStep, blockAtTurn, writesetAt, workRefusal, passNext, commitWriteset, workStep}
+use Rattle.engine.specs.Moves.{sendRefusal, sendNow, sendStep, deliverRefusal, deliverNow, deliverStep, outAtTurn, blockAtTurn, writesetAt, workRefusal, passNext, commitWriteset, passOut, passBlock, workStep}
+use Rattle.engine.specs.Notices.{noticeRefusal, noticeStep}
 use Rattle.engine.specs.Restart.{blocksIn, lastOwn, restartedMemory, restartRefusal, restartStep}
 use Rattle.engine.specs.Calls.{step}
-use Rattle.engine.specs.Calls.Call.{begin, read, write, ask, withdraw, send, deliver, work, load}
+use Rattle.engine.specs.Calls.Call.{begin, read, write, ask, withdraw, send, deliver, work, load, notice}
 use Rattle.engine.proofs.Tests.{cond-by, bool-by, not-first, unless-by}
 
 -- document 02's Req 05: at a station a write and a send are refused by 25, before any other reason, and change nothing; at a replica they are its steps
@@ -36,6 +38,11 @@ writes-so m h t i v = rw h refl
 pub sends-so : (m : Memory) → isStation m ≡ false → (b : List ℕ) → step m (send b) ≡ sendStep m b
 unfolding step
 sends-so m h b = rw h refl
+
+-- a work looks at the turn's place: it is accepted, and the slot is not out
+pub record Awaited (m : Memory) : Type 0 where
+  pub passed : workRefusal m ≡ 0
+  pub live : outAtTurn m ≡ false
 
 module _ (P : Outcome → Type 0) (m : Memory) where
   -- refused, with the memory as it was
@@ -101,25 +108,39 @@ module _ (P : Outcome → Type 0) (m : Memory) where
   unfolding step deliverStep
   deliver-by b f r = unless-by P _ m f r
 
-  pub work-by : (workRefusal m ≡ 0 → getD (blockAtTurn m) 0 0 ≡ 1 → P (passNext m))
-      → (workRefusal m ≡ 0 → (getD (blockAtTurn m) 0 0 ≡ 1 → ⊥)
+  -- the block at the turn is a *next*, or a writeset of it is committed
+  pub block-by : (getD (blockAtTurn m) 0 0 ≡ 1 → P (passNext m))
+      → ((getD (blockAtTurn m) 0 0 ≡ 1 → ⊥)
+      → P (commitWriteset m (eqb (getD (blockAtTurn m) 1 0) (m .group .own)) (writesetAt (blockAtTurn m) (m .counts .done))))
+      → P (passBlock m)
+  unfolding passBlock
+  block-by f g = let k = getD (blockAtTurn m) 0 0 in cond-by P (eqb k 1) (λ e. f (eqb-true k 1 e)) (λ e. g (eqb-false k 1 e))
+
+  pub work-by : (workRefusal m ≡ 0 → outAtTurn m ≡ true → P (passOut m))
+      → (Awaited m → getD (blockAtTurn m) 0 0 ≡ 1 → P (passNext m))
+      → (Awaited m → (getD (blockAtTurn m) 0 0 ≡ 1 → ⊥)
       → P (commitWriteset m (eqb (getD (blockAtTurn m) 1 0) (m .group .own)) (writesetAt (blockAtTurn m) (m .counts .done))))
       → Refused (workRefusal m)
       → P (step m work)
   unfolding step workStep
-  work-by f g r =
-      let k = getD (blockAtTurn m) 0 0 in
-      unless-by P _ m (λ z. cond-by P (eqb k 1) (λ e. f z (eqb-true k 1 e)) (λ e. g z (eqb-false k 1 e))) r
+  work-by o f g r =
+      unless-by P _ m
+      (λ z. cond-by P (outAtTurn m) (o z) (λ e. let a : Awaited m = record { passed = z; live = e } in block-by (f a) (g a)))
+      r
+
+  pub notice-by : (a : Notice) → (noticeRefusal m a ≡ 0 → P (outcome noticed (withGroup m (withNotice (m .group) a)))) → Refused (noticeRefusal m a) → P (step m (notice a))
+  unfolding step noticeStep
+  notice-by a f r = unless-by P _ m f r
 
   pub load-by : (l : List ℕ) → (loadRefusal m l ≡ 0 → P (outcome loaded (withClasses m l))) → Refused (loadRefusal m l) → P (step m (load l))
   unfolding step loadStep
   load-by l f r = unless-by P _ m f r
 
   -- a restart is refused, with the memory as it was, or commits the blocks read
-  pub restart-by : (n k : ℕ) (start : List ℤ) (journal block : List ℕ)
+  pub restart-by : (n k : ℕ) (start : List ℤ) (journal : List ℕ) (notices : List Notice) (block : List ℕ)
       → (restartRefusal m n k start block ≡ 0
-      → P (outcome (restarted (length (blocksIn n journal)) (lastOwn k (replicate 512 0) (blocksIn n journal))) (restartedMemory n k start (blocksIn n journal))))
+      → P (outcome (restarted (length (blocksIn n journal)) (lastOwn k notices (replicate 512 0) (blocksIn n journal))) (restartedMemory n k start notices (blocksIn n journal))))
       → ((restartRefusal m n k start block ≡ 0 → ⊥) → P (outcome (refused (restartRefusal m n k start block)) m))
-      → P (restartStep m n k start journal block)
+      → P (restartStep m n k start journal notices block)
   unfolding restartStep
-  restart-by n k start journal block f g = unless-by P _ m f g
+  restart-by n k start journal notices block f g = unless-by P _ m f g

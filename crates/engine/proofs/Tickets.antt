@@ -10,6 +10,7 @@ use lib.IntN.{ℤ}
 use lib.ListN.{length, length-append, length-map, getD}
 use Rattle.block.specs.Message.{Record}
 use Rattle.block.specs.Answers.{recordAt}
+use Rattle.memory.specs.Notices.{Notice}
 use Rattle.memory.specs.Rows.{openCount}
 use Rattle.engine.specs.Client.{reportOf}
 use Rattle.engine.specs.Restart.{isGood, blocksIn, writesetsFrom, writesetsIn, isFrom, highestTicket, highestOwn, ownWritesets, restartedMemory}
@@ -103,9 +104,9 @@ few n own journal d =
     let l = own-long own bs in
     omega arith
 
-counts : (n own : ℕ) (values : List ℤ) (journal : List ℕ) → let bs = blocksIn n journal in List·Nodup (ownTickets own bs) → CountsOf own bs (reportOf (restartedMemory n own values bs))
+counts : (n own : ℕ) (values : List ℤ) (journal : List ℕ) (notices : List Notice) → let bs = blocksIn n journal in List·Nodup (ownTickets own bs) → CountsOf own bs (reportOf (restartedMemory n own values notices bs))
 unfolding restartedMemory reportOf openCount
-counts n own values journal d =
+counts n own values journal notices d =
     let a = few n own journal d in
     record { tickets = refl; committed = refl; others = omega arith; none-open = refl; none-read-only = refl; none-withdrawn = refl }
 
@@ -114,9 +115,9 @@ tickets-once = record {
   few = few;
   none-repeated = λ n own journal d. let a = few n own journal d in omega arith;
   counts = counts;
-  sum = λ n own values g journal d cs. unfold reportOf in
+  sum = λ n own values g journal notices d cs. unfold reportOf in
       let bs = blocksIn n journal in
       let a = few n own journal d in
-      let e = shape-after (restartedMemory n own values bs) (shape-restarted n own values g journal) cs .ranges .endings in
+      let e = shape-after (restartedMemory n own values notices bs) (shape-restarted n own values g journal notices) cs .ranges .endings in
       omega arith;
 }

@@ -12,10 +12,10 @@ use lib.Seq.{getD-set-same, getD-set-other}
 use Rattle.block.specs.declared.Entry.{Entry}
 use Rattle.memory.specs.declared.Turn.{Turn}
 use Rattle.memory.specs.declared.Txn.{Txn}
-use Rattle.memory.specs.Memory.{Blocks, Memory, bump}
+use Rattle.memory.specs.Memory.{Blocks, Memory, bump, withDone, withTurn}
 use Rattle.memory.specs.Rows.{closed, rowOf, rowAt}
 use Rattle.memory.specs.Turns.{markApplying, advance, placeStart}
-use Rattle.engine.specs.Moves.{blockAtTurn, writesetAt, applied, stamped, isHit, afterAborts, endsOwn, isLast, passNext, commitWriteset}
+use Rattle.engine.specs.Moves.{blockAtTurn, writesetAt, applied, stamped, isHit, afterAborts, endsOwn, turnBlocks, isLast, passNext, commitWriteset, passOut}
 use Rattle.engine.specs.Frames.{SameBut, SameButItems, WorkFrame}
 use Rattle.engine.proofs.Tests.{cond-by, same-by, less-by}
 use Rattle.engine.proofs.HasLaws.{has-not}
@@ -62,11 +62,12 @@ aborts-closed es items l i =
 place-but : (m : Memory) → SameBut 0 (placeStart (m .group .replicas) (m .turn .slot)) 1 (m .blocks .places) (set (m .blocks .places) (placeStart (m .group .replicas) (m .turn .slot)) 0)
 place-but m = let p = placeStart (m .group .replicas) (m .turn .slot) in set-but 0 (m .blocks .places) p 1 p 0 (omega arith) (omega arith)
 
-pub pass-frame : (m : Memory) → WorkFrame m (passNext m .memory)
-unfolding passNext
-pass-frame m = record {
+-- nothing is committed, and the turn leaves its slot
+moved-frame : (m : Memory) (b : Blocks) → SameBut 0 (placeStart (m .group .replicas) (m .turn .slot)) 1 (m .blocks .places) (b .places) → b .outbox ≡ m .blocks .outbox
+    → WorkFrame m (withTurn m (advance (m .turn)) (withDone (m .counts) 0) b)
+moved-frame m b p o = record {
   turn = inr (inr refl);
-  places = place-but m;
+  places = p;
   values = λ i h. refl;
   stamps = λ i h. refl;
   classes = refl;
@@ -74,12 +75,20 @@ pass-frame m = record {
   items = refl;
   writes = refl;
   snapshots = refl;
-  outbox = refl;
+  outbox = o;
   group = refl;
   tickets = refl;
   read-only = refl;
   withdrawn = refl;
 }
+
+pub pass-frame : (m : Memory) → WorkFrame m (passNext m .memory)
+unfolding passNext
+pass-frame m = moved-frame m (turnBlocks m) (place-but m) refl
+
+pub out-frame : (m : Memory) → WorkFrame m (passOut m .memory)
+unfolding passOut
+out-frame m = moved-frame m (m .blocks) (λ i s. refl) refl
 
 abbrev TurnMoves : Memory → Turn → Type 0
 TurnMoves m t = (t ≡ m .turn) ⊎ ((t ≡ markApplying (m .turn)) ⊎ (t ≡ advance (m .turn)))

@@ -7,8 +7,8 @@ use lib.IntN.{ℤ}
 use Rattle.engine.specs.declared.Report.{Report}
 use Rattle.memory.specs.Memory.{Memory, isStation}
 
--- what a work did: whose writeset it committed (ticket 0 for a *next*), whether the turn moved, the tickets it aborted, rising, and the block to append to
--- the journal: another's, where the turn leaves its slot; else no byte
+-- what a work did: whose writeset it committed (ticket 0 for a *next*, or for an out slot), whether the turn moved, the tickets it aborted, rising, and the block to append to
+-- the journal: another's, where the turn leaves its slot, and the *next* of an out slot; else no byte
 pub record WorkDone : Type 0 where
   pub sender : ℕ
   pub ticket : ℕ
@@ -16,7 +16,7 @@ pub record WorkDone : Type 0 where
   pub aborted : List ℕ
   pub append : List ℕ
 
--- a refusal's number of document 01's table, or what an accepted call gives
+-- a refusal's number, of document 01's table or of document 02, or what an accepted call gives
 pub data Answer : Type 0 where
   refused : ℕ → Answer
   made : Answer
@@ -32,10 +32,12 @@ pub data Answer : Type 0 where
   worked : WorkDone → Answer
   -- a table of classes is loaded
   loaded : Answer
-  -- how many blocks were committed, and the last own one of them, 512 zeros where there is none
+  -- a notice is taken
+  noticed : Answer
+  -- how many blocks were committed, and the last own one of them outside out slots, 512 zeros where there is none
   restarted : ℕ → List ℕ → Answer
 
--- document 01's number: 0 where the call is accepted
+-- the refusal's number: 0 where the call is accepted
 abbrev pub numberOf : Answer → ℕ
 numberOf (refused n) = n
 numberOf made = 0
@@ -50,6 +52,7 @@ numberOf (sent b) = 0
 numberOf kept = 0
 numberOf (worked s) = 0
 numberOf loaded = 0
+numberOf noticed = 0
 numberOf (restarted c b) = 0
 
 pub record Outcome : Type 0 where

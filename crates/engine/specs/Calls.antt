@@ -4,12 +4,14 @@ use mathlib.Core.Bool.{cond}
 use mathlib.Core.List.{List, [], _∷_}
 use lib.IntN.{ℤ}
 use Rattle.memory.specs.Memory.{Memory, isStation}
+use Rattle.memory.specs.Notices.{Notice}
 use Rattle.engine.specs.Answers.{Outcome, unlessStation}
 use Rattle.engine.specs.Classes.{loadRefusal, loadStep}
 use Rattle.engine.specs.Client.{rowNo, freeNo, beginRefusal, beginStep, readRefusal, readStep, writeRefusal, writeStep, askRefusal, askStep, withdrawRefusal, withdrawStep, reportStep}
 use Rattle.engine.specs.Moves.{sendRefusal, sendStep, deliverRefusal, deliverStep, workRefusal, workStep}
+use Rattle.engine.specs.Notices.{noticeRefusal, noticeStep}
 
--- tickets, items, values, the lent block of a send, the bytes of a deliver and the classes of a load are any
+-- tickets, items, values, the lent block of a send, the bytes of a deliver, the classes of a load and the notices are any
 pub data Call : Type 0 where
   begin : Call
   read : ℕ → ℕ → Call
@@ -21,6 +23,7 @@ pub data Call : Type 0 where
   deliver : List ℕ → Call
   work : Call
   load : List ℕ → Call
+  notice : Notice → Call
 
 -- a station neither writes nor sends; every other call is the same there
 unfoldable pub step : Memory → Call → Outcome
@@ -34,6 +37,7 @@ step m (send block) = unlessStation m (sendStep m block)
 step m (deliver bytes) = deliverStep m bytes
 step m work = workStep m
 step m (load classes) = loadStep m classes
+step m (notice a) = noticeStep m a
 
 -- the first refusal of each call's list that holds, 0 where none does
 unfoldable pub refusalOf : Memory → Call → ℕ
@@ -47,6 +51,7 @@ refusalOf m (send block) = cond (isStation m) 25 (sendRefusal m block)
 refusalOf m (deliver bytes) = deliverRefusal m bytes
 refusalOf m work = workRefusal m
 refusalOf m (load classes) = loadRefusal m classes
+refusalOf m (notice a) = noticeRefusal m a
 
 -- the memory that a list of calls leaves
 unfoldable pub after : Memory → List Call → Memory

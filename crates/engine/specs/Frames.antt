@@ -8,7 +8,8 @@ use lib.IntN.{ℤ, pos}
 use lib.ListN.{length, getD, set}
 use Rattle.block.specs.declared.Entry.{Entry}
 use Rattle.block.specs.Answers.{headerOf}
-use Rattle.memory.specs.Memory.{Memory, span, bump, withTickets, withReadOnly, withAborted, withWithdrawn, withTable, withTxns, withBlocks, withClasses}
+use Rattle.memory.specs.Memory.{Memory, span, bump, withGroup, withTickets, withReadOnly, withAborted, withWithdrawn, withTable, withTxns, withBlocks, withClasses}
+use Rattle.memory.specs.Notices.{Notice}
 use Rattle.memory.specs.Rows.{closed, openCount, freeRow, rowAt, indexOf, has}
 use Rattle.memory.specs.Turns.{markApplying, advance, placeStart}
 use Rattle.engine.specs.Answers.{numberOf}
@@ -16,7 +17,7 @@ use Rattle.engine.specs.Make.{madeMemory, makeRefusal, makeStep}
 use Rattle.engine.specs.Client.{rowNo}
 use Rattle.engine.specs.Moves.{blockAtTurn, writesetAt}
 use Rattle.engine.specs.Calls.{Call, step, refusalOf}
-use Rattle.engine.specs.Calls.Call.{begin, read, write, ask, withdraw, report, send, deliver, work, load}
+use Rattle.engine.specs.Calls.Call.{begin, read, write, ask, withdraw, report, send, deliver, work, load, notice}
 
 abbrev pub isWrite : Call → Bool
 isWrite begin = false
@@ -29,6 +30,7 @@ isWrite (send b) = false
 isWrite (deliver b) = false
 isWrite work = false
 isWrite (load l) = false
+isWrite (notice a) = false
 
 pub record Refusals : Type 0 where
   -- a number is answered where its condition is the first to hold, and at no other time
@@ -126,6 +128,14 @@ pub record DeliverFrame (m n : Memory) (slot : ℕ) : Type 0 where
   pub outbox : n .blocks .outbox ≡ m .blocks .outbox
   pub places : SameBut 0 (placeStart (span (m .group)) slot) 512 (m .blocks .places) (n .blocks .places)
 
+-- a notice the outage of the replica that it is about
+pub record NoticeFrame (m n : Memory) (k : ℕ) : Type 0 where
+  pub rest : n ≡ withGroup m (n .group)
+  pub replicas : n .group .replicas ≡ m .group .replicas
+  pub own : n .group .own ≡ m .group .own
+  pub from : SameBut 0 k 1 (m .group .from) (n .group .from)
+  pub until : SameBut 0 k 1 (m .group .until) (n .group .until)
+
 -- a work may set the applying mark or move the turn by one, and change one byte of the places, values and stamps of the items of the writeset to commit, rows by closing them, the
 -- queue, and of the counts commits, done, committed and aborted
 pub record WorkFrame (m n : Memory) : Type 0 where
@@ -158,3 +168,4 @@ pub record Frames : Type 0 where
   pub works : (m : Memory) → WorkFrame m (step m work .memory)
   -- a load the classes
   pub loads : (m : Memory) (classes : List ℕ) → let n = step m (load classes) .memory in n ≡ withClasses m (n .store .classes)
+  pub notices : (m : Memory) (a : Notice) → NoticeFrame m (step m (notice a) .memory) (a .about)

@@ -7,15 +7,16 @@ use lib.Dec.{eqb}
 use lib.IntN.{ℤ}
 use lib.ListN.{length, getD}
 use Rattle.memory.specs.Memory.{Memory}
+use Rattle.memory.specs.Notices.{Notice}
 use Rattle.engine.specs.declared.Report.{Report}
 use Rattle.engine.specs.Answers.{Answer, WorkDone, numberOf, Outcome}
-use Rattle.engine.specs.Answers.Answer.{refused, made, began, got, wrote, queued, readOnly, withdrew, reported, sent, kept, worked, loaded, restarted}
+use Rattle.engine.specs.Answers.Answer.{refused, made, began, got, wrote, queued, readOnly, withdrew, reported, sent, kept, worked, loaded, noticed, restarted}
 use Rattle.engine.specs.Make.{SettingOf, madeMemory}
 use Rattle.engine.specs.Client.{reportOf}
 use Rattle.engine.specs.Moves.{waiting, without}
 use Rattle.engine.specs.Calls.{Call, step, after}
 use Rattle.engine.specs.Restart.{blocksIn, highestOwn, ownWritesets, repeated, restartedMemory, restartStep}
-use Rattle.engine.specs.Calls.Call.{begin, read, write, ask, withdraw, report, send, deliver, work, load}
+use Rattle.engine.specs.Calls.Call.{begin, read, write, ask, withdraw, report, send, deliver, work, load, notice}
 
 pub record Tally : Type 0 where
   pub turn : ℕ
@@ -86,6 +87,7 @@ counted own t (worked s) = record {
   withdrawn = t .withdrawn;
 }
 counted own t loaded = t
+counted own t noticed = t
 counted own t (restarted c b) = t
 
 unfoldable pub tally : ℕ → Tally → Memory → List Call → Tally
@@ -133,10 +135,10 @@ pub record Reports : Type 0 where
   -- tickets given equal open plus all endings
   pub sum : (n own : ℕ) (values : List ℤ) → SettingOf n own values → (cs : List Call)
       → let r = reportOf (after (madeMemory n own values) cs) in r .tickets ≡ r .«open_count» + r .committed + r .«read_only» + r .aborted + r .withdrawn
-  -- after a restart from any journal, and calls since then
-  pub restarted : (n own : ℕ) (values : List ℤ) → SettingOf n own values → (journal : List ℕ) (cs : List Call)
-      → let bs = blocksIn n journal in reportOf (after (restartedMemory n own values bs) cs)
-      ≡ reportFrom (repeated own bs) (tally own (restartTally own bs) (restartedMemory n own values bs) cs)
+  -- after a restart from any journal, lent any notices, and calls since then
+  pub restarted : (n own : ℕ) (values : List ℤ) → SettingOf n own values → (journal : List ℕ) (notices : List Notice) (cs : List Call)
+      → let bs = blocksIn n journal in let m = restartedMemory n own values notices bs in reportOf (after m cs)
+      ≡ reportFrom (repeated own bs) (tally own (restartTally own bs) m cs)
 
 -- ---- the queue
 
@@ -152,6 +154,7 @@ askedTicket (send b) = 0
 askedTicket (deliver b) = 0
 askedTicket work = 0
 askedTicket (load l) = 0
+askedTicket (notice a) = 0
 
 -- the tickets asked and not yet sent, in the order asked, after one more call and its answer; `made` and `restarted` answer none
 unfoldable pub pendingAfter : List ℕ → Call → Answer → List ℕ
@@ -168,6 +171,7 @@ pendingAfter l c (sent b) = []
 pendingAfter l c kept = l
 pendingAfter l c (worked s) = without (s .aborted) l
 pendingAfter l c loaded = l
+pendingAfter l c noticed = l
 pendingAfter l c (restarted k b) = []
 
 unfoldable pub pending : List ℕ → Memory → List Call → List ℕ
@@ -178,20 +182,20 @@ pending l m (c ∷ cs) = pending (pendingAfter l c (step m c .answer)) (step m c
 pub record Queues : Type 0 where
   pub queue : (n own : ℕ) (values : List ℤ) → SettingOf n own values → (cs : List Call)
       → waiting (after (madeMemory n own values) cs .txns .queue) ≡ pending [] (madeMemory n own values) cs
-  -- after a restart from any journal, and calls since then
-  pub restarted : (n own : ℕ) (values : List ℤ) → SettingOf n own values → (journal : List ℕ) (cs : List Call)
-      → let m = restartedMemory n own values (blocksIn n journal) in waiting (after m cs .txns .queue) ≡ pending [] m cs
+  -- after a restart from any journal, lent any notices, and calls since then
+  pub restarted : (n own : ℕ) (values : List ℤ) → SettingOf n own values → (journal : List ℕ) (notices : List Notice) (cs : List Call)
+      → let m = restartedMemory n own values notices (blocksIn n journal) in waiting (after m cs .txns .queue) ≡ pending [] m cs
 
 -- ---- restarts among the calls
 
 -- a call, or a restart with all that it is lent, be it accepted or not
 pub data AnyCall : Type 0 where
   call : Call → AnyCall
-  restart : (n own : ℕ) (values : List ℤ) (journal block : List ℕ) → AnyCall
+  restart : (n own : ℕ) (values : List ℤ) (journal : List ℕ) (notices : List Notice) (block : List ℕ) → AnyCall
 
 abbrev pub anyStep : Memory → AnyCall → Outcome
 anyStep m (call c) = step m c
-anyStep m (restart n own values journal block) = restartStep m n own values journal block
+anyStep m (restart n own values journal notices block) = restartStep m n own values journal notices block
 
 unfoldable pub afterAll : Memory → List AnyCall → Memory
 afterAll m [] = m
@@ -212,7 +216,7 @@ begun own bs = record { own = own; over = repeated own bs; tally = restartTally 
 -- an accepted restart begins it anew, whatever was there
 abbrev pub historyAfter : History → AnyCall → Answer → History
 historyAfter h (call c) a = record { own = h .own; over = h .over; tally = counted (h .own) (h .tally) a; asked = pendingAfter (h .asked) c a }
-historyAfter h (restart n own values journal block) a = cond (eqb (numberOf a) 0) (begun own (blocksIn n journal)) h
+historyAfter h (restart n own values journal notices block) a = cond (eqb (numberOf a) 0) (begun own (blocksIn n journal)) h
 
 unfoldable pub history : History → Memory → List AnyCall → History
 history h m [] = h
@@ -223,9 +227,9 @@ pub record Told (h : History) (m : Memory) : Type 0 where
   pub report : reportOf m ≡ reportFrom (h .over) (h .tally)
   pub queue : waiting (m .txns .queue) ≡ h .asked
 
--- on any list of calls and restarts, after a make or a restart from any journal
+-- on any list of calls and restarts, after a make or a restart from any journal, lent any notices
 pub record Histories : Type 0 where
   pub made : (n own : ℕ) (values : List ℤ) → SettingOf n own values → (cs : List AnyCall)
       → let m = madeMemory n own values in Told (history (begun own []) m cs) (afterAll m cs)
-  pub restarted : (n own : ℕ) (values : List ℤ) → SettingOf n own values → (journal : List ℕ) (cs : List AnyCall)
-      → let bs = blocksIn n journal in let m = restartedMemory n own values bs in Told (history (begun own bs) m cs) (afterAll m cs)
+  pub restarted : (n own : ℕ) (values : List ℤ) → SettingOf n own values → (journal : List ℕ) (notices : List Notice) (cs : List AnyCall)
+      → let bs = blocksIn n journal in let m = restartedMemory n own values notices bs in Told (history (begun own bs) m cs) (afterAll m cs)

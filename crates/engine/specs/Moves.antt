@@ -1,4 +1,4 @@
--- What moves the turn: send, deliver, work. Each call's refusals stand in the order of document 01's table.
+-- What moves the turn: send, deliver, work. Each call's refusals stand in the order of document 01's table, 29 where document 02's Req 10 puts it.
 use Prim.Native.Nat.{ℕ, zero, suc, _+_, _*_, _-_, min}
 use mathlib.Core.Bool.{Bool, true, false, cond, not, _&&_, _||_}
 use mathlib.Core.List.{List, [], _∷_, _++_, map}
@@ -17,6 +17,7 @@ use Rattle.memory.specs.declared.Counts.{Counts}
 use Rattle.memory.specs.declared.Turn.{Turn}
 use Rattle.memory.specs.declared.Txn.{Txn}
 use Rattle.memory.specs.Memory.{Transactions, Store, Blocks, Memory, ownerAt, span, slotLimit, bump, isBlock, queueLent, itemsLent, writesLent, valuesLent, stampsLent, placesLent, outboxLent, withDone, withCommit, withTable, withTxns, withBlocks, withTurn}
+use Rattle.memory.specs.Notices.{isOut}
 use Rattle.memory.specs.Rows.{closed, isOpen, rowOf, rowAt, writeCount, itemsOf, has}
 use Rattle.memory.specs.Turns.{isOn, markSent, advance, stepTurn, placeStart, blockIn, isEmpty, emptied}
 use Rattle.engine.specs.Answers.{WorkDone, Outcome, outcome, unless}
@@ -61,13 +62,23 @@ slotsSpent m = leb slotLimit (m .turn .slot)
 abbrev pub othersTurn : Memory → Bool
 othersTurn m = not (eqb (ownerAt (m .group) (m .turn .slot)) (m .group .own))
 
+-- 29: the turn's slot is out
+abbrev pub outAtTurn : Memory → Bool
+outAtTurn m = isOut (m .group) (m .turn .slot)
+
 -- 12: sent already for this slot
 abbrev pub sentAlready : Memory → Bool
 sentAlready m = isOn (m .turn .sent)
 
 unfoldable pub sendRefusal : Memory → List ℕ → ℕ
 sendRefusal m block =
-    firstOf (refuse 1 (not (sendLent m block)) ∷ refuse 13 (slotsSpent m) ∷ refuse 11 (othersTurn m) ∷ refuse 12 (sentAlready m) ∷ [])
+    firstOf
+    (refuse 1 (not (sendLent m block))
+    ∷ refuse 13 (slotsSpent m)
+    ∷ refuse 11 (othersTurn m)
+    ∷ refuse 29 (outAtTurn m)
+    ∷ refuse 12 (sentAlready m)
+    ∷ [])
 
 unfoldable pub sendNow : Memory → Outcome
 sendNow m =
@@ -109,6 +120,10 @@ otherGroup m bytes = not (eqb (headerOf bytes .replicas) (m .group .replicas))
 abbrev pub slotPast : Memory → List ℕ → Bool
 slotPast m bytes = ltb (headerOf bytes .slot) (m .turn .slot)
 
+-- 29: its slot is out
+abbrev pub slotOut : Memory → List ℕ → Bool
+slotOut m bytes = isOut (m .group) (headerOf bytes .slot)
+
 -- 18: slot at or above turn + N, the first for which there is no place
 abbrev pub slotAhead : Memory → List ℕ → Bool
 slotAhead m bytes = leb (m .turn .slot + span (m .group)) (headerOf bytes .slot)
@@ -129,6 +144,7 @@ deliverRefusal m bytes =
     ∷ refuse 15 (not (wellFormed bytes))
     ∷ refuse 16 (otherGroup m bytes)
     ∷ refuse 17 (slotPast m bytes)
+    ∷ refuse 29 (slotOut m bytes)
     ∷ refuse 18 (slotAhead m bytes)
     ∷ refuse 19 (notSentHere m bytes)
     ∷ refuse 20 (placeTaken m bytes)
@@ -219,13 +235,13 @@ endsOwn mine table ticket = mine && sentAmong table ticket
 abbrev pub workLent : Memory → Bool
 workLent m = placesLent m && (itemsLent m && (queueLent m && (valuesLent m && stampsLent m)))
 
--- 21: the turn's place is empty
+-- the turn's place is empty
 abbrev pub nothingWaits : Memory → Bool
 nothingWaits m = isEmpty (span (m .group)) (m .turn .slot) (m .blocks .places)
 
--- number 22, of own writesets not open as sent, is gone (`OwnSent.antt`), and no other refusal takes it
+-- 21: the turn's place is empty, and its slot is not out; number 22, of own writesets not open as sent, is gone (`OwnSent.antt`), and no other refusal takes it
 unfoldable pub workRefusal : Memory → ℕ
-workRefusal m = firstOf (refuse 1 (not (workLent m)) ∷ refuse 21 (nothingWaits m) ∷ [])
+workRefusal m = firstOf (refuse 1 (not (workLent m)) ∷ refuse 21 (not (outAtTurn m) && nothingWaits m) ∷ [])
 
 -- after the last writeset, or a *next*, the place empties
 abbrev pub turnBlocks : Memory → Blocks
@@ -276,8 +292,21 @@ commitWriteset m mine w =
       blocks = cond (isLast m) (turnBlocks m) (m .blocks);
     })
 
+-- the *next* of the turn's slot, from its owner
+abbrev pub nextAtTurn : Memory → Message
+nextAtTurn m = record { kind = 1; sender = ownerAt (m .group) (m .turn .slot); replicas = m .group .replicas; slot = m .turn .slot; records = [] }
+
+-- an out slot is passed: no block is needed, and the journal gets its *next*, also where the slot is the replica's own
+unfoldable pub passOut : Memory → Outcome
+passOut m =
+    outcome (worked (record { sender = ownerAt (m .group) (m .turn .slot); ticket = 0; moved = true; aborted = []; append = blockOf (nextAtTurn m) }))
+    (withTurn m (advance (m .turn)) (withDone (m .counts) 0) (m .blocks))
+
+-- what waits at the turn: a *next*, or one writeset
+unfoldable pub passBlock : Memory → Outcome
+passBlock m =
+    cond (eqb (getD (blockAtTurn m) 0 0) 1) (passNext m)
+    (commitWriteset m (eqb (getD (blockAtTurn m) 1 0) (m .group .own)) (writesetAt (blockAtTurn m) (m .counts .done)))
+
 unfoldable pub workStep : Memory → Outcome
-workStep m =
-    unless (workRefusal m) m
-    (cond (eqb (getD (blockAtTurn m) 0 0) 1) (passNext m)
-    (commitWriteset m (eqb (getD (blockAtTurn m) 1 0) (m .group .own)) (writesetAt (blockAtTurn m) (m .counts .done))))
+workStep m = unless (workRefusal m) m (cond (outAtTurn m) (passOut m) (passBlock m))

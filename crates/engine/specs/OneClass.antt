@@ -9,6 +9,7 @@ use lib.IntN.{ℤ}
 use lib.ListN.{replicate}
 use Rattle.block.specs.Answers.{refuse, firstOf}
 use Rattle.memory.specs.Memory.{Memory, isStation, writesLent, stampsLent}
+use Rattle.memory.specs.Notices.{Notice}
 use Rattle.engine.specs.Answers.{Outcome}
 use Rattle.engine.specs.Answers.Answer.{loaded}
 use Rattle.engine.specs.Make.{SettingOf, madeMemory}
@@ -16,7 +17,7 @@ use Rattle.engine.specs.Classes.{isApplying}
 use Rattle.engine.specs.Client.{rowNo, earlyRefusals, lateRefusals, writeUnless}
 use Rattle.engine.specs.Restart.{blocksIn, restartedMemory}
 use Rattle.engine.specs.Calls.{Call, step}
-use Rattle.engine.specs.Calls.Call.{begin, read, write, ask, withdraw, report, send, deliver, work, load}
+use Rattle.engine.specs.Calls.Call.{begin, read, write, ask, withdraw, report, send, deliver, work, load, notice}
 use Rattle.engine.specs.History.{AnyCall, afterAll}
 use Rattle.engine.specs.History.AnyCall.{call, restart}
 use Rattle.engine.specs.Shape.{Shape}
@@ -44,7 +45,8 @@ isLoad (call (send b)) = false
 isLoad (call (deliver b)) = false
 isLoad (call work) = false
 isLoad (call (load l)) = true
-isLoad (restart n own values journal block) = false
+isLoad (call (notice a)) = false
+isLoad (restart n own values journal notices block) = false
 
 -- no call of the list is a load
 unfoldable pub noLoads : List AnyCall → Bool
@@ -59,6 +61,6 @@ pub record OneClass : Type 0 where
   -- so on any list of calls and restarts without a load, after a make or a restart
   pub made : (n own : ℕ) (values : List ℤ) → SettingOf n own values → (cs : List AnyCall) → noLoads cs ≡ true → (ticket item : ℕ) (value : ℤ)
       → let m = afterAll (madeMemory n own values) cs in step m (write ticket item value) ≡ unclassedWrite m ticket item value
-  pub restarted : (n own : ℕ) (values : List ℤ) → SettingOf n own values → (journal : List ℕ) (cs : List AnyCall) → noLoads cs ≡ true
+  pub restarted : (n own : ℕ) (values : List ℤ) → SettingOf n own values → (journal : List ℕ) (notices : List Notice) (cs : List AnyCall) → noLoads cs ≡ true
       → (ticket item : ℕ) (value : ℤ)
-      → let m = afterAll (restartedMemory n own values (blocksIn n journal)) cs in step m (write ticket item value) ≡ unclassedWrite m ticket item value
+      → let m = afterAll (restartedMemory n own values notices (blocksIn n journal)) cs in step m (write ticket item value) ≡ unclassedWrite m ticket item value

@@ -13,7 +13,7 @@ use Rattle.memory.specs.Turns.{advance}
 use Rattle.engine.specs.Answers.{Outcome}
 use Rattle.engine.specs.Answers.Answer.{refused, worked}
 use Rattle.engine.specs.Make.{SettingOf, madeMemory, makeStep}
-use Rattle.engine.specs.Moves.{blockAtTurn, writesetAt, applied, stamped, isSent, workLent, nothingWaits, turnBlocks, isLast}
+use Rattle.engine.specs.Moves.{outAtTurn, blockAtTurn, writesetAt, applied, stamped, isSent, workLent, nothingWaits, turnBlocks, isLast}
 use Rattle.engine.specs.Calls.{step}
 use Rattle.engine.specs.Calls.Call.{work}
 use Rattle.engine.specs.History.{AnyCall, anyStep, afterAll}
@@ -44,8 +44,8 @@ pub record OwnSent : Type 0 where
   -- What waits at a station's turn is another's (`Stations.others`)
   pub met : (n own : ℕ) (values : List ℤ) → SettingOf n own values → (cs : List AnyCall)
       → let m = afterAll (madeMemory n own values) cs in nothingWaits m ≡ false → meetsOwn m ≡ true → isSent m (writesetMet m .ticket) ≡ true
-  -- on any memory, an altered one too: "on an altered state Work commits such a writeset and ends nobody"
-  pub altered : (m : Memory) → workLent m ≡ true → nothingWaits m ≡ false → meetsOwn m ≡ true → isSent m (writesetMet m .ticket) ≡ false → EndsNobody m (step m work)
+  -- on any memory whose slot at the turn is not out, an altered one too: "on an altered state Work commits such a writeset and ends nobody"
+  pub altered : (m : Memory) → workLent m ≡ true → outAtTurn m ≡ false → nothingWaits m ≡ false → meetsOwn m ≡ true → isSent m (writesetMet m .ticket) ≡ false → EndsNobody m (step m work)
   -- no call gives 22, on any memory; no other refusal takes the number
   pub gone : (m : Memory) (c : AnyCall) → anyStep m c .answer ≡ refused 22 → ⊥
   pub make-gone : (m : Memory) (n own : ℕ) (values : List ℤ) → makeStep m n own values .answer ≡ refused 22 → ⊥

@@ -1,4 +1,4 @@
--- A restart from a journal, document 02's Req 01: the blocks read, what committing them leaves, and the call.
+-- A restart from a journal, document 02's Req 01, with the notices taken, Req 10: the blocks read, what committing them leaves, and the call.
 use Prim.Native.Nat.{ℕ, zero, suc, _+_, _-_, _*_, _/_, max}
 use mathlib.Core.Bool.{Bool, false, cond, not, _&&_}
 use mathlib.Core.List.{List, [], _∷_}
@@ -8,6 +8,7 @@ use lib.ListN.{length, getD, take, drop, replicate}
 use Rattle.block.specs.Message.{Record}
 use Rattle.block.specs.Answers.{refuse, firstOf, blockRefusal, headerOf}
 use Rattle.memory.specs.Memory.{Store, Memory, groupOf, span, isBlock, bump}
+use Rattle.memory.specs.Notices.{Notice, withNotices, putsOut}
 use Rattle.memory.specs.Rows.{closed}
 use Rattle.engine.specs.Answers.{Outcome, outcome, unless}
 use Rattle.engine.specs.Answers.Answer.{restarted}
@@ -83,10 +84,10 @@ unfoldable pub ownWritesets : ℕ → List (List ℕ) → ℕ
 ownWritesets own [] = 0
 ownWritesets own (b ∷ bs) = cond (isFrom own b) (getD b 3 0) 0 + ownWritesets own bs
 
--- the last own block, else d
-unfoldable pub lastOwn : ℕ → List ℕ → List (List ℕ) → List ℕ
-lastOwn own d [] = d
-lastOwn own d (b ∷ bs) = lastOwn own (cond (isFrom own b) b d) bs
+-- the last own block outside out slots, out by all of the notices, else d
+unfoldable pub lastOwn : ℕ → List Notice → List ℕ → List (List ℕ) → List ℕ
+lastOwn own notices d [] = d
+lastOwn own notices d (b ∷ bs) = lastOwn own notices (cond (isFrom own b && not (putsOut false notices own (headerOf b .slot))) b d) bs
 
 -- own writesets above the highest ticket: 0 but where a ticket stands in two own blocks
 abbrev pub repeated : ℕ → List (List ℕ) → ℕ
@@ -94,11 +95,11 @@ repeated own bs = ownWritesets own bs - highestOwn own bs
 
 -- ---- the call
 
--- the blocks committed and nothing else there, also no table of classes: tickets up to the highest in own blocks are given, all own writesets committed; aborted is the highest
+-- the blocks committed, the notices in force, and nothing else there, also no table of classes: tickets up to the highest in own blocks are given, all own writesets committed; aborted is the highest
 -- ticket less these, 0 where they are more, which is so only where a ticket stands twice
-unfoldable pub restartedMemory : ℕ → ℕ → List ℤ → List (List ℕ) → Memory
-restartedMemory n own values bs = record {
-  group = groupOf n own;
+unfoldable pub restartedMemory : ℕ → ℕ → List ℤ → List Notice → List (List ℕ) → Memory
+restartedMemory n own values notices bs = record {
+  group = withNotices (groupOf n own) notices;
   turn = record { slot = length bs; sent = 0; applying = 0 };
   counts = record {
     commits = commitBlocks (startReplay values) bs .commits;
@@ -128,9 +129,9 @@ restartRefusal m n own values block =
     ∷ refuse 2 (sizeOut n own)
     ∷ [])
 
--- on the memory lent, whatever its turn, counts and table are
-unfoldable pub restartStep : Memory → ℕ → ℕ → List ℤ → List ℕ → List ℕ → Outcome
-restartStep m n own values journal block =
+-- on the memory lent, whatever its turn, counts and table are; the notices are put in force, in order, without a test
+unfoldable pub restartStep : Memory → ℕ → ℕ → List ℤ → List ℕ → List Notice → List ℕ → Outcome
+restartStep m n own values journal notices block =
     unless (restartRefusal m n own values block) m
-    (outcome (restarted (length (blocksIn n journal)) (lastOwn own (replicate 512 0) (blocksIn n journal)))
-    (restartedMemory n own values (blocksIn n journal)))
+    (outcome (restarted (length (blocksIn n journal)) (lastOwn own notices (replicate 512 0) (blocksIn n journal)))
+    (restartedMemory n own values notices (blocksIn n journal)))

@@ -7,10 +7,11 @@ use lib.IntN.{ℤ}
 use lib.ListN.{getD}
 use Rattle.block.specs.Answers.{recordAt}
 use Rattle.memory.specs.Memory.{Memory, ownerAt, span}
+use Rattle.memory.specs.Notices.{Notice}
 use Rattle.memory.specs.Rows.{rowAt}
 use Rattle.memory.specs.Turns.{blockIn, isEmpty}
 use Rattle.engine.specs.Make.{madeMemory}
-use Rattle.engine.specs.Moves.{sentAlready, isSent}
+use Rattle.engine.specs.Moves.{outAtTurn, sentAlready, isSent}
 use Rattle.engine.specs.Calls.{Call, step}
 use Rattle.engine.specs.Restart.{blocksIn, restartedMemory}
 use Rattle.engine.specs.Shape.{Shape}
@@ -23,8 +24,9 @@ abbrev pub sentTicket : Memory → ℕ → ℕ
 sentTicket m j = recordAt (m .blocks .outbox) j .ticket
 
 pub record SentShape (m : Memory) : Type 0 where
-  -- the sent mark is on at an own slot alone
+  -- the sent mark is on at an own slot alone that is not out
   pub turn : sentAlready m ≡ true → ownerAt (m .group) (m .turn .slot) ≡ m .group .own
+  pub awaited : sentAlready m ≡ true → outAtTurn m ≡ false
   -- a block that waits for an own slot is the one sent
   pub own : (s : ℕ) → m .turn .slot ≤ s → s < m .turn .slot + span (m .group) → isEmpty (span (m .group)) s (m .blocks .places) ≡ false
       → ownerAt (m .group) s ≡ m .group .own
@@ -38,4 +40,4 @@ pub record SentShape (m : Memory) : Type 0 where
 pub record SentShapes : Type 0 where
   pub made : (n own : ℕ) (values : List ℤ) → SentShape (madeMemory n own values)
   pub each : {over : ℕ} (m : Memory) → Shape over m → SentShape m → (c : Call) → SentShape (step m c .memory)
-  pub restarted : (n own : ℕ) (values : List ℤ) (journal : List ℕ) → SentShape (restartedMemory n own values (blocksIn n journal))
+  pub restarted : (n own : ℕ) (values : List ℤ) (journal : List ℕ) (notices : List Notice) → SentShape (restartedMemory n own values notices (blocksIn n journal))

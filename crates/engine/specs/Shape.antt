@@ -1,4 +1,4 @@
--- The memory's shape: what holds of every memory that calls and restarts lead to from a replica or a station just made, with any bytes, journals and arguments.
+-- The memory's shape: what holds of every memory that calls and restarts lead to from a replica or a station just made, with any bytes, journals, notices and arguments.
 use Prim.Native.Nat.{ℕ, _+_, _*_, _-_, _≤_, _<_}
 use mathlib.Core.Path.{_≡_}
 use mathlib.Core.Bool.{true, false}
@@ -8,6 +8,7 @@ use lib.ListN.{length, getD, replicate}
 use Rattle.block.specs.Answers.{blockRefusal, headerOf}
 use Rattle.block.specs.Message.{maxTicket}
 use Rattle.memory.specs.Memory.{Memory, span, slotLimit, isStation}
+use Rattle.memory.specs.Notices.{Notice, isOut}
 use Rattle.memory.specs.Rows.{closed, openCount, rowOf, rowAt, writeCount, itemsOf, has}
 use Rattle.memory.specs.Turns.{isOn, blockIn, isEmpty}
 use Rattle.engine.specs.Make.{SettingOf, madeMemory}
@@ -27,6 +28,8 @@ pub record Lengths (m : Memory) : Type 0 where
   pub classes : length (m .store .classes) ≡ 128
   pub places : length (m .blocks .places) ≡ 512 * span (m .group)
   pub outbox : length (m .blocks .outbox) ≡ 512
+  pub from : length (m .group .from) ≡ 6
+  pub until : length (m .group .until) ≡ 6
 
 -- over: own writesets that a restart committed above the highest ticket of its own blocks; 0 but where a ticket stands in two of them
 pub record Ranges (over : ℕ) (m : Memory) : Type 0 where
@@ -65,7 +68,7 @@ pub record QueueShape (m : Memory) : Type 0 where
   pub queued : (r : ℕ) → r < 6 → rowAt (m .txns .table) r .stage ≡ 1 → has (rowAt (m .txns .table) r .ticket) (waiting (m .txns .queue)) ≡ true
   pub once : (j k : ℕ) → j < k → k < length (waiting (m .txns .queue)) → getD (m .txns .queue) j 0 ≡ getD (m .txns .queue) k 0 → ⊥
 
--- a block that waits is an accepted one, for its slot and this group; writesets done are fewer than the block at the turn has; with the applying mark on one is done, so that
+-- a block that waits is an accepted one, for its slot and this group, and its slot is not out; writesets done are fewer than the block at the turn has; with the applying mark on one is done, so that
 -- one at least is left
 pub record PlaceShape (m : Memory) : Type 0 where
   pub waits : (s : ℕ) → m .turn .slot ≤ s → s < m .turn .slot + span (m .group)
@@ -73,6 +76,7 @@ pub record PlaceShape (m : Memory) : Type 0 where
       → (blockRefusal (blockIn (span (m .group)) s (m .blocks .places)) ≡ 0)
       × (headerOf (blockIn (span (m .group)) s (m .blocks .places)) .slot ≡ s)
       × (headerOf (blockIn (span (m .group)) s (m .blocks .places)) .replicas ≡ m .group .replicas)
+  pub clear : (s : ℕ) → m .turn .slot ≤ s → s < m .turn .slot + span (m .group) → isOut (m .group) s ≡ true → isEmpty (span (m .group)) s (m .blocks .places) ≡ true
   pub done : 0 < m .counts .done
       → (isEmpty (span (m .group)) (m .turn .slot) (m .blocks .places) ≡ false) × (m .counts .done < getD (blockAtTurn m) 3 0)
   pub applying : isOn (m .turn .applying) ≡ true → 0 < m .counts .done
@@ -94,6 +98,6 @@ pub record Shapes : Type 0 where
   pub each : {over : ℕ} (m : Memory) → Shape over m → (c : Call) → Shape over (step m c .memory)
   pub all : (n own : ℕ) (values : List ℤ) → SettingOf n own values → (cs : List AnyCall)
       → let m = madeMemory n own values in Shape (history (begun own []) m cs .over) (afterAll m cs)
-  -- from any journal
-  pub restarted : (n own : ℕ) (values : List ℤ) → SettingOf n own values → (journal : List ℕ)
-      → Shape (repeated own (blocksIn n journal)) (restartedMemory n own values (blocksIn n journal))
+  -- from any journal, lent any notices
+  pub restarted : (n own : ℕ) (values : List ℤ) → SettingOf n own values → (journal : List ℕ) (notices : List Notice)
+      → Shape (repeated own (blocksIn n journal)) (restartedMemory n own values notices (blocksIn n journal))

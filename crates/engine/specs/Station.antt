@@ -9,6 +9,7 @@ use lib.ListN.{length, getD}
 use Rattle.block.specs.Answers.{refuse, firstOf}
 use Rattle.block.specs.Message.{within}
 use Rattle.memory.specs.Memory.{Memory, noNumber, isStation}
+use Rattle.memory.specs.Notices.{Notice}
 use Rattle.memory.specs.Rows.{rowAt}
 use Rattle.engine.specs.Answers.{WorkDone, numberOf, Outcome, outcome, unless}
 use Rattle.engine.specs.Answers.Answer.{refused, made, readOnly, worked}
@@ -84,8 +85,8 @@ pub record Stations : Type 0 where
 -- a replica is no station: no number that a make or a restart is lent gives one, and calls and restarts, from any journal, leave it a replica, with a number below N; so 25 is a station's alone
 pub record Numbered : Type 0 where
   pub makes : (m : Memory) (n own : ℕ) (values : List ℤ) → makeRefusal m n own values ≡ 0 → isStation (makeStep m n own values .memory) ≡ false
-  pub restarts : (m : Memory) (n own : ℕ) (values : List ℤ) (journal block : List ℕ) → restartRefusal m n own values block ≡ 0
-      → isStation (restartStep m n own values journal block .memory) ≡ false
+  pub restarts : (m : Memory) (n own : ℕ) (values : List ℤ) (journal : List ℕ) (notices : List Notice) (block : List ℕ) → restartRefusal m n own values block ≡ 0
+      → isStation (restartStep m n own values journal notices block .memory) ≡ false
   pub stays : (n own : ℕ) (values : List ℤ) → SettingOf n own values → (cs : List AnyCall)
       → let m = afterAll (madeMemory n own values) cs in (isStation m ≡ false) × (m .group .own < m .group .replicas)
   pub never-25 : (n own : ℕ) (values : List ℤ) → SettingOf n own values → (cs : List AnyCall) (c : AnyCall)

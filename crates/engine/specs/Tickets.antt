@@ -5,6 +5,7 @@ use mathlib.Core.Bool.{cond}
 use mathlib.Core.List.{List, List·Nodup, [], _∷_, _++_, map}
 use lib.IntN.{ℤ}
 use Rattle.block.specs.Message.{Record}
+use Rattle.memory.specs.Notices.{Notice}
 use Rattle.engine.specs.Make.{SettingOf}
 use Rattle.engine.specs.declared.Report.{Report}
 use Rattle.engine.specs.Client.{reportOf}
@@ -30,9 +31,9 @@ pub record TicketsOnce : Type 0 where
   -- there are no more own writesets than tickets up to the highest
   pub few : (n own : ℕ) (journal : List ℕ) → let bs = blocksIn n journal in List·Nodup (ownTickets own bs) → ownWritesets own bs ≤ highestOwn own bs
   pub none-repeated : (n own : ℕ) (journal : List ℕ) → let bs = blocksIn n journal in List·Nodup (ownTickets own bs) → repeated own bs ≡ 0
-  pub counts : (n own : ℕ) (values : List ℤ) (journal : List ℕ) → let bs = blocksIn n journal in List·Nodup (ownTickets own bs)
-      → CountsOf own bs (reportOf (restartedMemory n own values bs))
+  pub counts : (n own : ℕ) (values : List ℤ) (journal : List ℕ) (notices : List Notice) → let bs = blocksIn n journal in List·Nodup (ownTickets own bs)
+      → CountsOf own bs (reportOf (restartedMemory n own values notices bs))
   -- and after calls since then tickets given equal open plus all endings
-  pub sum : (n own : ℕ) (values : List ℤ) → SettingOf n own values → (journal : List ℕ)
+  pub sum : (n own : ℕ) (values : List ℤ) → SettingOf n own values → (journal : List ℕ) (notices : List Notice)
       → let bs = blocksIn n journal in List·Nodup (ownTickets own bs) → (cs : List Call)
-      → let r = reportOf (after (restartedMemory n own values bs) cs) in r .tickets ≡ r .«open_count» + r .committed + r .«read_only» + r .aborted + r .withdrawn
+      → let r = reportOf (after (restartedMemory n own values notices bs) cs) in r .tickets ≡ r .«open_count» + r .committed + r .«read_only» + r .aborted + r .withdrawn

@@ -9,13 +9,14 @@ use lib.ListN.{replicate, drop, set}
 use Rattle.block.specs.Message.{Message}
 use Rattle.block.specs.Bytes.{blockOf}
 use Rattle.memory.specs.Memory.{Memory, withBlocks}
+use Rattle.memory.specs.Notices.{Notice}
 use Rattle.engine.specs.Answers.{Answer, Outcome, numberOf}
-use Rattle.engine.specs.Answers.Answer.{refused, began, got, wrote, queued, reported, sent, kept, worked, restarted}
+use Rattle.engine.specs.Answers.Answer.{refused, began, got, wrote, queued, reported, sent, kept, worked, noticed, restarted}
 use Rattle.engine.specs.Make.{madeMemory}
 use Rattle.engine.specs.Restart.{restartStep}
 use Rattle.engine.specs.Station.{stationMemory, stationStep}
 use Rattle.engine.specs.Calls.{Call, step}
-use Rattle.engine.specs.Calls.Call.{begin, read, write, ask, report, send, deliver, work, load}
+use Rattle.engine.specs.Calls.Call.{begin, read, write, ask, report, send, deliver, work, load, notice}
 
 -- what each call of a list answers, one after the other
 unfoldable pub answers : Memory → List Call → List Answer
@@ -113,7 +114,41 @@ sendTwo =
 
 -- replica 0 of 2 restarts from its own block and the *next* behind it
 abbrev pub restartOfTwo : Outcome
-restartOfTwo = restartStep (fresh 2 0) 2 0 zeros (twoThenOne ++ nextBlock 2 1 1) (replicate 512 0)
+restartOfTwo = restartStep (fresh 2 0) 2 0 zeros (twoThenOne ++ nextBlock 2 1 1) [] (replicate 512 0)
+
+abbrev pub outFrom : ℕ → ℕ → Notice
+outFrom k v = record { about = k; out = true; slot = v }
+
+abbrev pub backAt : ℕ → ℕ → Notice
+backAt k w = record { about = k; out = false; slot = w }
+
+-- replica 1 of 2 is out from slot 1 on and passes it; at turn 3 it comes back
+abbrev pub closedAndBack : List Call
+closedAndBack =
+    notice (outFrom 1 1)
+    ∷ notice (outFrom 1 3)
+    ∷ notice (backAt 1 1)
+    ∷ notice (outFrom 2 1)
+    ∷ notice (outFrom 0 100_000_000)
+    ∷ deliver (nextBlock 2 0 0)
+    ∷ work
+    ∷ send (replicate 512 0)
+    ∷ work
+    ∷ deliver (nextBlock 2 1 1)
+    ∷ deliver (nextBlock 2 1 5)
+    ∷ deliver (nextBlock 2 0 2)
+    ∷ work
+    ∷ notice (backAt 1 2)
+    ∷ notice (backAt 1 3)
+    ∷ send (replicate 512 0)
+    ∷ notice (outFrom 1 3)
+    ∷ notice (outFrom 1 4)
+    ∷ []
+
+-- replica 1 of 2 restarts from four *nexts*, with those notices
+abbrev pub restartNoticed : List Notice → Outcome
+restartNoticed notices =
+    restartStep (fresh 2 1) 2 1 zeros (nextBlock 2 0 0 ++ (nextBlock 2 1 1 ++ (nextBlock 2 0 2 ++ nextBlock 2 1 3))) notices (replicate 512 0)
 
 pub record RightAnswers : Type 0 where
   -- another's block: the asked transaction that wrote an item of its second writeset is aborted by that one, another is not, and meets 9 at the item
@@ -171,3 +206,31 @@ pub record RightAnswers : Type 0 where
       ∷ began 3
       ∷ reported (record { turn = 2; commits = 2; tickets = 3; «open_count» = 1; committed = 2; «read_only» = 0; aborted = 0; withdrawn = 0 })
       ∷ []
+  -- document 02's Req 10: no block is awaited for an out slot, and its *next* is journaled, the replica's own too; 29 is after 17 and before 18
+  pub notices : answers (fresh 2 1) closedAndBack
+      ≡ noticed
+      ∷ refused 28
+      ∷ refused 28
+      ∷ refused 2
+      ∷ refused 2
+      ∷ kept
+      ∷ worked (record { sender = 0; ticket = 0; moved = true; aborted = []; append = nextBlock 2 0 0 })
+      ∷ refused 29
+      ∷ worked (record { sender = 1; ticket = 0; moved = true; aborted = []; append = nextBlock 2 1 1 })
+      ∷ refused 17
+      ∷ refused 29
+      ∷ kept
+      ∷ worked (record { sender = 0; ticket = 0; moved = true; aborted = []; append = nextBlock 2 0 2 })
+      ∷ refused 28
+      ∷ noticed
+      ∷ sent (nextBlock 2 1 3)
+      ∷ refused 28
+      ∷ noticed
+      ∷ []
+  -- a restart gives back the last own block outside out slots, by all notices: slot 1 is out by the first outage alone; the last one is in force
+  pub restart-noticed : map (λ (l : List Notice). restartNoticed l .answer) ((outFrom 1 3 ∷ []) ∷ (outFrom 1 1 ∷ backAt 1 2 ∷ outFrom 1 2 ∷ backAt 1 7 ∷ []) ∷ [])
+      ≡ restarted 4 (nextBlock 2 1 1)
+      ∷ restarted 4 (replicate 512 0)
+      ∷ []
+  -- 11 is before 29
+  pub restart-in-force : numbers (restartNoticed (outFrom 0 4 ∷ []) .memory) (send (replicate 512 0) ∷ work ∷ work ∷ []) ≡ 11 ∷ 0 ∷ 21 ∷ []

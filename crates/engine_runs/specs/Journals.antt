@@ -15,7 +15,7 @@ use Rattle.engine.specs.Worked.{zeros, fresh, nextBlock}
 -- ---- small journals: a replica of a group of two, all values 0
 
 abbrev pub restartOf : ℕ → ℕ → List ℕ → Outcome
-restartOf n own journal = restartStep (fresh n own) n own zeros journal (replicate 512 0)
+restartOf n own journal = restartStep (fresh n own) n own zeros journal [] (replicate 512 0)
 
 abbrev pub noBlock : List ℕ
 noBlock = replicate 512 0
@@ -51,4 +51,4 @@ pub record WorkedRestarts : Type 0 where
   pub none-own : restartOf 2 1 (nextBlock 2 0 0) .answer ≡ restarted 1 noBlock
   pub size-7 : numberOf (restartOf 7 0 [] .answer) ≡ 2
   pub own-2 : numberOf (restartOf 2 2 [] .answer) ≡ 2
-  pub short : numberOf (restartStep (fresh 2 0) 2 0 zeros [] (replicate 511 0) .answer) ≡ 1
+  pub short : numberOf (restartStep (fresh 2 0) 2 0 zeros [] [] (replicate 511 0) .answer) ≡ 1

@@ -83,8 +83,8 @@ stays m R ticket old ds es e =
 none-open : (m : Memory) (c : AnyCall) → endsAll m c ≡ true → openCount (anyStep m c .memory .txns .table) ≡ 0
 unfolding restartedMemory openCount
 none-open m (call c) e = clash {b = false} e refl
-none-open m (restart n own values journal block) e =
-    restart-by (λ (o : Outcome). openCount (o .memory .txns .table) ≡ 0) m n own values journal block (λ z. refl)
+none-open m (restart n own values journal notices block) e =
+    restart-by (λ (o : Outcome). openCount (o .memory .txns .table) ≡ 0) m n own values journal notices block (λ z. refl)
     (λ z. absurd (z (eqb-true (restartRefusal m n own values block) 0 e)))
 
 no-such : (m : Memory) (ticket : ℕ) → isOpenAs ticket m ≡ false → step m (withdraw ticket) .answer ≡ refused 3

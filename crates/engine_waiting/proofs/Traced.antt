@@ -7,6 +7,7 @@ use native.Mathlib.Omega.{arith}
 use lib.ListN.{length, set, length-set, List·getD-eq-default}
 use lib.Seq.{getD-set-same}
 use borrow.Author.Tests.{eq-eqb, ne-eqb}
+use Rattle.memory.specs.declared.Group.{Group}
 use Rattle.memory.specs.declared.Txn.{Txn}
 use Rattle.memory.specs.Memory.{Memory}
 use Rattle.memory.specs.Rows.{closed, freeRow, rowAt}
@@ -14,11 +15,11 @@ use Rattle.engine.specs.Answers.{Outcome}
 use Rattle.engine.specs.Client.{rowNo, rowIn, beginAt, rewriteAt, insertWrite, staleAt, readOnlyAt, queueAt, withdrawAt, reportStep}
 use Rattle.engine.specs.Moves.{sendNow, deliverNow}
 use Rattle.engine.specs.Calls.{Call, step}
-use Rattle.engine.specs.Calls.Call.{begin, read, write, ask, withdraw, report, send, deliver, work, load}
+use Rattle.engine.specs.Calls.Call.{begin, read, write, ask, withdraw, report, send, deliver, work, load, notice}
 use Rattle.engine.specs.Shape.{Shape}
 use Rattle.engine.proofs.Tests.{same-by, less-by}
 use Rattle.engine.proofs.RowLaws.{others, sent-row}
-use Rattle.engine.proofs.Steps.{begin-by, read-by, write-by, ask-by, withdraw-by, send-by, deliver-by, load-by}
+use Rattle.engine.proofs.Steps.{begin-by, read-by, write-by, ask-by, withdraw-by, send-by, deliver-by, load-by, notice-by}
 use Rattle.engine.proofs.Passed.{begin-passed, write-passed, ask-passed}
 use Rattle.engine.proofs.Frames.{frames}
 
@@ -39,7 +40,8 @@ came-same m n r e = record {
 
 -- from m to n, with what became of the rows that have the ticket
 pub record Traced (ticket : ℕ) (m n : Memory) : Type 0 where
-  pub group : n .group ≡ m .group
+  pub replicas : n .group .replicas ≡ m .group .replicas
+  pub own : n .group .own ≡ m .group .own
   pub tickets : m .counts .tickets ≤ n .counts .tickets
   pub rows : (r : ℕ) → r < 6 → rowAt (n .txns .table) r .ticket ≡ ticket → Came m n r
 
@@ -50,7 +52,7 @@ shut-ticket l r =
 
 module _ {over : ℕ} (m : Memory) (S : Shape over m) (ticket : ℕ) (some : ticket ≡ 0 → ⊥) (old : ticket ≤ m .counts .tickets) where
   nothing : Traced ticket m m
-  nothing = record { group = refl; tickets = omega arith; rows = λ r h e. came-same m m r refl }
+  nothing = record { replicas = refl; own = refl; tickets = omega arith; rows = λ r h e. came-same m m r refl }
 
   -- row i is put in place of another
   one-row : (n : Memory) (i : ℕ) (t : Txn) → n .txns .table ≡ set (m .txns .table) i t
@@ -71,7 +73,8 @@ module _ {over : ℕ} (m : Memory) (S : Shape over m) (ticket : ℕ) (some : tic
   traced begin = begin-by (λ (o : Outcome). Traced ticket m (o .memory)) m
       (λ e. let i = freeRow (m .txns .table) in
       record {
-        group = refl;
+        replicas = refl;
+        own = refl;
         tickets = omega arith;
         rows = one-row (beginAt m i .memory) i _ refl (λ q.
             let t : _ ≡ ticket = rw (there i _ (begin-passed m e .row)) at q in absurd (omega (arith, old, t)));
@@ -79,11 +82,12 @@ module _ {over : ℕ} (m : Memory) (S : Shape over m) (ticket : ℕ) (some : tic
       (λ e. nothing)
   traced (read t i) = read-by (λ (o : Outcome). Traced ticket m (o .memory)) m t i (λ e. nothing) (λ e. nothing)
   traced (write t i v) = write-by (λ (o : Outcome). Traced ticket m (o .memory)) m t i v
-      (λ e. record { group = refl; tickets = omega arith; rows = row-shut (staleAt m (rowNo m t) .memory) (rowNo m t) refl })
-      (λ e o. record { group = refl; tickets = omega arith; rows = λ r h q. came-same m _ r refl })
+      (λ e. record { replicas = refl; own = refl; tickets = omega arith; rows = row-shut (staleAt m (rowNo m t) .memory) (rowNo m t) refl })
+      (λ e o. record { replicas = refl; own = refl; tickets = omega arith; rows = λ r h q. came-same m _ r refl })
       (λ e o. let p = write-passed m t i e .own in
       record {
-        group = refl;
+        replicas = refl;
+        own = refl;
         tickets = omega arith;
         rows = one-row (insertWrite m (rowNo m t) (rowIn m (rowNo m t)) i v .memory) (rowNo m t) _ refl (λ q.
             let w = there (rowNo m t) _ (p .row) in
@@ -91,10 +95,11 @@ module _ {over : ℕ} (m : Memory) (S : Shape over m) (ticket : ℕ) (some : tic
       })
       (λ k e d. nothing)
   traced (ask t) = ask-by (λ (o : Outcome). Traced ticket m (o .memory)) m t
-      (λ e. record { group = refl; tickets = omega arith; rows = row-shut (readOnlyAt m (rowNo m t) .memory) (rowNo m t) refl })
+      (λ e. record { replicas = refl; own = refl; tickets = omega arith; rows = row-shut (readOnlyAt m (rowNo m t) .memory) (rowNo m t) refl })
       (λ e d. let p = ask-passed m t e in
       record {
-        group = refl;
+        replicas = refl;
+        own = refl;
         tickets = omega arith;
         rows = one-row (queueAt m (rowNo m t) (rowIn m (rowNo m t)) .memory) (rowNo m t) _ refl (λ q.
             let w = there (rowNo m t) _ (p .row) in
@@ -102,12 +107,13 @@ module _ {over : ℕ} (m : Memory) (S : Shape over m) (ticket : ℕ) (some : tic
       })
       (λ e. nothing)
   traced (withdraw t) = withdraw-by (λ (o : Outcome). Traced ticket m (o .memory)) m t
-      (λ e. record { group = refl; tickets = omega arith; rows = row-shut (withdrawAt m (rowNo m t) .memory) (rowNo m t) refl })
+      (λ e. record { replicas = refl; own = refl; tickets = omega arith; rows = row-shut (withdrawAt m (rowNo m t) .memory) (rowNo m t) refl })
       (λ e. nothing)
   traced report = unfold step reportStep in nothing
   traced (send b) = send-by (λ (o : Outcome). Traced ticket m (o .memory)) m b
       (λ e. record {
-        group = refl;
+        replicas = refl;
+        own = refl;
         tickets = omega arith;
         rows = λ r h q. let w = sent-row (m .txns .table) r in
             record {
@@ -120,9 +126,10 @@ module _ {over : ℕ} (m : Memory) (S : Shape over m) (ticket : ℕ) (some : tic
       })
       (λ k e d. nothing)
   traced (deliver b) = deliver-by (λ (o : Outcome). Traced ticket m (o .memory)) m b
-      (λ e. record { group = refl; tickets = omega arith; rows = λ r h q. came-same m _ r refl }) (λ e. nothing)
+      (λ e. record { replicas = refl; own = refl; tickets = omega arith; rows = λ r h q. came-same m _ r refl }) (λ e. nothing)
   traced work = let f = frames .works m in record {
-    group = f .group;
+    replicas = ap (λ (g : Group). g .replicas) (f .group);
+    own = ap (λ (g : Group). g .own) (f .group);
     tickets = omega (arith, f .tickets);
     rows = λ r h q. left r q (f .rows r);
   }
@@ -132,4 +139,6 @@ module _ {over : ℕ} (m : Memory) (S : Shape over m) (ticket : ℕ) (some : tic
       left r q (inl e) = came-same m (step m work .memory) r e
       left r q (inr e) = absurd (some (sym q ∙ ap (λ (x : Txn). x .ticket) e))
   traced (load l) = load-by (λ (o : Outcome). Traced ticket m (o .memory)) m l
-      (λ e. record { group = refl; tickets = omega arith; rows = λ r h q. came-same m _ r refl }) (λ e. nothing)
+      (λ e. record { replicas = refl; own = refl; tickets = omega arith; rows = λ r h q. came-same m _ r refl }) (λ e. nothing)
+  traced (notice a) = notice-by (λ (o : Outcome). Traced ticket m (o .memory)) m a
+      (λ e. record { replicas = refl; own = refl; tickets = omega arith; rows = λ r h q. came-same m _ r refl }) (λ e. nothing)

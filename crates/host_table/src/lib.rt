@@ -143,7 +143,7 @@ pub fn copy_group(group: &Group) -> Group
     *group
 }
 
-// The group as the call by value made it.
+// The group as the call by value left it: the whole record.
 pub fn set_group(group: &mut Group, to: Group)
     ensures { λ _. ⌜ now (group .exit) ≡ to ⌝ }
 {

@@ -1,4 +1,5 @@
--- A replica's memory, in the order of reading: its parts, the rows of open transactions, the turn and the places.
+-- A replica's memory, in the order of reading: its parts, the slots that notices put out, the rows of open transactions, the turn and the places.
 pub mod Memory
+pub mod Notices
 pub mod Rows
 pub mod Turns

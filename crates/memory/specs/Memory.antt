@@ -4,7 +4,7 @@ use mathlib.Core.Bool.{Bool, _&&_}
 use mathlib.Core.List.{List}
 use lib.Dec.{eqb}
 use lib.IntN.{ℤ}
-use lib.ListN.{length}
+use lib.ListN.{length, replicate}
 use Rattle.block.specs.Message.{ownerOf}
 use Rattle.memory.specs.declared.Counts.{Counts}
 use Rattle.memory.specs.declared.Group.{Group}
@@ -47,8 +47,9 @@ slotLimit = 100_000_000
 abbrev pub noNumber : ℕ
 noNumber = 255
 
+-- of n replicas, with nobody out
 abbrev pub groupOf : ℕ → ℕ → Group
-groupOf n own = record { replicas = n; own = own }
+groupOf n own = record { replicas = n; own = own; from = replicate 6 0; until = replicate 6 0 }
 
 abbrev pub numberless : Group → Bool
 numberless g = eqb (g .own) noNumber
@@ -175,6 +176,9 @@ withTable x t = record { table = t; queue = x .queue; items = x .items; writes =
 
 abbrev pub withTxns : Memory → Counts → Transactions → Memory
 withTxns m c x = record { group = m .group; turn = m .turn; counts = c; txns = x; store = m .store; blocks = m .blocks }
+
+abbrev pub withGroup : Memory → Group → Memory
+withGroup m g = record { group = g; turn = m .turn; counts = m .counts; txns = m .txns; store = m .store; blocks = m .blocks }
 
 abbrev pub withBlocks : Memory → Blocks → Memory
 withBlocks m b = record { group = m .group; turn = m .turn; counts = m .counts; txns = m .txns; store = m .store; blocks = b }

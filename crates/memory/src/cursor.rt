@@ -8,19 +8,12 @@ use super::Turn;
 use super::rows::bump;
 
 impl Turn {
-    // The replica that the slot belongs to; the slot itself where the group has no replica.
     pub fn owner(self, group: Group) -> Owned
         ensures { λ r. ⌜ (r .turn ≡ self) × (r .replica ≡ ownerAt group (self .slot)) ⌝ }
     {
-        if group.replicas == 0 {
-            return Owned {
-                turn: self,
-                replica: self.slot,
-            };
-        }
         Owned {
             turn: self,
-            replica: self.slot % (group.replicas as u32),
+            replica: owner_at(group, self.slot),
         }
     }
 
@@ -53,6 +46,16 @@ impl Turn {
             applying: 0,
         }
     }
+}
+
+// The replica that a slot belongs to; the slot itself where the group has no replica.
+pub fn owner_at(group: Group, slot: u32) -> u32
+    ensures { λ r. ⌜ r ≡ ownerAt group slot ⌝ }
+{
+    if group.replicas == 0 {
+        return slot;
+    }
+    slot % (group.replicas as u32)
 }
 
 // Where the place of a slot begins, among so many; where there is none it is defined too. By the number and not the group: one field read twice is one division.

@@ -1,6 +1,7 @@
 // A replica's memory: the rows of its open transactions, its turn and its numbers, and the functions that look at them and change them.
 pub mod bytes;
 pub mod cursor;
+pub mod notices;
 pub mod rows;
 
 // Document 01's record of an open transaction; ticket 0 is a free row. Stage 0 is active, 1 asked, 2 sent. Four numbers of one width: a record has no padding,
@@ -22,14 +23,20 @@ pub struct Turn {
     pub applying: u8,
 }
 
+// How many slots there are: one more than the highest.
+pub const SLOT_LIMIT: u32 = 100_000_000;
+
 // In place of an own number where there is none, at a station. No replica has it: own numbers are below the group's size, and that is 6 at most.
 pub const NO_NUMBER: u8 = 255;
 
-// What a replica knows of its group: how many replicas it has, and which of them it is, NO_NUMBER at a station. A make or a restart sets it, and no other call.
+// What a replica knows of its group: how many replicas it has, which of them it is, NO_NUMBER at a station, and the last outage of each: its slots from `from` on, below `until`, are out. Both
+// are 0 where there was none; until its end is known `until` is SLOT_LIMIT. A make or a restart sets all of it, a notice one outage, and no other call anything.
 #[repr(C)]
 pub struct Group {
     pub replicas: u8,
     pub own: u8,
+    pub from: [u32; 6],
+    pub until: [u32; 6],
 }
 
 // Numbers of a replica: the commit count, the writesets done of the block at the turn, the tickets given, and how its own transactions ended.

@@ -1,18 +1,19 @@
 -- A station is a member of the group that sends nothing. Its number, which only the group's numbering gives it, is the sender of nothing that its calls meet: under any other such number
 -- they do the same. Assumes nothing.
-use Prim.Native.Nat.{ℕ, _+_}
-use mathlib.Core.Path.{_≡_, refl}
-use mathlib.Core.Bool.{Bool, false, true, cond}
+use Prim.Native.Nat.{ℕ, suc, zero, _+_}
+use mathlib.Core.Path.{_≡_, refl, ap}
+use mathlib.Core.Bool.{Bool, false, true, _&&_, _||_, cond}
 use mathlib.Core.Option.{Option, none, some}
 use mathlib.Core.List.{[]}
-use lib.Dec.{ltb}
+use lib.Dec.{leb, ltb}
 use lib.ListN.{getD, length}
 use borrow.Author.Tests.{ne-eqb}
 use Rattle.protocol.specs.Lists.{opt}
 use Rattle.protocol.specs.Writesets.{Message, Writeset, noWriteset}
-use Rattle.protocol.specs.Replica.{Setup, Replica, replica, refused, accepted, passed, committed, Outcome, outcome}
-use Rattle.protocol.specs.Moves.{isNext, occupied, keeping, deliverStep, storeAfter, cursorAfter, afterAborts, abortedBy, blocksAfter, advance, clearTurn, commitStep, atTurn, workStep}
-use Rattle.protocol.specs.System.{Call, begin, read, write, ask, withdraw, report, send, deliver, work, load, restart, step}
+use Rattle.protocol.specs.Notices.{Notice}
+use Rattle.protocol.specs.Replica.{Setup, Replica, replica, refused, accepted, passed, committed, noticed, Outcome, outcome}
+use Rattle.protocol.specs.Moves.{isNext, occupied, outHere, keeping, deliverStep, storeAfter, cursorAfter, afterAborts, abortedBy, blocksAfter, advance, clearTurn, commitStep, atTurn, passOut, workStep, placedFrom, barsBack, taking, noticeStep}
+use Rattle.protocol.specs.System.{Call, begin, read, write, ask, withdraw, report, send, deliver, work, load, restart, notice, step}
 use Rattle.protocol.specs.Machine.{Alike}
 
 module _ {X : Type 0} where
@@ -20,8 +21,8 @@ module _ {X : Type 0} where
   abbrev pub numbered : ℕ → Replica X → Replica X
   numbered k r = replica k (r .cursor) (r .store) (r .transactions) (r .blocks)
 
-  pub alike-numbered : (k : ℕ) (r s : Replica X) → Alike r s → Alike (numbered k r) (numbered k s)
-  alike-numbered k r s L = record {
+  pub alike-numbered : (S : Setup X) (k : ℕ) (r s : Replica X) → Alike S r s → Alike S (numbered k r) (numbered k s)
+  alike-numbered S k r s L = record {
     own = refl;
     cursor = L .cursor;
     commits = L .commits;
@@ -32,13 +33,14 @@ module _ {X : Type 0} where
     there = L .there;
     back = L .back;
     places = L .places;
+    outages = L .outages;
   }
 
   abbrev outcomeUnder : ℕ → Outcome X → Outcome X
   outcomeUnder k o = outcome (numbered k (o .replica)) (o .event)
 
 module _ {X : Type 0} (S : Setup X) where
-  -- number k is not the sender of what the call meets; a send and a restart are no calls of a station
+  -- number k is not the sender of what the call meets, and a notice is not about it; a send and a restart are no calls of a station
   abbrev pub Foreign : ℕ → Replica X → Call X → Type 0
   Foreign k r begin = Unit
   Foreign k r (read t i) = Unit
@@ -50,28 +52,31 @@ module _ {X : Type 0} (S : Setup X) where
   Foreign k r (deliver m) = m .sender ≡ k → ⊥
   Foreign k r work = (m : Message X) → atTurn S r ≡ some m → m .sender ≡ k → ⊥
   Foreign k r load = Unit
-  Foreign k r (restart lent) = ⊥
+  Foreign k r (restart lent notices) = ⊥
+  Foreign k r (notice a) = a .about ≡ k → ⊥
 
   -- ---- deliver
 
-  abbrev delivered : Replica X → Message X → Bool → Bool → Bool → Outcome X
-  delivered r m past near taken =
-      cond past (outcome r (refused 17)) (cond near (cond taken (outcome r (refused 20)) (outcome (keeping S r m) (accepted m))) (outcome r (refused 18)))
+  abbrev delivered : Replica X → Message X → Bool → Bool → Bool → Bool → Outcome X
+  delivered r m past gone near taken =
+      cond past (outcome r (refused 17)) (cond gone (outcome r (refused 29)) (cond near (cond taken (outcome r (refused 20)) (outcome (keeping S r m) (accepted m))) (outcome r (refused 18))))
 
   others-message : (r : Replica X) (m : Message X) → (m .sender ≡ r .own → ⊥)
-      → deliverStep S r m ≡ delivered r m (ltb (m .slot) (r .cursor .turn)) (ltb (m .slot) (r .cursor .turn + S .size)) (occupied (r .blocks .places (S .place (m .slot))))
+      → deliverStep S r m
+      ≡ delivered r m (ltb (m .slot) (r .cursor .turn)) (outHere S r (m .slot)) (ltb (m .slot) (r .cursor .turn + S .size)) (occupied (r .blocks .places (S .place (m .slot))))
   unfolding deliverStep
   others-message r m d = rw (ne-eqb (m .sender) (r .own) d) refl
 
-  delivered-under : (k : ℕ) (r : Replica X) (m : Message X) (past near taken : Bool) → delivered (numbered k r) m past near taken ≡ outcomeUnder k (delivered r m past near taken)
-  delivered-under k r m true near taken = refl
-  delivered-under k r m false true true = refl
-  delivered-under k r m false true false = refl
-  delivered-under k r m false false taken = refl
+  delivered-under : (k : ℕ) (r : Replica X) (m : Message X) (past gone near taken : Bool) → delivered (numbered k r) m past gone near taken ≡ outcomeUnder k (delivered r m past gone near taken)
+  delivered-under k r m true gone near taken = refl
+  delivered-under k r m false true near taken = refl
+  delivered-under k r m false false true true = refl
+  delivered-under k r m false false true false = refl
+  delivered-under k r m false false false taken = refl
 
   deliver-under : (k : ℕ) (r : Replica X) (m : Message X) → (m .sender ≡ r .own → ⊥) → (m .sender ≡ k → ⊥) → deliverStep S (numbered k r) m ≡ outcomeUnder k (deliverStep S r m)
   deliver-under k r m d e = rw (others-message (numbered k r) m e, others-message r m d)
-      (delivered-under k r m (ltb (m .slot) (r .cursor .turn)) (ltb (m .slot) (r .cursor .turn + S .size)) (occupied (r .blocks .places (S .place (m .slot)))))
+      (delivered-under k r m (ltb (m .slot) (r .cursor .turn)) (outHere S r (m .slot)) (ltb (m .slot) (r .cursor .turn + S .size)) (occupied (r .blocks .places (S .place (m .slot)))))
 
   -- ---- work
 
@@ -105,7 +110,42 @@ module _ {X : Type 0} (S : Setup X) where
   work-under : (k : ℕ) (r : Replica X) → ((m : Message X) → atTurn S r ≡ some m → m .sender ≡ r .own → ⊥) → ((m : Message X) → atTurn S r ≡ some m → m .sender ≡ k → ⊥)
       → workStep S (numbered k r) ≡ outcomeUnder k (workStep S r)
   unfolding workStep
-  work-under k r d e = works-under k r (atTurn S r) d e
+  work-under k r d e = by (outHere S r (r .cursor .turn))
+    where
+      by : (b : Bool) → cond b (passOut S (numbered k r)) (works (numbered k r) (atTurn S r)) ≡ outcomeUnder k (cond b (passOut S r) (works r (atTurn S r)))
+      by true = refl
+      by false = works-under k r (atTurn S r) d e
+
+  -- ---- notices
+
+  placed-under : (k : ℕ) (r : Replica X) (j v n : ℕ) → placedFrom S (numbered k r) j v n ≡ placedFrom S r j v n
+  unfolding placedFrom
+  placed-under k r j v zero = refl
+  placed-under k r j v (suc n) = rw (placed-under k r j v n) refl
+
+  -- what 28 asks, with the test of the own block decided
+  abbrev barred : Replica X → Notice → Bool → Bool
+  barred r a own =
+      ltb (a .slot) (r .cursor .turn)
+      || cond (a .out) (ltb (r .cursor .turn) (r .blocks .outages (a .about) .until) || (placedFrom S r (a .about) (a .slot) (S .size) || (own && (r .cursor .sent && leb (a .slot) (r .cursor .turn))))) (barsBack S r a)
+
+  abbrev taken : Replica X → Notice → Bool → Bool → Outcome X
+  taken r a late bars = cond late (outcome r (refused 2)) (cond bars (outcome r (refused 28)) (outcome (taking S r a) (noticed a)))
+
+  others-notice : (r : Replica X) (a : Notice) → (a .about ≡ r .own → ⊥) → noticeStep S r a ≡ taken r a (leb (S .slotLimit) (a .slot)) (barred r a false)
+  unfolding noticeStep
+  others-notice r a d = rw (ne-eqb (a .about) (r .own) d) refl
+
+  barred-under : (k : ℕ) (r : Replica X) (a : Notice) → barred (numbered k r) a false ≡ barred r a false
+  barred-under k r a = rw (placed-under k r (a .about) (a .slot) (S .size)) refl
+
+  taken-under : (k : ℕ) (r : Replica X) (a : Notice) (late bars : Bool) → taken (numbered k r) a late bars ≡ outcomeUnder k (taken r a late bars)
+  taken-under k r a true bars = refl
+  taken-under k r a false true = refl
+  taken-under k r a false false = refl
+
+  notice-under : (k : ℕ) (r : Replica X) (a : Notice) → (a .about ≡ r .own → ⊥) → (a .about ≡ k → ⊥) → noticeStep S (numbered k r) a ≡ outcomeUnder k (noticeStep S r a)
+  notice-under k r a d e = rw (others-notice (numbered k r) a e, others-notice r a d, barred-under k r a) (taken-under k r a (leb (S .slotLimit) (a .slot)) (barred r a false))
 
   -- ---- the whole
 
@@ -121,4 +161,5 @@ module _ {X : Type 0} (S : Setup X) where
   step-under k r (deliver m) d e = deliver-under k r m d e
   step-under k r work d e = work-under k r d e
   step-under k r load d e = refl
-  step-under k r (restart lent) d e = absurd d
+  step-under k r (restart lent notices) d e = absurd d
+  step-under k r (notice a) d e = notice-under k r a d e

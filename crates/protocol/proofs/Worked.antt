@@ -2,6 +2,7 @@
 use mathlib.Core.Path.{refl}
 use Rattle.protocol.specs.Lists.{keep, anyOf, first, sortIn, sort}
 use Rattle.protocol.specs.Writesets.{has, put, valueOr, shares, applyOne, stampOne}
+use Rattle.protocol.specs.Notices.{outBy}
 use Rattle.protocol.specs.Client.{isEmpty, askStep, withdrawStep, beginStep, readStep, writeFound, writeStep}
 use Rattle.protocol.specs.Moves.{cursorAfter, sendStep, deliverStep, blocksAfter, commitStep, workStep}
 use Rattle.protocol.specs.Journal.{inSlotOrder, commitAll, commitBlocks, highestTicket, highestOf, lastOf, journalAfter, appended}
@@ -10,7 +11,7 @@ use Rattle.protocol.specs.System.{messagesAfter, step, run}
 use Rattle.protocol.specs.Worked.{events, RightRuns}
 
 pub right-runs : RightRuns
-unfolding keep anyOf first sortIn sort has put valueOr shares applyOne stampOne isEmpty askStep withdrawStep beginStep readStep writeFound writeStep cursorAfter sendStep deliverStep blocksAfter commitStep workStep inSlotOrder commitAll commitBlocks highestTicket highestOf lastOf journalAfter appended addPending txnIds observedAfter handoutsAfter messagesAfter step run events
+unfolding keep anyOf first sortIn sort has put valueOr shares applyOne stampOne outBy isEmpty askStep withdrawStep beginStep readStep writeFound writeStep cursorAfter sendStep deliverStep blocksAfter commitStep workStep inSlotOrder commitAll commitBlocks highestTicket highestOf lastOf journalAfter appended addPending txnIds observedAfter handoutsAfter messagesAfter step run events
 right-runs = record {
   sends = refl;
   takes = refl;

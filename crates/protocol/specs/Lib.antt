@@ -2,6 +2,7 @@
 -- calls have the names of the engine's, whose counterparts they are.
 pub mod Lists
 pub mod Writesets
+pub mod Notices
 pub mod Replica
 pub mod Client
 pub mod Moves
@@ -12,3 +13,4 @@ pub mod System
 pub mod Statement
 pub mod Machine
 pub mod Worked
+pub mod WorkedNotices

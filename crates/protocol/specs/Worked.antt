@@ -59,7 +59,7 @@ taking = at 1 (begin ∷ write 1 0 9 ∷ ask 1 ∷ begin ∷ deliver twoThenOne 
 
 -- power is cut at replica 0, with ticket 4 asked
 abbrev pub restarting : List (CallAt ℕ)
-restarting = at 0 (restart (twoThenOne ∷ []) ∷ report ∷ begin ∷ read 3 0 ∷ [])
+restarting = at 0 (restart (twoThenOne ∷ []) [] ∷ report ∷ begin ∷ read 3 0 ∷ [])
 
 abbrev pub after : List (CallAt ℕ) → System ℕ
 after cs = run three start cs
@@ -79,7 +79,7 @@ pub record RightRuns : Type 0 where
   pub takes : events (after sending) taking
       ≡ began 1 ∷ wrote 1 0 9 ∷ requested 1 ∷ began 2 ∷ accepted twoThenOne ∷ committed 0 2 [] ∷ committed 0 1 (1 ∷ []) ∷ got 2 0 0 ∷ handedOut nothing ∷ []
   -- the own block is given back, and the tickets go on behind its highest
-  pub restarts : events (after (sending ++ taking)) restarting ≡ restarted (twoThenOne ∷ []) (some twoThenOne) ∷ reported 1 2 ∷ began 3 ∷ got 3 0 7 ∷ []
+  pub restarts : events (after (sending ++ taking)) restarting ≡ restarted (twoThenOne ∷ []) [] (some twoThenOne) ∷ reported 1 2 ∷ began 3 ∷ got 3 0 7 ∷ []
   -- the stamps are those of the writesets
   pub stamps : map (after (sending ++ restarting) .replicas 0 .store .stamps) (0 ∷ 1 ∷ 2 ∷ []) ≡ 2 ∷ 1 ∷ 0 ∷ []
   -- the journal of replica 1: another's block, then its own

@@ -164,7 +164,7 @@ APART counted_deliver_own(replica *r, uint32_t t) { (void)t, got = DO(deliver)(r
 APART counted_deliver(replica *r, uint32_t t) { (void)t, got = DO(deliver)(r, others, STEMLINE_BLOCK); }
 APART counted_work(replica *r, uint32_t t) { (void)t, worked = DO(work)(r, block); }
 APART counted_restart(replica *r) {
-    got = DO(restart)(r, N, 0, start, journal[0], sizeof journal, block).count;
+    got = DO(restart)(r, N, 0, start, journal[0], sizeof journal, NULL, 0, block).count;
 }
 
 static void fresh(void) { must(DO(make)(&first, N, 0, start)); }

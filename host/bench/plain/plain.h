@@ -14,6 +14,10 @@
 #include "stemline_calls.h"
 
 enum { PLAIN_ENTRIES = 8, PLAIN_WORDS = 252, PLAIN_TICKETS = 100000000 };
+/* the most slots that a take leaves, while not all replicas are out: those of which blocks wait, and those that
+ * are out behind them; and its most steps */
+enum { PLAIN_LEFT = 2 * STEMLINE_REPLICAS - 1 };
+enum { PLAIN_STEPS = STEMLINE_REPLICAS * STEMLINE_TABLE + STEMLINE_REPLICAS - 1 };
 enum { PLAIN_NEXT = 1, PLAIN_TOCOMMIT = 2 };
 enum { PLAIN_ACTIVE, PLAIN_ASKED, PLAIN_SENT };
 
@@ -51,6 +55,7 @@ typedef struct plain_replica {
     uint32_t done;   /* writesets committed of the block at the turn */
     bool sent, applying;
     uint32_t turn, commits, tickets, committed, read_only, aborted, withdrawn;
+    uint32_t from[STEMLINE_REPLICAS], until[STEMLINE_REPLICAS]; /* the last outage of each */
     uint32_t queued;
     uint8_t queue[STEMLINE_QUEUE]; /* rows asked, in their order */
     plain_row rows[STEMLINE_TABLE];
@@ -66,8 +71,8 @@ typedef struct plain_replica {
 /* What a take does: the steps, and the blocks for the journal; nothing is said of what is behind. */
 typedef struct plain_taken {
     uint8_t number, count, append_count;
-    stemline_work_reply steps[STEMLINE_REPLICAS * STEMLINE_TABLE];
-    uint8_t append[STEMLINE_REPLICAS][STEMLINE_BLOCK];
+    stemline_work_reply steps[PLAIN_STEPS];
+    uint8_t append[PLAIN_LEFT][STEMLINE_BLOCK];
 } plain_taken;
 
 size_t plain_size(void);
@@ -75,7 +80,10 @@ uint8_t plain_make(plain_replica *r, uint32_t n, uint32_t own, const int32_t sta
 uint8_t plain_make_station(plain_replica *r, uint32_t n, const int32_t start[STEMLINE_ITEMS]);
 stemline_restart_reply plain_restart(
     plain_replica *r, uint32_t n, uint32_t own, const int32_t start[STEMLINE_ITEMS],
-    const uint8_t *journal, size_t length, uint8_t block[STEMLINE_BLOCK]);
+    const uint8_t *journal, size_t length, const stemline_notice *notices, size_t count,
+    uint8_t block[STEMLINE_BLOCK]);
+uint8_t plain_out(plain_replica *r, uint32_t replica, uint32_t slot);
+uint8_t plain_back(plain_replica *r, uint32_t replica, uint32_t slot);
 stemline_begin_reply plain_begin(plain_replica *r);
 stemline_read_reply plain_read(const plain_replica *r, uint32_t ticket, uint32_t item);
 uint8_t plain_write(plain_replica *r, uint32_t ticket, uint32_t item, int32_t value);
@@ -92,6 +100,12 @@ const int32_t *plain_values(const plain_replica *r);
 /* For tests: as the replica is after so many slots and withdrawn tickets. */
 void plain_fast_forward(plain_replica *r, uint32_t slots, uint32_t tickets);
 
+/* Whether a slot from the turn on is out. */
+static inline bool plain_is_out(const plain_replica *r, uint32_t slot) {
+    uint32_t k = slot % r->n;
+    return r->from[k] <= slot && slot < r->until[k];
+}
+
 /* 0, or why a block is none: 14, 15. Puts the check. */
 uint8_t plain_block_number(const plain_block *block);
 void plain_put_check(plain_block *block);
@@ -104,6 +118,16 @@ static inline void plain_end(plain_replica *r, plain_row *row) {
     }
     row->record.ticket = 0;
     row->record.writes = 0;
+}
+
+/* Sets values and stamps of a writeset's items. */
+static inline void plain_apply(plain_replica *r, const plain_record *record) {
+    const plain_entry *entry = record->entries, *behind = entry + record->writes;
+    uint32_t stamp = ++r->commits;
+    for (; entry < behind; entry++) {
+        r->values[entry->item] = entry->value;
+        r->stamps[entry->item] = stamp;
+    }
 }
 
 #endif

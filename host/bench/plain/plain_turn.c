@@ -1,14 +1,19 @@
-/* The calls that move the turn at the replica in plain C, and its restart. */
+/* The calls that move the turn at the replica in plain C. */
 #include "plain.h"
+
+/* A block of the turn, without check and records. */
+static void begin_block(const plain_replica *r, plain_block *block, uint8_t kind) {
+    memset(block, 0, sizeof *block);
+    block->has.kind = kind;
+    block->has.sender = (uint8_t)(r->turn % r->n);
+    block->has.n = (uint8_t)r->n;
+    block->has.slot = r->turn;
+}
 
 /* The block for the own slot, in the outbox: the records of the rows asked, whole. */
 static void fill(plain_replica *r, plain_block *block) {
-    memset(block, 0, sizeof *block);
-    block->has.kind = r->queued == 0 ? PLAIN_NEXT : PLAIN_TOCOMMIT;
-    block->has.sender = (uint8_t)r->own;
-    block->has.n = (uint8_t)r->n;
+    begin_block(r, block, r->queued == 0 ? PLAIN_NEXT : PLAIN_TOCOMMIT);
     block->has.count = (uint8_t)r->queued;
-    block->has.slot = r->turn;
     for (uint32_t j = 0; j < r->queued; j++) {
         plain_row *row = &r->rows[r->queue[j]];
         size_t used = sizeof(plain_entry) * (1 + row->record.writes);
@@ -27,6 +32,9 @@ uint8_t plain_send(plain_replica *r, uint8_t block[STEMLINE_BLOCK]) {
     }
     if (r->turn % r->n != r->own) {
         return STEMLINE_NOT_OUR_TURN;
+    }
+    if (plain_is_out(r, r->turn)) {
+        return STEMLINE_SLOT_OUT;
     }
     if (r->sent) {
         return STEMLINE_ALREADY_SENT;
@@ -54,6 +62,9 @@ uint8_t plain_deliver(plain_replica *r, const uint8_t *bytes, size_t length) {
     if (block.has.slot < r->turn) {
         return STEMLINE_PAST_SLOT;
     }
+    if (plain_is_out(r, block.has.slot)) {
+        return STEMLINE_SLOT_OUT;
+    }
     if (block.has.slot - r->turn >= r->n) {
         return STEMLINE_FAR_SLOT;
     }
@@ -79,16 +90,6 @@ static void leave(
     r->turn++;
     r->done = 0;
     r->sent = r->applying = false;
-}
-
-/* Sets values and stamps of a writeset's items. */
-static void apply(plain_replica *r, const plain_record *record) {
-    const plain_entry *entry = record->entries, *behind = entry + record->writes;
-    uint32_t stamp = ++r->commits;
-    for (; entry < behind; entry++) {
-        r->values[entry->item] = entry->value;
-        r->stamps[entry->item] = stamp;
-    }
 }
 
 /* Ends a row that another's writeset hits: among the tickets aborted it stands by its size. */
@@ -132,9 +133,29 @@ static void end_own(plain_replica *r, uint32_t ticket) {
     r->committed++;
 }
 
+/* Passes a slot that is out: its next goes to the lent block. */
+static void pass(plain_replica *r, uint8_t block[STEMLINE_BLOCK], stemline_work_reply *reply) {
+    plain_block next;
+    begin_block(r, &next, PLAIN_NEXT);
+    plain_put_check(&next);
+    memcpy(block, &next, sizeof next);
+    reply->sender = next.has.sender;
+    reply->moved = reply->append = true;
+    r->turn++;
+}
+
+/* Whether a work does something: the slot at the turn is out, or its block waits. */
+static inline bool waits(const plain_replica *r) {
+    return r->places[r->turn % r->n].has.kind != 0 || (plain_is_out(r, r->turn) && r->turn < STEMLINE_SLOTS);
+}
+
 stemline_work_reply plain_work(plain_replica *r, uint8_t block[STEMLINE_BLOCK]) {
     stemline_work_reply reply = {STEMLINE_ACCEPTED, 0, false, 0, 0, {0}, false};
     plain_block *place = &r->places[r->turn % r->n];
+    if (plain_is_out(r, r->turn) && r->turn < STEMLINE_SLOTS) {
+        pass(r, block, &reply);
+        return reply;
+    }
     if (place->has.kind == 0) {
         reply.number = STEMLINE_NOTHING_WAITS;
         return reply;
@@ -152,7 +173,7 @@ stemline_work_reply plain_work(plain_replica *r, uint8_t block[STEMLINE_BLOCK]) 
         abort_holders(r, record, &reply);
         r->applying = true;
     }
-    apply(r, record);
+    plain_apply(r, record);
     if (r->done == place->has.count) {
         leave(r, place, block, &reply);
     }
@@ -165,41 +186,11 @@ void plain_take(plain_replica *r, const uint8_t *bytes, size_t length, plain_tak
     if (taken->number != STEMLINE_ACCEPTED) {
         return;
     }
-    while (r->places[r->turn % r->n].has.kind != 0) {
+    int left = 0;
+    while (waits(r) && taken->count < PLAIN_STEPS && left < PLAIN_LEFT) {
         stemline_work_reply *step = &taken->steps[taken->count++];
         *step = plain_work(r, taken->append[taken->append_count]);
+        left += step->moved;
         taken->append_count = (uint8_t)(taken->append_count + step->append);
     }
-}
-
-stemline_restart_reply plain_restart(
-    plain_replica *r, uint32_t n, uint32_t own, const int32_t start[STEMLINE_ITEMS],
-    const uint8_t *journal, size_t length, uint8_t block[STEMLINE_BLOCK]) {
-    stemline_restart_reply reply = {plain_make(r, n, own, start), 0};
-    if (reply.number != STEMLINE_ACCEPTED) {
-        return reply;
-    }
-    memset(block, 0, STEMLINE_BLOCK);
-    for (; length >= STEMLINE_BLOCK; journal += STEMLINE_BLOCK, length -= STEMLINE_BLOCK) {
-        plain_block next;
-        memcpy(&next, journal, sizeof next);
-        if (plain_block_number(&next) != 0 || next.has.n != n || next.has.slot != r->turn) {
-            break;
-        }
-        for (uint32_t j = 0; j < next.has.count; j++) {
-            const plain_record *record = &next.has.records[j];
-            apply(r, record);
-            if (next.has.sender == own) {
-                r->tickets = r->tickets < record->ticket ? record->ticket : r->tickets;
-                r->committed++;
-            }
-        }
-        if (next.has.sender == own) {
-            memcpy(block, &next, sizeof next);
-        }
-        r->turn++;
-    }
-    r->aborted = r->tickets < r->committed ? 0 : r->tickets - r->committed;
-    reply.count = r->turn;
-    return reply;
 }

@@ -4,6 +4,7 @@
 
 mod classes;
 mod client;
+mod notice;
 mod restart;
 mod turn;
 
@@ -13,6 +14,8 @@ use model::replica::{Report, ITEMS};
 
 pub use self::restart::Restarted;
 
+/// The most replicas of a group.
+const REPLICAS: usize = 6;
 /// The most open transactions.
 const OPEN: usize = RECORDS;
 /// In the place of a station's own number.
@@ -34,6 +37,9 @@ pub struct Replica {
     read_only: u32,
     aborted: u32,
     withdrawn: u32,
+    /// The last outage of each replica: its slots from .. until are out, without the last.
+    from: [u32; REPLICAS],
+    until: [u32; REPLICAS],
     /// The first `queued` tickets wait for the next own block.
     queued: usize,
     queue: [u32; OPEN],
@@ -43,7 +49,7 @@ pub struct Replica {
     /// All 0 where no table is loaded.
     classes: [u8; ITEMS],
     /// The first byte is 0 where no block waits.
-    places: [[u8; BLOCK]; 6],
+    places: [[u8; BLOCK]; REPLICAS],
     outbox: [u8; BLOCK],
 }
 
@@ -106,7 +112,7 @@ pub struct Work {
     pub aborted: [u32; OPEN],
     /// How many there are.
     pub count: usize,
-    /// Another's block, whose slot the turn left.
+    /// Another's block, whose slot the turn left, or the next of one that is out.
     pub append: Option<Box<[u8; BLOCK]>>,
 }
 
@@ -138,13 +144,15 @@ impl Replica {
             read_only: 0,
             aborted: 0,
             withdrawn: 0,
+            from: [0; REPLICAS],
+            until: [0; REPLICAS],
             queued: 0,
             queue: [0; OPEN],
             rows: [Row::FREE; OPEN],
             values: *values,
             stamps: [0; ITEMS],
             classes: [0; ITEMS],
-            places: [[0; BLOCK]; 6],
+            places: [[0; BLOCK]; REPLICAS],
             outbox: [0; BLOCK],
         })
     }

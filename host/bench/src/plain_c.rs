@@ -4,6 +4,7 @@
 use std::ffi::c_void;
 
 use model::block::BLOCK;
+use model::notice::{Kind, Notice};
 use model::replica::{Report, Restarted, Work, ITEMS};
 use stemline::ffi::{AskReply, BeginReply, ReadReply, ReportReply, RestartReply, WorkReply};
 
@@ -23,8 +24,12 @@ extern "C" {
         start: *const i32,
         journal: *const u8,
         length: usize,
+        notices: *const [u32; 3],
+        count: usize,
         block: *mut u8,
     ) -> RestartReply;
+    fn plain_out(r: *mut c_void, replica: u32, slot: u32) -> u8;
+    fn plain_back(r: *mut c_void, replica: u32, slot: u32) -> u8;
     fn plain_begin(r: *mut c_void) -> BeginReply;
     fn plain_read(r: *const c_void, ticket: u32, item: u32) -> ReadReply;
     fn plain_write(r: *mut c_void, ticket: u32, item: u32, value: i32) -> u8;
@@ -71,16 +76,21 @@ impl Replica {
         accepted(number, made)
     }
 
-    /// A replica from a journal.
+    /// A replica from a journal and all notices taken.
     pub fn restart(
         n: u32,
         own: u32,
         values: &[i32; ITEMS],
         journal: &[u8],
+        notices: &[Notice],
     ) -> Result<(Replica, Restarted), u8> {
         let mut made = Replica::zero();
         let mut block = Box::new([0; BLOCK]);
         let (start, bytes) = (values.as_ptr(), journal.as_ptr());
+        let notices: Vec<[u32; 3]> = notices
+            .iter()
+            .map(|n| [n.about, u32::from(n.kind == Kind::Out), n.slot])
+            .collect();
         let reply = unsafe {
             plain_restart(
                 made.here(),
@@ -89,6 +99,8 @@ impl Replica {
                 start,
                 bytes,
                 journal.len(),
+                notices.as_ptr(),
+                notices.len(),
                 block.as_mut_ptr(),
             )
         };
@@ -173,6 +185,16 @@ impl Replica {
     /// Gives each item a class.
     pub fn load(&mut self, classes: &[u8]) -> Result<(), u8> {
         let number = unsafe { plain_load(self.here(), classes.as_ptr(), classes.len()) };
+        accepted(number, ())
+    }
+
+    /// Takes a notice.
+    pub fn notice(&mut self, notice: Notice) -> Result<(), u8> {
+        let Notice { kind, about, slot } = notice;
+        let number = match kind {
+            Kind::Out => unsafe { plain_out(self.here(), about, slot) },
+            Kind::Back => unsafe { plain_back(self.here(), about, slot) },
+        };
         accepted(number, ())
     }
 

@@ -32,15 +32,15 @@ pub fn run() {
         "restart, for each block",
         vec![
             side(&|values, journal| {
-                let restarted = stemline::Replica::restart(N, OWN, values, journal);
+                let restarted = stemline::Replica::restart(N, OWN, values, journal, &[]);
                 restarted.unwrap().1.blocks
             }),
             side(&|values, journal| {
-                let restarted = plain::Replica::restart(N, OWN, values, journal);
+                let restarted = plain::Replica::restart(N, OWN, values, journal, &[]);
                 restarted.unwrap().1.blocks
             }),
             side(&|values, journal| {
-                let restarted = second::Replica::restart(N, OWN, values, journal);
+                let restarted = second::Replica::restart(N, OWN, values, journal, &[]);
                 restarted.unwrap().1.count
             }),
         ],
@@ -83,9 +83,9 @@ fn agree(journal: &[u8]) {
     let values = [0; ITEMS];
     for bytes in [journal.len(), journal.len() - 1, 513, 512, 0] {
         let journal = &journal[..bytes];
-        let (a, first) = stemline::Replica::restart(N, OWN, &values, journal).unwrap();
-        let (b, other) = plain::Replica::restart(N, OWN, &values, journal).unwrap();
-        let (c, third) = second::Replica::restart(N, OWN, &values, journal).unwrap();
+        let (a, first) = stemline::Replica::restart(N, OWN, &values, journal, &[]).unwrap();
+        let (b, other) = plain::Replica::restart(N, OWN, &values, journal, &[]).unwrap();
+        let (c, third) = second::Replica::restart(N, OWN, &values, journal, &[]).unwrap();
         assert_eq!((first.blocks, first.last), (other.blocks, other.last));
         assert_eq!(first.blocks, third.count);
         assert!(first.last.unwrap_or([0; 512]) == *third.block);

@@ -37,6 +37,7 @@ fn each_case_does_the_same() {
             "host/bench/plain/plain_block.c",
             "host/bench/plain/plain_client.c",
             "host/bench/plain/plain_turn.c",
+            "host/bench/plain/plain_notice.c",
         ],
     );
     let cases = printed(Command::new(&plain).output().unwrap());

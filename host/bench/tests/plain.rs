@@ -8,6 +8,7 @@ use model::replica::{Report, Restarted, Work, ITEMS, SLOTS};
 use model::samples::Random;
 use model::trace::{Answer, Call, Restart};
 use soak::both::Both;
+use soak::runs::NUMBERS;
 
 struct All {
     rust: plain::Replica,
@@ -59,7 +60,8 @@ impl All {
 
 impl Subject for All {
     fn call(&mut self, call: &Call) -> Result<Answer, u8> {
-        let waiting = self.both.model.waiting();
+        let model = &self.both.model;
+        let waiting = model.out_next().or(model.waiting());
         let before = self.both.disk().len();
         let (mut by_rust, mut by_c) = (Vec::new(), Vec::new());
         let rust = play_rust(&mut self.rust, call, &mut by_rust);
@@ -95,12 +97,22 @@ impl Powered for All {
     fn floor(&self) -> usize {
         self.both.floor()
     }
+    fn ended(&mut self, call: &Call) {
+        // The floor is the pair's.
+        let _ = (
+            play_rust(&mut self.rust, call, &mut Vec::new()),
+            play_c(&mut self.c, call, &mut Vec::new()),
+        );
+        self.both.ended(call);
+    }
     fn restart(&mut self, restart: &Restart) -> Result<Restarted, u8> {
         let due = self.both.restart(restart);
         let (n, own) = (restart.n, restart.own);
         let values = restart.values[..].try_into().unwrap();
-        let (rust, given) = plain::Replica::restart(n, own, values, &restart.journal).unwrap();
-        let (c, by_c) = plain_c::Replica::restart(n, own, values, &restart.journal).unwrap();
+        let (rust, given) =
+            plain::Replica::restart(n, own, values, &restart.journal, &restart.notices).unwrap();
+        let (c, by_c) =
+            plain_c::Replica::restart(n, own, values, &restart.journal, &restart.notices).unwrap();
         let block = Box::new(given.last.unwrap_or([0; BLOCK]));
         let count = given.blocks;
         assert_eq!(Ok(Restarted { count, block }), due, "plain Rust");
@@ -132,6 +144,7 @@ macro_rules! played {
             Call::Deliver { ref bytes } => $replica.deliver(bytes).map(|()| Answer::Done),
             Call::Work => $work,
             Call::Load { ref classes } => $replica.load(classes).map(|()| Answer::Done),
+            Call::Notice(notice) => $replica.notice(notice).map(|()| Answer::Done),
         }
     };
 }
@@ -196,14 +209,13 @@ fn run(seed: u64, style: Style, slots: u32, tickets: u32, seen: &mut Seen) {
 fn all_give_the_same() {
     let mut seen = Seen::default();
     for seed in 0..40 {
-        let style = STYLES[seed as usize / 5 % 4];
+        let style = STYLES[seed as usize / 5 % 4].with_notices([0, 6][seed as usize % 2]);
         run(seed, style, 0, 0, &mut seen);
-        let style = Style::new(30, 40, 6);
+        let style = Style::new(30, 40, 6).with_notices(4);
         run(seed, style, SLOTS - 60, MAX_TICKET - 60, &mut seen);
     }
-    // There is no 22 any more, and no 24.
-    let due: Vec<usize> = (1..26).filter(|&n| n != 22 && n != 24).collect();
-    assert_eq!(seen.numbers(20), due, "{seen:?}");
+    assert_eq!(seen.numbers(20), NUMBERS, "{seen:?}");
+    assert!(seen.notices > 500 && seen.passed_out > 500, "{seen:?}");
     assert!(seen.stale_and_held > 30, "{seen:?}");
     assert!(seen.restarts > 1_000, "{seen:?}");
     assert!(seen.offered_again > 100, "{seen:?}");

@@ -1,11 +1,15 @@
 //! For tests: replicas that are driven by hand or at random. Here whole groups under an observer; in
-//! `power` their cuts and restarts; in `stations` the stations beside them; in `peers` one replica or
-//! station among forged peers.
+//! `power` their cuts and restarts; in `stations` the stations beside them; in `service` the notices of
+//! a membership service, and in `waiting` and `progress` what document 02's Req 06 promises with them;
+//! in `peers` one replica or station among forged peers.
 
 mod peers;
 mod power;
+mod progress;
+mod service;
 mod stations;
 mod tally;
+mod waiting;
 
 use std::collections::{BTreeMap, BTreeSet};
 
@@ -19,10 +23,16 @@ pub use self::peers::Peers;
 pub use self::power::{Machine, Powered};
 pub use self::tally::{Seen, Subject, Tally};
 
+use self::service::Service;
+use self::waiting::Waits;
+
 /// The values that every test's replicas start with: item i has 10·i − 600.
 pub fn start_values() -> [i32; ITEMS] {
     std::array::from_fn(|item| 10 * item as i32 - 600)
 }
+
+/// More works than a test's blocks need.
+const WORKS: usize = 20_000;
 
 /// How the random calls of a run are chosen.
 #[derive(Clone, Copy)]
@@ -33,6 +43,8 @@ pub struct Style {
     pub local: usize,
     /// Of a hundred of these, so many ask: the fewer, the larger the writesets.
     pub asks: usize,
+    /// Of a hundred calls, so many are about notices.
+    pub notices: usize,
 }
 
 /// Two styles with many conflicts, one with full blocks, one with large writesets.
@@ -44,9 +56,20 @@ pub const STYLES: [Style; 4] = [
 ];
 
 impl Style {
-    /// Items, local calls and asks of a style.
+    /// Items, local calls and asks of a style, without notices.
     pub const fn new(items: usize, local: usize, asks: usize) -> Style {
-        Style { items, local, asks }
+        Style {
+            items,
+            local,
+            asks,
+            notices: 0,
+        }
+    }
+
+    /// The same with so many calls of a hundred about notices: at a group those of a membership service,
+    /// at one replica or station among peers any.
+    pub const fn with_notices(self, notices: usize) -> Style {
+        Style { notices, ..self }
     }
 }
 
@@ -71,15 +94,20 @@ pub struct Group<S> {
     withheld: usize,
     /// Station and slot of the blocks handed out that it refused by 18 and has not taken since.
     refused_far: BTreeSet<(usize, u32)>,
+    /// Member and slot of the blocks handed out that it was given since it was made or restarted.
+    given: BTreeSet<(usize, u32)>,
+    service: Service,
+    waits: Waits,
 }
 
 impl<S: Subject> Group<S> {
     /// A group of replicas of which no call is seen yet.
     pub fn new(members: Vec<S>, style: Style) -> Group<S> {
         let tallies = members.iter().enumerate();
+        let first = members.first().map_or(0, |m| m.report().turn);
         Group {
             tallies: tallies.map(|(k, m)| Tally::new(k, m.report())).collect(),
-            observer: Observer::new(members.len(), start_values()),
+            observer: Observer::new(members.len(), start_values()).late(first),
             blocks: BTreeMap::new(),
             seen: Seen::default(),
             style,
@@ -87,6 +115,9 @@ impl<S: Subject> Group<S> {
             replicas: members.len(),
             stations: Vec::new(),
             refused_far: BTreeSet::new(),
+            given: BTreeSet::new(),
+            service: Service::new(members.len()),
+            waits: Waits::new(members.len()),
             members,
         }
     }
@@ -95,8 +126,12 @@ impl<S: Subject> Group<S> {
     pub fn call(&mut self, k: usize, call: &Call) -> Result<Answer, u8> {
         let answer = self.members[k].call(call);
         self.observer.feed(k, call, &answer);
-        self.seen.feed(&self.tallies[k], call, &answer);
+        let n = self.replicas as u32;
+        self.seen.feed(n, &self.tallies[k], call, &answer);
+        let before = (self.tallies[k].report.turn, self.tallies[k].is_out(n));
         self.tallies[k].feed(call, &answer);
+        self.waits
+            .feed(n, k, before, call, &answer, &self.tallies[k]);
         self.feed_delivery(k, call, &answer);
         if let Ok(Answer::Block(block)) = &answer {
             let slot = block::header(block).slot;
@@ -108,6 +143,9 @@ impl<S: Subject> Group<S> {
     /// One random call. Blocks arrive late, early, repeated, damaged, or not at all for a while.
     pub fn random_call(&mut self, random: &mut Random) {
         let n = self.replicas;
+        if self.style.notices > 0 && random.below(100) < self.style.notices {
+            return self.random_notice(random);
+        }
         if random.below(200) == 0 {
             self.withheld = random.below(3 * n);
         }
@@ -132,14 +170,19 @@ impl<S: Subject> Group<S> {
             },
             _ => Call::Work,
         };
+        if self.is_closed(k) || !self.hears_first(k, &call) {
+            return;
+        }
         // A refused call answers, and no more; an answer is checked by the tests.
         let _ = self.call(k, &call);
     }
 
-    /// A replica that is at a slot of its own.
+    /// A replica that is at a slot of its own, which is not out there.
     pub fn sender(&self) -> Option<usize> {
         let n = self.replicas;
-        (0..n).find(|&k| self.tallies[k].report.turn as usize % n == k)
+        let at_own = |k: usize| self.tallies[k].report.turn as usize % n == k;
+        let sends = |k: usize| !self.is_closed(k) && !self.tallies[k].is_out(n as u32);
+        (0..n).find(|&k| at_own(k) && sends(k))
     }
 
     /// A block that was handed out, or bytes that no replica may take; `None` before any send.
@@ -149,11 +192,12 @@ impl<S: Subject> Group<S> {
         let first = *self.blocks.keys().next()?;
         // Of what a station lacks it is offered some beyond its places too.
         let near = self.blocks.range(turn..).take(2 * n).count();
-        let slot = match random.below(10) {
-            1.. if near > 0 => turn + random.below(near) as u32,
-            _ => first + random.below(self.blocks.len()) as u32,
+        // Out slots have no block.
+        let (from, nth) = match random.below(10) {
+            1.. if near > 0 => (turn, random.below(near)),
+            _ => (first, random.below(self.blocks.len())),
         };
-        let mut block = **self.blocks.get(&slot)?;
+        let mut block = **self.blocks.range(from..).nth(nth)?.1;
         match random.below(50) {
             0 => damage(random, &mut block),
             1 => {
@@ -182,25 +226,55 @@ impl<S: Subject> Group<S> {
         Some(block.to_vec())
     }
 
-    /// Lets every replica send, gives all blocks to all, and works them off, `rounds` times; then
-    /// once more without sending, so that all end at the same turn, the stations too.
+    /// Lets every replica that is not closed send, gives all blocks to all of them, and works them off,
+    /// `rounds` times; then without sending, so that all end at the same turn, the stations too.
     pub fn settle(&mut self, rounds: usize) {
-        for round in 0..=rounds {
-            for _ in 0..self.replicas {
-                for k in 0..self.replicas {
-                    if round < rounds {
-                        let _ = self.call(k, &Call::Send);
-                    }
-                    let turn = self.tallies[k].report.turn;
-                    let blocks = self.blocks.range(turn..).map(|(_, block)| block.to_vec());
-                    for bytes in blocks.collect::<Vec<_>>() {
-                        let _ = self.call(k, &Call::Deliver { bytes });
-                    }
-                    while self.call(k, &Call::Work).is_ok() {}
-                }
+        for _ in 0..rounds * self.replicas {
+            self.round(true);
+        }
+        // One that was closed for long takes more than one round.
+        while self.round(false) {}
+        self.settle_stations();
+    }
+
+    /// Every replica that is not closed, one after the other, takes the notices that it can, sends if it is
+    /// to, is given all blocks and works them off. It gives whether a turn moved.
+    pub fn round(&mut self, sends: bool) -> bool {
+        let turns = |group: &Group<S>| -> Vec<u32> {
+            group.tallies.iter().map(|t| t.report.turn).collect()
+        };
+        let before = turns(self);
+        for k in self.open_replicas() {
+            self.take_all(k);
+            if sends {
+                let _ = self.call(k, &Call::Send);
+            }
+            self.hand(k, usize::MAX);
+            self.work_off(k);
+        }
+        turns(self) != before
+    }
+
+    /// Delivers to a member the first so many blocks from its turn on.
+    fn hand(&mut self, k: usize, most: usize) {
+        let turn = self.tallies[k].report.turn;
+        let blocks = self.blocks.range(turn..).take(most);
+        for bytes in blocks.map(|(_, block)| block.to_vec()).collect::<Vec<_>>() {
+            let call = Call::Deliver { bytes };
+            if self.hears_first(k, &call) {
+                let _ = self.call(k, &call);
             }
         }
-        self.settle_stations();
+    }
+
+    /// Works until nothing waits, or for long: where all slots are out, nothing need wait.
+    fn work_off(&mut self, k: usize) {
+        for _ in 0..WORKS {
+            self.take_due(k);
+            if self.call(k, &Call::Work).is_err() {
+                return;
+            }
+        }
     }
 
     /// What the observer objects to.

@@ -4,6 +4,7 @@
 use std::collections::BTreeMap;
 
 use crate::block::{self, BLOCK};
+use crate::notice::{self, Notice};
 use crate::replica::{Restarted, SLOTS};
 use crate::trace::{Answer, Call, Restart};
 
@@ -17,6 +18,36 @@ pub fn blocks(n: u32, journal: &[u8]) -> impl Iterator<Item = &[u8; BLOCK]> {
     };
     let taken = whole.iter().enumerate().take_while(next);
     taken.map(|(_, block)| block)
+}
+
+/// Whether a call lets a cut lose nothing of what is appended by now: a block was handed out, a notice
+/// taken, or a slot passed that is `out` (document 02, Req 10).
+pub fn fixes(call: &Call, answer: &Result<Answer, u8>, out: bool) -> bool {
+    match (call, answer) {
+        (_, Ok(Answer::Block(_))) | (Call::Notice(_), Ok(_)) => true,
+        (_, Ok(Answer::Work(_))) => out,
+        _ => false,
+    }
+}
+
+/// The bytes that a cut leaves at least after an accepted restart, if before it they were `floor`. A
+/// block given back counts as handed out; and a slot that is out and behind the restart is passed, also
+/// where the work on it was ended by the cut.
+pub fn floor_after(floor: usize, restart: &Restart, answer: &Restarted) -> usize {
+    let count = blocks(restart.n, &restart.journal).count();
+    if answer.gave_back() {
+        return BLOCK * count;
+    }
+    // Below the floor it is lent by no cut.
+    let floor = floor.min(BLOCK * count);
+    floor.max(out_end(restart.n, count, &restart.notices))
+}
+
+/// The bytes of a journal of so many blocks up to the last one of an out slot, and with it.
+fn out_end(n: u32, count: usize, notices: &[Notice]) -> usize {
+    let mut slots = (0..count).rev();
+    let last = slots.find(|&slot| notice::puts_out(notices, n, slot as u32));
+    last.map_or(0, |slot| BLOCK * (slot + 1))
 }
 
 /// The journal of one replica by a list of calls: what the calls and their answers say that was
@@ -54,7 +85,8 @@ impl Journal {
     }
 
     /// The bytes that a cut leaves at least: those that were there when the last own block was handed
-    /// out, be it by a send or by a restart.
+    /// out, be it by a send or by a restart, when the last notice was taken, and when the last out slot
+    /// was passed.
     pub fn floor(&self) -> usize {
         self.floor
     }
@@ -73,12 +105,12 @@ impl Journal {
         (leaves && !self.is_own(block)).then_some(block)
     }
 
-    /// Takes in one call and its answer.
-    pub fn feed(&mut self, call: &Call, answer: &Result<Answer, u8>) {
+    /// Takes in one call and its answer. `out` is the *next* of the turn's slot, where the notices taken
+    /// put that out.
+    pub fn feed(&mut self, call: &Call, answer: &Result<Answer, u8>, out: Option<&[u8; BLOCK]>) {
         match (call, answer) {
             (_, Ok(Answer::Block(block))) => {
                 self.bytes.extend_from_slice(&**block);
-                self.floor = self.bytes.len();
                 self.sent = true;
             }
             (Call::Deliver { bytes }, Ok(_)) => {
@@ -87,9 +119,16 @@ impl Journal {
                     self.waiting.insert(slot, Box::new(block));
                 }
             }
-            (_, Ok(Answer::Work(work))) if work.moved => self.leave(),
+            (_, Ok(Answer::Work(work))) if work.moved => match out {
+                // No block waits for it, and an own one was not sent.
+                Some(next) => self.bytes.extend_from_slice(next),
+                None => self.leave(),
+            },
             (_, Ok(Answer::Work(_))) => self.done += 1,
             _ => {}
+        }
+        if fixes(call, answer, out.is_some()) {
+            self.floor = self.bytes.len();
         }
     }
 
@@ -100,9 +139,7 @@ impl Journal {
         };
         let whole = blocks(restart.n, &restart.journal);
         self.bytes = whole.flatten().copied().collect();
-        if answer.gave_back() {
-            self.floor = self.bytes.len();
-        }
+        self.floor = floor_after(self.floor, restart, answer);
         self.waiting.clear();
         self.done = 0;
         self.sent = false;

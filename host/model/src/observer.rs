@@ -1,11 +1,13 @@
 //! An observer of a whole group: document 01's sheet ("The sheet beside the group"), with the restarts
-//! of document 02, Req 01, and the stations of Req 05. The loads of Req 02 change nothing on it.
+//! of document 02, Req 01, and the stations of Req 05. The loads of Req 02 and the notices of Req 10
+//! change nothing on it; of the notices taken the premise speaks.
 //!
 //! It is fed member, call and answer of each call and nothing else, a member being a replica or a
 //! station, and says which sentences of document 01's demand 3 the group breaks, and which answers a
 //! station may not give. For tests: its memory and the time of a check grow with the list of calls.
 
 mod check;
+mod notices;
 mod restart;
 mod stations;
 
@@ -16,6 +18,8 @@ use crate::journal::Journal;
 use crate::refusal::STALE;
 use crate::replica::{Work, ITEMS};
 use crate::trace::{Answer, Call};
+
+use self::notices::Standing;
 
 /// What the calls of a group of replicas said so far.
 pub struct Observer {
@@ -37,6 +41,10 @@ pub struct Observer {
     blocks: HashSet<Box<[u8]>>,
     /// Per replica what was appended on its disk.
     journals: Vec<Journal>,
+    /// Per member its turn, and the notices that it took.
+    standings: Vec<Standing>,
+    /// The turn that every member began at.
+    first: u32,
     premise: bool,
     /// The sentences that a call broke when it was made.
     broken: Vec<String>,
@@ -79,6 +87,8 @@ impl Observer {
             reads: Vec::new(),
             blocks: HashSet::new(),
             journals: (0..replicas as u32).map(Journal::new).collect(),
+            standings: vec![Standing::default(); replicas],
+            first: 0,
             premise: true,
             broken: Vec::new(),
         }
@@ -95,7 +105,8 @@ impl Observer {
                 return;
             }
         } else {
-            self.journals[member].feed(call, answer);
+            let out = self.out_next(member);
+            self.journals[member].feed(call, answer, out.as_ref());
         }
         let answer = match answer {
             Ok(answer) => answer,
@@ -136,9 +147,15 @@ impl Observer {
                 }
             }
             (Call::Send, Answer::Block(block)) => self.feed_block(member, block),
-            (Call::Work, Answer::Work(work)) => self.feed_work(member, work),
+            (Call::Work, Answer::Work(work)) => {
+                self.standings[member].turn += u32::from(work.moved);
+                self.feed_work(member, work);
+            }
             (Call::Deliver { bytes }, Answer::Done) => {
                 self.premise &= self.blocks.contains(bytes.as_slice());
+            }
+            (&Call::Notice(notice), Answer::Done) => {
+                self.standings[member].notices.push(notice);
             }
             (Call::Withdraw { .. } | Call::Load { .. }, Answer::Done)
             | (Call::Report, Answer::Report(_)) => {}
@@ -146,10 +163,10 @@ impl Observer {
         }
     }
 
-    /// Whether every accepted block was handed out before, and every restart was lent what a cut can
-    /// leave: what demand 3 rests on.
+    /// Whether every accepted block was handed out before, every restart was lent what a cut can leave,
+    /// and the notices taken are by now as document 02's Req 10 asks: what demand 3 rests on.
     pub fn premise(&self) -> bool {
-        self.premise
+        self.premise && self.one_list().is_ok()
     }
 
     fn feed_refused(&mut self, replica: usize, call: &Call, number: u8) {

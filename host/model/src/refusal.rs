@@ -1,9 +1,9 @@
-//! The numbers that refuse a call: document 01's table ("Answers when a call is turned away"), and 23
-//! and 25 of document 02.
+//! The numbers that refuse a call: document 01's table ("Answers when a call is turned away"), and 23,
+//! 25, 28 and 29 of document 02. Those of [`crate::week`] are there.
 
 pub use crate::block::{WRONG_CHECK, WRONG_FORM, WRONG_LENGTH};
 
-/// N, own number, item or class out of range.
+/// N, own number, item, class, or a notice's replica or slot out of range.
 pub const OUT_OF_RANGE: u8 = 2;
 /// No open transaction has this ticket.
 pub const NOT_OPEN: u8 = 3;
@@ -45,3 +45,8 @@ pub const NOTHING_WAITS: u8 = 21;
 pub const LOAD_WHILE_APPLYING: u8 = 23;
 /// A station only reads: it does not write or send.
 pub const STATION_ONLY_READS: u8 = 25;
+/// A notice that comes too late, or does not follow on those about its replica, or puts a slot out for
+/// which a block of it is here.
+pub const NOTICE_REFUSED: u8 = 28;
+/// The slot is out: nothing is sent or delivered for it.
+pub const SLOT_OUT: u8 = 29;

@@ -22,11 +22,16 @@
 //! | `Y k n own v hex` | restart from these bytes as journal, all 128 values v | as `Z` |
 //! | `J k i` | block i, from 0, of the journal | `0` and the block |
 //! | `P k hex` | load: these bytes as the classes of the items | `0` |
+//! | `O k r s` | the notice Out r from s | `0` |
+//! | `U k r s` | the notice Back r at s | `0` |
 //!
 //! The journal of a place holds what was appended there: by `S` its block, by `K` that of another
-//! whose slot it left; after an accepted `M` it is empty, after an accepted `Z` or `Y` it is the c
+//! whose slot it left, or the *next* of a slot that it passed as out; after an accepted `M` it is empty, after an accepted `Z` or `Y` it is the c
 //! blocks. It has room for 128 blocks. One more is not kept, and the journal is *outgrown* then until
 //! the next accepted `M` or `Y`.
+//!
+//! `Z` is lent the notices (document 02, Req 10) that were taken at the place, in order, of which 32 are
+//! kept; `Y` is lent none.
 //!
 //! A station (document 02, Req 05) has no number of its own, and no journal: `W` and `S` are refused
 //! there by 25, whatever their numbers are.
@@ -38,8 +43,8 @@
 //!   line ends at a line feed and nowhere else, so a tab or a carriage return is part of a field.
 //!   A last line without line feed counts; an empty rest behind the last line feed does not.
 //! - A number that is not written as it would be printed: with a plus sign, a zero in front, `-0`,
-//!   or out of range. k is 0 to 7, b of `F` 0 to 4095; n, own, tickets, items, b of `Z` and i are any
-//!   32-bit unsigned numbers, v any 32-bit signed one.
+//!   or out of range. k is 0 to 7, b of `F` 0 to 4095; n, own, tickets, items, b of `Z`, i, r and s
+//!   are any 32-bit unsigned numbers, v any 32-bit signed one.
 //! - Bytes that are not lowercase, not whole, or more than 520, in `Y` more than 2,100, in `P` more than
 //!   130. None are written as an empty field: the line ends in the space.
 //! - A call other than `M`, `A` and `Y` at a place where nothing is made. A refused one of these makes
@@ -48,9 +53,10 @@
 //!   whatever place, and the blocks of the last 64 are kept, also when their replica is made anew.
 //!   Blocks that a restart gives back are not counted.
 //! - `Z` of more bytes than the journal has, `J` of a block that it has not, and both where it is
-//!   outgrown.
+//!   outgrown; `Z` where more than 32 notices were taken since the last accepted `M` or `Y`.
 //! - `Z`, `J` and `P` at a station.
 
+mod lines;
 pub(crate) mod parse;
 mod place;
 
@@ -60,10 +66,12 @@ use std::io::{self, BufRead, Write};
 use self::parse::Line;
 use self::place::Place;
 use crate::block::BLOCK;
+use crate::notice::Notice;
 use crate::replica::Replica;
 use crate::trace::{Answer, Call};
 
-pub use self::place::JOURNAL;
+pub use self::lines::line;
+pub use self::place::{JOURNAL, NOTICES};
 
 /// The places for replicas and stations.
 pub const PLACES: usize = 8;
@@ -141,15 +149,16 @@ impl Replay {
             Line::Cut { bytes, value } => {
                 let made = self.places[place].as_ref()?;
                 let journal = made.journal()?.get(..bytes as usize)?.to_vec();
+                let notices = made.notices()?.to_vec();
                 let (n, own) = (made.replica.inbox.len() as u32, made.replica.own?.into());
-                return Some(self.restart(place, n, own, value, journal));
+                return Some(self.restart(place, (n, own), value, journal, &notices));
             }
             Line::Restart {
                 n,
                 own,
                 value,
                 journal,
-            } => return Some(self.restart(place, n, own, value, journal)),
+            } => return Some(self.restart(place, (n, own), value, journal, &[])),
             Line::Journal { i } => {
                 let block = self.places[place].as_ref()?.block(i as usize)?;
                 return Some(Ok(accepted(&[hex(block)])));
@@ -185,16 +194,17 @@ impl Replay {
         Ok(accepted::<u32>(&[]))
     }
 
-    /// Puts a restarted replica at a place, and gives what that prints.
+    /// Puts a restarted replica, by its group's size and its number, at a place, and gives what that
+    /// prints.
     fn restart(
         &mut self,
         place: usize,
-        n: u32,
-        own: u32,
+        number: (u32, u32),
         value: i32,
         journal: Vec<u8>,
+        notices: &[Notice],
     ) -> Result<String, u8> {
-        let (made, count, block) = Place::restart(n, own, value, journal)?;
+        let (made, count, block) = Place::restart(number, value, journal, notices)?;
         self.places[place] = Some(made);
         Ok(accepted(&[count.to_string(), hex(&block)]))
     }

@@ -1,6 +1,6 @@
-//! A replica and its calls: [`Replica::make`], [`Replica::restart`] from a journal, and the ten that
-//! a made replica takes, the client's in `client`, those that move the turn in `turn`, and the load of
-//! conflict classes in `classes`.
+//! A replica and its calls: [`Replica::make`], [`Replica::restart`] from a journal, and the eleven that
+//! a made replica takes, the client's in `client`, those that move the turn in `turn`, the load of
+//! conflict classes in `classes`, and the notices of a membership service in `notices`.
 //!
 //! A [`Replica::station`] (document 02, Req 05) takes the same calls without a number of its own, so
 //! that every sender is another to it: write and send are refused there before all else, and it is
@@ -12,12 +12,14 @@
 
 mod classes;
 mod client;
+mod notices;
 mod restart;
 mod turn;
 
 use std::collections::BTreeMap;
 
 use crate::block::{Message, BLOCK, MAX_SLOT, RECORDS};
+use crate::notice::Notice;
 use crate::refusal::{OUT_OF_RANGE, WRONG_LENGTH};
 
 pub use self::restart::Restarted;
@@ -50,6 +52,8 @@ pub struct Replica {
     pub outbox: Option<[u8; BLOCK]>,
     /// The messages that wait, that of slot s at index s mod N (document 01's places).
     pub inbox: Vec<Option<Message>>,
+    /// The notices taken, in order. None is ever forgotten.
+    pub notices: Vec<Notice>,
     /// The writesets of the turn's message that are committed.
     pub done: usize,
     /// Whether a message of another replica is committed in part (document 01's applying mark).
@@ -120,9 +124,9 @@ pub struct Report {
 /// What one [`Replica::work`] did.
 #[derive(Clone, Debug, PartialEq, Eq)]
 pub struct Work {
-    /// The replica whose message stands at the turn.
+    /// The replica whose message stands at the turn, or whose slot that is where it is out.
     pub sender: u8,
-    /// The ticket of the writeset committed, 0 for a message without records.
+    /// The ticket of the writeset committed, 0 for a message without records and for an out slot.
     pub ticket: u32,
     /// Whether the turn went up.
     pub moved: bool,
@@ -156,6 +160,7 @@ impl Replica {
             turn: 0,
             outbox: None,
             inbox: vec![None; n as usize],
+            notices: Vec::new(),
             done: 0,
             applying: false,
             open: Vec::with_capacity(OPEN),

@@ -4,6 +4,7 @@ use crate::block::{
     self, Entry, Message, Record, BLOCK, ENTRIES, MAX_ITEM, MAX_SLOT, MAX_TICKET, NEXT, RECORDS,
     TO_COMMIT,
 };
+use crate::notice::{self, Kind, Notice};
 use crate::replica::{CLASSES, ITEMS};
 
 /// A small deterministic generator (splitmix64): the same seed gives the same numbers on every
@@ -212,6 +213,38 @@ pub fn classes(random: &mut Random) -> Vec<u8> {
         table.resize(length, 1);
     }
     table
+}
+
+/// A notice for a member of a group of `n` at a turn, by those that it took: most often one that follows
+/// on the last about its replica, of a slot near the turn.
+pub fn notice(random: &mut Random, n: u32, turn: u32, taken: &[Notice]) -> Notice {
+    let any = random.below(n as usize) as u32;
+    let about = match random.below(20) {
+        0 => random.pick(&[n, n + 1, 6, 255, 256 + any, u32::MAX]),
+        _ => any,
+    };
+    let last = notice::about(taken, about).next_back();
+    let is_out = last.is_some_and(|last| last.kind == Kind::Out);
+    let follows = random.below(6) > 0;
+    let behind = last.map_or(turn, |last| last.slot) + random.below(3) as u32;
+    let near = turn + random.below(2 * n as usize) as u32;
+    let slot = match random.below(30) {
+        0 => random.pick(&[
+            MAX_SLOT,
+            MAX_SLOT + 1,
+            MAX_SLOT + 1,
+            near + (1 << 27),
+            u32::MAX,
+        ]),
+        1..4 => turn.saturating_sub(1 + random.below(2) as u32),
+        4..10 => behind,
+        10..16 => turn,
+        _ => near,
+    };
+    match is_out == follows {
+        true => Notice::back(about, slot),
+        false => Notice::out(about, slot),
+    }
 }
 
 /// Changes one bit.

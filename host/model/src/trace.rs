@@ -1,6 +1,7 @@
 //! Calls and answers as values, for lists of calls that are recorded, compared or observed.
 
 use crate::block::BLOCK;
+use crate::notice::Notice;
 use crate::replica::{Replica, Report, Restarted, Work};
 
 /// A call at a replica that is made.
@@ -50,6 +51,8 @@ pub enum Call {
         /// Of any length.
         classes: Vec<u8>,
     },
+    /// Tells of a replica that is out, or back.
+    Notice(Notice),
 }
 
 /// What a restart is lent. The journal may have any length.
@@ -63,12 +66,14 @@ pub struct Restart {
     pub values: Vec<i32>,
     /// The journal's bytes.
     pub journal: Vec<u8>,
+    /// The notices taken, in order.
+    pub notices: Vec<Notice>,
 }
 
 /// The answer to an accepted call.
 #[derive(Clone, Debug, PartialEq, Eq)]
 pub enum Answer {
-    /// Write, withdraw, deliver, load: accepted, and no more.
+    /// Write, withdraw, deliver, load, notice: accepted, and no more.
     Done,
     /// Begin.
     Ticket(u32),
@@ -114,11 +119,15 @@ impl Replica {
                 self.load(classes)?;
                 Answer::Done
             }
+            Call::Notice(notice) => {
+                self.notice(notice)?;
+                Answer::Done
+            }
         })
     }
 
     /// Runs one call, and appends to a journal what is appended by it: by a send its block, by a work
-    /// that of another whose slot it leaves.
+    /// that of another whose slot it leaves, or the *next* of an out slot.
     pub fn call_journaled(&mut self, call: &Call, journal: &mut Vec<u8>) -> Result<Answer, u8> {
         if *call == Call::Work {
             let (work, left) = self.work_journaled()?;
@@ -136,7 +145,9 @@ impl Replica {
 impl Restart {
     /// Runs the restart, and puts its replica in the place of another. A refused one leaves that.
     pub fn run(&self, replica: &mut Replica) -> Result<Restarted, u8> {
-        let (new, restarted) = Replica::restart(self.n, self.own, &self.values, &self.journal)?;
+        let Restart { n, own, .. } = *self;
+        let (new, restarted) =
+            Replica::restart(n, own, &self.values, &self.journal, &self.notices)?;
         *replica = new;
         Ok(restarted)
     }

@@ -4,7 +4,9 @@
 mod cases;
 mod classes;
 mod malformed;
+mod notices;
 mod random;
+mod recorded;
 mod refusals;
 mod restarts;
 mod staleness;
@@ -18,15 +20,35 @@ use crate::replica::Replica;
 /// The list. Its last line has no line feed.
 pub fn calls() -> Vec<u8> {
     let mut list = List::default();
-    without_restarts(&mut list);
-    restarts::all(&mut list);
-    random::with_cuts(&mut list);
-    classes::all(&mut list);
-    random::with_tables(&mut list);
-    stations::all(&mut list);
-    random::with_stations(&mut list);
-    staleness::all(&mut list);
+    without_notices(&mut list);
+    notices::all(&mut list);
+    recorded::all(&mut list);
     list.lines()
+}
+
+/// The worked lists of document 02's Req 10 alone, as a list.
+pub fn worked_notices() -> Vec<u8> {
+    let mut list = List::default();
+    worked::play(&mut list, &notices::worked::LISTS);
+    list.lines()
+}
+
+/// The list up to the first notice.
+pub fn calls_without_notices() -> Vec<u8> {
+    let mut list = List::default();
+    without_notices(&mut list);
+    list.lines()
+}
+
+fn without_notices(list: &mut List) {
+    without_restarts(list);
+    restarts::all(list);
+    random::with_cuts(list);
+    classes::all(list);
+    random::with_tables(list);
+    stations::all(list);
+    random::with_stations(list);
+    staleness::all(list);
 }
 
 /// The list up to the first restart.

@@ -75,6 +75,15 @@ fn stored_sends() {
     }
 }
 
+/// The worked lists of document 02's Req 10. What each line must print is in the list itself
+/// (`workload::notices`).
+#[test]
+fn stored_notices() {
+    let input = workload::worked_notices();
+    check("examples/notices.calls", &input);
+    check("examples/notices.out", &output(&input));
+}
+
 /// What the answers of a list amount to.
 #[derive(Debug, Default)]
 struct Totals {
@@ -97,6 +106,8 @@ struct Totals {
     given_back: usize,
     /// Stations made.
     stations: usize,
+    /// Notices taken.
+    notices: usize,
 }
 
 fn totals(input: &[u8], output: &[u8]) -> Totals {
@@ -134,6 +145,7 @@ fn totals(input: &[u8], output: &[u8]) -> Totals {
                 }
                 totals.given_back += usize::from(!answer[2].starts_with("00"));
             }
+            "O" | "U" => totals.notices += 1,
             "S" => totals.sent += usize::from_str_radix(&answer[1][6..8], 16).unwrap(),
             "K" => {
                 totals.committed += usize::from(answer[2] != "0");
@@ -158,18 +170,28 @@ fn totals_of_the_list() {
         lines(&output),
         "one answer for each line"
     );
-    assert!(input.starts_with(&workload::calls_without_restarts()));
+    let before = workload::calls_without_notices();
+    assert!(before.starts_with(&workload::calls_without_restarts()) && input.starts_with(&before));
+    let notice = |line: &[u8]| line.starts_with(b"O ") || line.starts_with(b"U ");
+    assert!(!before.split(|&byte| byte == b'\n').any(notice));
 
     let totals = totals(&input, &output);
     println!("{totals:?}");
     assert!(totals.calls >= 20_000, "{totals:?}");
     assert!(totals.rejected > 300, "{totals:?}");
-    // Slots are not spent in a list of this length, and there is no 22 and no 24.
-    let due: Vec<u32> = (1..26).filter(|n| ![13, 22, 24].contains(n)).collect();
+    // Slots are not spent in a list of this length, and there is no 22 and no 24; 26 and 27 are of weeks.
+    let due: Vec<u32> = (1..30)
+        .filter(|n| ![13, 22, 24, 26, 27].contains(n))
+        .collect();
     assert!(totals.refused.keys().eq(&due), "{totals:?}");
     assert!(totals.cuts > 200 && totals.restarts > 80, "{totals:?}");
     assert!(totals.given_back > 150, "{totals:?}");
     assert!(totals.stations > 20, "{totals:?}");
+    assert!(totals.notices > 300, "{totals:?}");
+    assert!(
+        totals.refused[&28] > 200 && totals.refused[&29] > 50,
+        "{totals:?}"
+    );
     assert!(totals.refused[&25] > 50, "{totals:?}");
     assert!(totals.own > 1_000, "{totals:?}");
     assert!(

@@ -5,9 +5,13 @@ mod station;
 
 use model::block::{self, BLOCK};
 use model::drive::{Powered, Subject};
+use model::journal;
+use model::notice::{self, Kind};
 use model::replica::{self as second, Restarted, Stage, ITEMS};
 use model::trace::{Answer, Call, Restart};
-use stemline::{Asked, Memory, Refusal, Replica, Report, Station, Work, NO_NUMBER};
+use stemline::{
+    Asked, Memory, Notice, Refusal, Replica, Report, Station, Work, NO_NUMBER, REPLICAS, SLOTS,
+};
 
 pub use self::station::stepped;
 use crate::lines::Named;
@@ -80,7 +84,8 @@ impl Subject for Both {
         self.before.clone_from(self.library.memory());
         let _named = Named::of(&self.model, call);
         let (is_turn, waits) = (self.library.is_turn(), self.library.waits());
-        let waiting = self.model.waiting();
+        let out = self.model.out_next();
+        let waiting = out.or(self.model.waiting());
         let (mut appended, mut due_appended) = (Vec::new(), Vec::new());
         let answer = play(&mut self.library, call, &mut appended);
         let due = self.model.call_journaled(call, &mut due_appended);
@@ -95,7 +100,7 @@ impl Subject for Both {
         }
         assert!(appended == due_appended, "{call:?}: what is appended");
         self.disk.append(&mut appended);
-        if let Ok(Answer::Block(_)) = answer {
+        if journal::fixes(call, &answer, out.is_some()) {
             self.floor = self.disk.len();
         }
         same(&self.model, self.library.memory());
@@ -134,27 +139,38 @@ impl Powered for Both {
         same(&self.model, self.library.memory());
         if let Ok(restarted) = &answer {
             self.disk = restart.journal[..BLOCK * restarted.count as usize].to_vec();
-            // Without an own block none was handed out.
-            self.floor = if restarted.gave_back() {
-                self.disk.len()
-            } else {
-                0
-            };
+            self.floor = journal::floor_after(self.floor, restart, restarted);
         }
         answer
+    }
+
+    fn ended(&mut self, call: &Call) {
+        let floor = self.floor;
+        let _ = self.call(call);
+        self.floor = floor;
     }
 }
 
 /// A restart by the library, its answer as the model's. A refused one leaves the replica.
 pub fn restarted(replica: &mut Replica, restart: &Restart) -> Result<Restarted, u8> {
     let values = restart.values[..].try_into().expect("128 values");
-    let given = Replica::restart(restart.n, restart.own, values, &restart.journal);
+    let notices: Vec<Notice> = restart.notices.iter().map(told).collect();
+    let given = Replica::restart(restart.n, restart.own, values, &restart.journal, &notices);
     let (new, restarted) = given.map_err(Refusal::number)?;
     *replica = new;
     Ok(Restarted {
         count: restarted.blocks,
         block: Box::new(restarted.last.unwrap_or([0; BLOCK])),
     })
+}
+
+/// A notice of the model, as the library has it.
+pub fn told(notice: &notice::Notice) -> Notice {
+    let (replica, slot) = (notice.about, notice.slot);
+    match notice.kind {
+        Kind::Out => Notice::Out { replica, slot },
+        Kind::Back => Notice::Back { replica, slot },
+    }
 }
 
 /// A report, as the model gives it.
@@ -200,8 +216,21 @@ macro_rules! played {
                 Answer::Work(worked(&work))
             }),
             Call::Load { ref classes } => $replica.load(classes).map(|()| Answer::Done),
+            Call::Notice(notice) => $crate::noticed!($replica, notice),
         };
         played.map_err(Refusal::number)
+    }};
+}
+
+/// A notice at a replica, or at what takes them.
+#[macro_export]
+macro_rules! noticed {
+    ($replica:expr, $notice:expr) => {{
+        let taken = match $crate::both::told(&$notice) {
+            stemline::Notice::Out { replica, slot } => $replica.out(replica, slot),
+            stemline::Notice::Back { replica, slot } => $replica.back(replica, slot),
+        };
+        taken.map(|()| Answer::Done)
     }};
 }
 
@@ -263,10 +292,24 @@ pub fn same(model: &second::Replica, memory: &Memory) {
         assert!(memory.outbox == *sent, "outbox");
     }
     let (queued, behind) = memory.queue.split_at(model.queue.len());
+    assert_eq!((group.from, group.until), outages(model));
     assert_eq!(queued, model.queue);
     assert!(behind.iter().all(|&ticket| ticket == 0), "behind the queue");
     same_rows(model, memory);
     same_places(model, memory);
+}
+
+/// The last outage of each replica: what the model's notices put out from the turn on.
+fn outages(model: &second::Replica) -> ([u32; REPLICAS], [u32; REPLICAS]) {
+    let (mut from, mut until) = ([0; REPLICAS], [0; REPLICAS]);
+    for notice in &model.notices {
+        let k = notice.about as usize;
+        match notice.kind {
+            Kind::Out => (from[k], until[k]) = (notice.slot, SLOTS),
+            Kind::Back => until[k] = notice.slot,
+        }
+    }
+    (from, until)
 }
 
 /// The rows that are not free, rising by ticket, are the open transactions.

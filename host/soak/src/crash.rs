@@ -7,11 +7,14 @@
 //! call of the list. The power stays on; so that blocks are lost that were not durable, the journals are
 //! cut between the runs, at any byte that a cut can leave.
 //!
-//! A station that nobody kills is fed between the runs from what of a journal is durable, and is where the
-//! group is at the end.
+//! A membership service says now and then that a replica is out, and later that it is back.
+//!
+//! A station that nobody kills is fed between the runs from what of a journal is durable, takes the notices too,
+//! and is where the group is at the end.
 
 mod log;
 pub mod program;
+mod service;
 
 use std::fs::{self, File, OpenOptions};
 use std::path::{Path, PathBuf};
@@ -21,13 +24,14 @@ use std::time::Duration;
 
 use model::block::{self, BLOCK};
 use model::drive::start_values;
+use model::notice::{self, Notice};
 use model::samples::Random;
 use model::trace::{Answer, Call};
 use stemline::{Durable, Station, HEAD};
 
 pub use self::log::{Log, Met};
 use crate::both::report;
-use crate::studio;
+use crate::{noticed, studio};
 
 /// Replicas of the group.
 const N: usize = 3;
@@ -42,6 +46,8 @@ pub struct Crash {
     room: PathBuf,
     random: Random,
     station: Station,
+    /// The notices that the station has taken.
+    heard: Vec<Notice>,
     /// What the killed program did.
     pub log: Log,
 }
@@ -55,6 +61,7 @@ impl Crash {
             room: room.to_path_buf(),
             random: Random::new(seed),
             station: Station::new(N as u32, &start_values()).unwrap(),
+            heard: Vec::new(),
             log: Log::new(room, start_values()),
         }
     }
@@ -72,7 +79,36 @@ impl Crash {
         let k = self.random.below(N);
         let bytes = studio::lent(&journal(&self.room, k));
         let durable = self.log.observer.journal(k).floor();
-        feed(&mut self.station, &bytes[..durable]);
+        self.feed(&bytes[..durable]);
+    }
+
+    /// Gives the station the blocks of a journal from its turn on, and what was said. Of slots that are out it
+    /// needs none.
+    fn feed(&mut self, journal: &[u8]) {
+        let said = service::said(&self.room);
+        let (blocks, _) = journal.as_chunks::<BLOCK>();
+        loop {
+            let turn = self.station.report().turn;
+            while let Some(notice) = service::due(&said, &self.heard, turn) {
+                let taken: Result<Answer, _> = noticed!(self.station, notice);
+                assert!(
+                    taken.is_ok(),
+                    "the station is stranded at turn {turn}: {notice}"
+                );
+                self.heard.push(notice);
+            }
+            let Some(block) = blocks.get(turn as usize) else {
+                return;
+            };
+            match notice::puts_out(&self.heard, N as u32, turn) {
+                true => drop(self.station.work().expect("a slot that is out")),
+                // Step by step: a take would go on through slots that are out, and past a notice.
+                false => {
+                    self.station.deliver(block).expect("a block of its turn");
+                    while !self.station.work().expect("that block").moved {}
+                }
+            }
+        }
     }
 
     /// Lets the program run for a while, often a short one, and kills it.
@@ -115,12 +151,12 @@ impl Crash {
         self.log.before_start();
         let opened = (0..N).map(|k| studio::open(&journal(&self.room, k), N as u32, k as u32));
         let (mut group, restarted): (Vec<_>, Vec<_>) = opened.unzip();
-        let mut last: Vec<[u8; BLOCK]> = restarted.iter().map(|r| *r.block).collect();
         for (k, restarted) in restarted.into_iter().enumerate() {
             self.log.restarted(k, None, restarted);
         }
-        settle(&mut self.log, &mut group, &mut last);
-        feed(&mut self.station, &studio::lent(&journal(&self.room, 0)));
+        let said = service::said(&self.room);
+        settle(&mut self.log, &said, &mut group);
+        self.feed(&studio::lent(&journal(&self.room, 0)));
         self.check(&group);
         fs::remove_dir_all(&self.room).unwrap();
         Met {
@@ -135,6 +171,7 @@ impl Crash {
         let end = |durable: &Durable| (report(durable.report()), *durable.values());
         let ends: Vec<_> = group.iter().map(end).collect();
         assert_eq!(log.observer.violations(&ends), [""; 0]);
+        assert_eq!(log.observer.one_list(), Ok(()));
         assert!(log.observer.premise());
         let station = (self.station.report().turn, self.station.values());
         assert_eq!(station, (ends[0].0.turn, &ends[0].1), "the station");
@@ -151,40 +188,41 @@ impl Crash {
     }
 }
 
-/// Gives a station the blocks of a journal from its turn on.
-fn feed(station: &mut Station, journal: &[u8]) {
-    let (blocks, _) = journal.as_chunks::<BLOCK>();
-    while let Some(block) = blocks.get(station.report().turn as usize) {
-        station.take(block).expect("a block of its turn");
+/// Works until nothing waits, with what was said before each.
+fn work_off(log: &mut Log, said: &[Notice], k: usize, durable: &mut Durable) {
+    while log.call(k, durable, &Call::Work).is_ok() {
+        log.hear(said, k, durable);
     }
 }
 
-/// Hands out the last block of each and lets all send, until each has sent twice and all are at one turn.
-fn settle(log: &mut Log, group: &mut [Durable], last: &mut [[u8; BLOCK]]) {
+/// Lets all take what was said and send, and hands out all blocks, until two rounds are over and all are at one
+/// turn. One that is out, or was, may be far behind: nobody waited for it.
+fn settle(log: &mut Log, said: &[Notice], group: &mut [Durable]) {
     let turn = |durable: &Durable| durable.report().turn;
     let end = group.iter().map(turn).max().unwrap() + 2 * N as u32;
-    let rests = |group: &[Durable]| group.iter().all(|durable| turn(durable) == end);
-    // A turn is less than n behind another's, and a round moves each by one at least.
-    for _ in 0..4 * N {
-        if rests(group) {
-            return;
-        }
-        for k in 0..N {
-            if turn(&group[k]) < end {
-                if let Ok(Answer::Block(block)) = log.call(k, &mut group[k], &Call::Send) {
-                    last[k] = *block;
-                }
+    // Slots that are out are passed behind the end too, by all.
+    let rests = |group: &[Durable]| {
+        let first = turn(&group[0]);
+        first >= end && group.iter().all(|durable| turn(durable) == first)
+    };
+    let mut before = Vec::new();
+    while !rests(group) {
+        let turns: Vec<u32> = group.iter().map(turn).collect();
+        assert!(
+            turns != before,
+            "at the turns {turns:?}, and not at {end}: a block is lost"
+        );
+        for (k, durable) in group.iter_mut().enumerate() {
+            log.hear(said, k, durable);
+            if turn(durable) < end {
+                let _ = log.call(k, durable, &Call::Send);
             }
-            for block in &*last {
-                let bytes = block.to_vec();
-                let _ = log.call(k, &mut group[k], &Call::Deliver { bytes });
+            for bytes in log.blocks_from(turn(durable)) {
+                let _ = log.call(k, durable, &Call::Deliver { bytes });
+                work_off(log, said, k, durable);
             }
-            while log.call(k, &mut group[k], &Call::Work).is_ok() {}
+            work_off(log, said, k, durable);
         }
+        before = turns;
     }
-    let turns: Vec<u32> = group.iter().map(turn).collect();
-    assert!(
-        rests(group),
-        "at the turns {turns:?}, and not at {end}: a block is lost"
-    );
 }

@@ -1,9 +1,12 @@
 //! Calls and answers as lines of text, in the format of `model/src/replay.rs`; and read from them.
 
 use model::block::BLOCK;
-use model::replay::{hex, show};
+use model::notice::Notice;
+use model::replay::show;
 use model::replica::{Replica, Report, Work};
 use model::trace::{Answer, Call};
+
+pub use model::replay::line;
 
 /// The place of a station.
 const STATION: usize = 7;
@@ -27,26 +30,6 @@ impl Drop for Named<'_> {
         if std::thread::panicking() {
             eprintln!("at the call {}", line(self.k, self.call));
         }
-    }
-}
-
-/// A call at a place.
-pub fn line(k: usize, call: &Call) -> String {
-    match call {
-        Call::Begin => format!("B {k}"),
-        Call::Read { ticket, item } => format!("R {k} {ticket} {item}"),
-        Call::Write {
-            ticket,
-            item,
-            value,
-        } => format!("W {k} {ticket} {item} {value}"),
-        Call::Ask { ticket } => format!("C {k} {ticket}"),
-        Call::Withdraw { ticket } => format!("X {k} {ticket}"),
-        Call::Report => format!("Q {k}"),
-        Call::Send => format!("S {k}"),
-        Call::Deliver { bytes } => format!("H {k} {}", hex(bytes)),
-        Call::Work => format!("K {k}"),
-        Call::Load { classes } => format!("P {k} {}", hex(classes)),
     }
 }
 
@@ -83,6 +66,8 @@ pub fn parse(line: &str, shown: &str) -> Option<(usize, Call, Result<Answer, u8>
         "P" => Call::Load {
             classes: bytes(fields.next()?)?,
         },
+        "O" => Call::Notice(Notice::out(number()?, number()?)),
+        "U" => Call::Notice(Notice::back(number()?, number()?)),
         _ => return None,
     };
     let answer = match shown.split_once(' ').unwrap_or((shown, "")) {
@@ -101,7 +86,7 @@ fn answer(call: &Call, rest: &str) -> Option<Answer> {
         Call::Ask { .. } => Answer::ReadOnly(rest == "1"),
         Call::Send => Answer::Block(block(rest)?),
         Call::Write { .. } | Call::Withdraw { .. } => Answer::Done,
-        Call::Deliver { .. } | Call::Load { .. } => Answer::Done,
+        Call::Deliver { .. } | Call::Load { .. } | Call::Notice(_) => Answer::Done,
         Call::Report => {
             let [turn, commits, tickets, open, committed, read_only, aborted, withdrawn] =
                 numbers?[..].try_into().ok()?;
@@ -181,7 +166,8 @@ fn back_and_forth() {
         let mut replica = Replica::make(3, 1, &start_values()).unwrap();
         let mut peers = Peers::new(3, 1, replica.report());
         for _ in 0..500 {
-            let call = peers.random_call(&mut random, STYLES[seed as usize % 4]);
+            let style = STYLES[seed as usize % 4].with_notices(10);
+            let call = peers.random_call(&mut random, style);
             let answer = replica.call(&call);
             peers.feed(&call, &answer);
             let read = parse(&line(1, &call), &shown(&answer));

@@ -51,22 +51,40 @@ fn with_power(seed: u64, n: u32, style: Style, late: Late) -> Seen {
     for _ in 0..CALLS {
         random_call(&mut group, n, late, &mut random);
     }
-    at_rest(&mut group, n)
+    at_rest(&mut group, &mut random)
 }
 
-/// Lets a group come to rest: demand 3 holds of the library's own answers, and no replica has refused a block
-/// of the group by 18.
-fn at_rest(group: &mut Group<Both>, n: u32) -> Seen {
+/// Lets a group come to rest, with some of the replicas that are closed: demand 3 holds of the library's own
+/// answers; nobody is stranded by a notice, and no ask waited too long. Without notices no replica has refused a
+/// block of the group by 18.
+fn at_rest(group: &mut Group<Both>, random: &mut Random) -> Seen {
+    for k in 0..group.members.len() {
+        if random.below(2) == 0 {
+            group.open(k);
+        }
+    }
     group.settle(2);
     assert_eq!(group.violations(), [""; 0]);
+    assert_eq!(group.observer.one_list(), Ok(()));
     assert!(group.observer.premise());
-    for k in (0..n as usize).chain(group.stations().to_vec()) {
-        let [one, first] = [k, 0].map(|k| &group.members[k]);
+    assert_eq!(group.stranded(), [""; 0]);
+    assert_eq!(group.waited_too_long(), [""; 0]);
+    let mut ends = group.open_replicas();
+    ends.extend(group.stations());
+    for &k in &ends {
+        let [one, first] = [k, ends[0]].map(|k| &group.members[k]);
         assert_eq!(one.report().turn, first.report().turn, "member {k}");
         assert_eq!(one.values(), first.values(), "member {k}");
     }
-    assert_eq!(group.seen.far_at_replicas, 0);
-    group.seen.clone()
+    let seen = &group.seen;
+    assert!(seen.far_at_replicas == 0 || seen.notices > 0);
+    seen.clone()
+}
+
+/// By seed; in half of the runs with notices.
+fn style(seed: u64) -> Style {
+    let notices = [8, 0][seed as usize / 2 % 2];
+    STYLES[seed as usize / 5 % 4].with_notices(notices)
 }
 
 /// One replica of `n` that takes forged blocks; in every third run a station.
@@ -94,14 +112,14 @@ fn single(seed: u64, n: u32, style: Style, late: Late) -> Seen {
 /// slot, where numbers 6 and 13 are met.
 pub fn run(seed: u64) -> Seen {
     let n = 2 + seed as u32 % 5;
-    let style = STYLES[seed as usize / 5 % 4];
+    let style = style(seed);
     let mut seen = match seed.is_multiple_of(2) {
         true => with_power(seed, n, style, (0, 0)),
         false => single(seed, n, style, (0, 0)),
     };
     // By 20, so that replicas and stations are among them.
     if seed.is_multiple_of(20) {
-        let style = Style::new(30, 40, 6);
+        let style = Style::new(30, 40, 6).with_notices(4);
         seen.add(&with_power(seed, n, style, (SLOTS - 60, MAX_TICKET - 80)));
         seen.add(&single(seed, n, style, (SLOTS - 60, MAX_TICKET - 60)));
     }
@@ -112,7 +130,7 @@ pub fn run(seed: u64) -> Seen {
 /// can leave.
 pub fn run_with_cuts(seed: u64) -> Seen {
     let n = 2 + seed as u32 % 5;
-    let mut group = group(seed, n, STYLES[seed as usize / 5 % 4], (0, 0));
+    let mut group = group(seed, n, style(seed), (0, 0));
     let mut random = Random::new(seed);
     for _ in 0..CALLS_WITH_CUTS {
         match random.below(60) {
@@ -120,7 +138,7 @@ pub fn run_with_cuts(seed: u64) -> Seen {
             _ => random_call(&mut group, n, (0, 0), &mut random),
         }
     }
-    let seen = at_rest(&mut group, n);
+    let seen = at_rest(&mut group, &mut random);
     for (k, member) in group.members.iter().enumerate() {
         assert_eq!(member.report(), group.tallies[k].report);
         let is_replica = k < n as usize;
@@ -133,9 +151,9 @@ pub fn run_with_cuts(seed: u64) -> Seen {
     seen
 }
 
-/// The refusal numbers: there is no 22 any more, and no 24.
-pub const NUMBERS: [usize; 23] = [
-    1, 2, 3, 4, 5, 6, 7, 8, 9, 10, 11, 12, 13, 14, 15, 16, 17, 18, 19, 20, 21, 23, 25,
+/// The refusal numbers: there is no 22 any more, and no 24; 26 and 27 are the program `week`'s.
+pub const NUMBERS: [usize; 25] = [
+    1, 2, 3, 4, 5, 6, 7, 8, 9, 10, 11, 12, 13, 14, 15, 16, 17, 18, 19, 20, 21, 23, 25, 28, 29,
 ];
 
 /// How often each refusal number came back, and how often stations refused by 18 what was handed out.
@@ -143,8 +161,10 @@ pub fn refused(seen: &Seen) -> String {
     let count = |number: usize| format!("{number}: {}", grouped(seen.refused[number]));
     let counts: Vec<String> = NUMBERS.into_iter().map(count).collect();
     let [far, again] = [seen.far_at_stations, seen.offered_again].map(grouped);
+    let [notices, passed] = [seen.notices, seen.passed_out].map(grouped);
     format!(
-        "{}; blocks of the group refused by 18 at stations: {far}, of which {again} were taken later",
+        "{}; blocks of the group refused by 18 at stations: {far}, of which {again} were taken later; notices taken: \
+         {notices}, slots passed as out: {passed}",
         counts.join("; ")
     )
 }

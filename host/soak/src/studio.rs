@@ -5,12 +5,14 @@ use std::path::{Path, PathBuf};
 
 use model::block::BLOCK;
 use model::drive::{start_values, Powered, Subject};
+use model::journal;
 use model::replica::{self as second, Report, Restarted, ITEMS};
 use model::trace::{Answer, Call, Restart};
-use stemline::{Asked, Block, Durable, Failure, Head, Replica, HEAD};
+use stemline::{notices_path, Asked, Block, Durable, Failure, Head, Notice, Replica, HEAD};
 
-use crate::both::{report, same, worked};
+use crate::both::{report, same, told, worked};
 use crate::lines::Named;
+use crate::noticed;
 
 /// Opens replica `own` of `n`, with the tests' values; the answer as the model's.
 pub fn open(path: &Path, n: u32, own: u32) -> (Durable, Restarted) {
@@ -38,7 +40,7 @@ pub fn lent(path: &Path) -> Vec<u8> {
         block.is_some_and(|block| block.is_ok_and(|block| block.slot() as usize == slot))
     };
     let mut copies = head.copies(front);
-    copies.sort_by_key(|copy| copy[0].slot());
+    copies.sort_by_key(|copy| copy.first().map(Block::slot));
     for block in copies.iter().flatten() {
         let slot = block.slot() as usize;
         if slot <= blocks.len() / BLOCK && !good(&blocks, slot) {
@@ -47,6 +49,20 @@ pub fn lent(path: &Path) -> Vec<u8> {
         }
     }
     blocks
+}
+
+/// The notices beside a file, as the model has them; none where there is no file, or no notice yet.
+pub fn taken(path: &Path) -> Vec<model::notice::Notice> {
+    let file = fs::read(path).unwrap_or_default();
+    let Ok(head) = Head::read(&file) else {
+        return Vec::new();
+    };
+    let notices = head.notices(&file[..HEAD], path).unwrap().unwrap();
+    let taken = notices.iter().map(|notice| match *notice {
+        Notice::Out { replica, slot } => model::notice::Notice::out(replica, slot),
+        Notice::Back { replica, slot } => model::notice::Notice::back(replica, slot),
+    });
+    taken.collect()
 }
 
 /// One call, its answer as the model's. Stops where the disk fails.
@@ -72,6 +88,7 @@ pub fn play(durable: &mut Durable, call: &Call) -> Result<Answer, u8> {
         Call::Deliver { ref bytes } => durable.deliver(bytes).map(|()| Answer::Done),
         Call::Work => durable.work().map(|work| Answer::Work(worked(&work))),
         Call::Load { ref classes } => durable.load(classes).map(|()| Answer::Done),
+        Call::Notice(notice) => noticed!(durable, notice),
     };
     played.map_err(|failure| match failure.refusal() {
         Some(refusal) => refusal.number(),
@@ -88,13 +105,12 @@ pub struct Studio {
     /// What the model says is in the file, and what of it a cut leaves at least.
     disk: Vec<u8>,
     floor: usize,
-    /// The file's head before the last own block was sent: a cut that loses that block may lose its copy.
-    head: Vec<u8>,
 }
 
 impl Studio {
-    /// With a file that is not there yet.
+    /// With a file that is not there any more.
     pub fn new(path: PathBuf, n: u32, own: u32) -> Studio {
+        let _ = (fs::remove_file(&path), fs::remove_file(notices_path(&path)));
         let (durable, restarted) = open(&path, n, own);
         assert_eq!(restarted.count, 0, "{}", path.display());
         Studio {
@@ -103,7 +119,6 @@ impl Studio {
             path,
             disk: Vec::new(),
             floor: 0,
-            head: Vec::new(),
         }
     }
 
@@ -113,17 +128,25 @@ impl Studio {
         assert!(file[HEAD..] == self.disk, "{}", self.path.display());
     }
 
-    /// The head that the file has now.
-    fn file_head(&self) -> Vec<u8> {
+    /// The head of the file where a cut leaves so many blocks: it tears a copy of more, which would mend them.
+    fn head_of(&self, blocks: usize) -> Vec<u8> {
         let mut file = fs::read(&self.path).unwrap();
         file.truncate(HEAD);
+        for page in [4_096, 8_192] {
+            let first = u32::from_le_bytes(*file[page + 8..].first_chunk().unwrap());
+            if first as usize + usize::from(file[page + 12]) > blocks {
+                file[page..][..16].fill(0);
+            }
+        }
         file
     }
 
     /// That all the memory is the model's. It is not given out, but shown.
     fn check_memory(&self, durable: &Durable, restart: &Restart) {
         let (n, own) = (restart.n, restart.own);
-        let made = Replica::restart(n, own, &start_values(), &restart.journal);
+        let notices: Vec<Notice> = restart.notices.iter().map(told).collect();
+        assert_eq!(durable.notices(), notices);
+        let made = Replica::restart(n, own, &start_values(), &restart.journal, &notices);
         let (library, _) = made.unwrap();
         same(&self.model, library.memory());
         assert!(format!("{durable:?}").contains(&format!("{library:?}")));
@@ -137,13 +160,11 @@ impl Studio {
 impl Subject for Studio {
     fn call(&mut self, call: &Call) -> Result<Answer, u8> {
         let _named = Named::of(&self.model, call);
-        if *call == Call::Send {
-            self.head = self.file_head();
-        }
+        let out = self.model.is_out(self.model.turn);
         let answer = play(self.durable.as_mut().expect("it is open"), call);
         let due = self.model.call_journaled(call, &mut self.disk);
         assert_eq!(answer, due, "{call:?}: the library's answer, the model's");
-        if let Ok(Answer::Block(_)) = answer {
+        if journal::fixes(call, &answer, out) {
             self.floor = self.disk.len();
         }
         answer
@@ -170,11 +191,7 @@ impl Powered for Studio {
     fn restart(&mut self, restart: &Restart) -> Result<Restarted, u8> {
         self.check_file();
         self.durable = None;
-        // Behind a whole journal the copy is there too: else it would be mended from it.
-        let head = match restart.journal.len() < self.floor {
-            true => self.head.clone(),
-            false => self.file_head(),
-        };
+        let head = self.head_of(restart.journal.len() / BLOCK);
         fs::write(&self.path, [&head[..], &restart.journal].concat()).unwrap();
         let (durable, restarted) = open(&self.path, restart.n, restart.own);
         assert_eq!(Ok(&restarted), restart.run(&mut self.model).as_ref());
@@ -182,10 +199,13 @@ impl Powered for Studio {
         self.durable = Some(durable);
         self.disk = restart.journal[..BLOCK * restarted.count as usize].to_vec();
         self.check_file();
-        self.floor = match restarted.gave_back() {
-            true => self.disk.len(),
-            false => 0,
-        };
+        self.floor = journal::floor_after(self.floor, restart, &restarted);
         Ok(restarted)
+    }
+
+    fn ended(&mut self, call: &Call) {
+        let floor = self.floor;
+        let _ = self.call(call);
+        self.floor = floor;
     }
 }

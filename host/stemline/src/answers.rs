@@ -15,9 +15,9 @@ pub enum Asked {
 /// What one [`crate::Replica::work`] did.
 #[derive(Clone, Debug, PartialEq, Eq)]
 pub struct Work {
-    /// The replica whose block stands at the turn.
+    /// The replica whose block stands at the turn, or whose slot is out.
     pub sender: u8,
-    /// The ticket of the writeset committed, 0 for a block without records.
+    /// The ticket of the writeset committed, 0 for a block without records and for a slot that is out.
     pub ticket: u32,
     /// Whether the turn went up.
     pub moved: bool,
@@ -46,8 +46,9 @@ impl Work {
         &self.aborted[..TABLE.min(usize::from(self.count))]
     }
 
-    /// The block that the journal is to get now: another's, whose slot the turn left. An own block
-    /// stands there since its send.
+    /// The block that the journal is to get now: another's, whose slot the turn left, or the *next* of a slot
+    /// that is out, be it an own one, which is durable before anything goes on. An own block stands there
+    /// since its send.
     pub fn append(&self) -> Option<&[u8; BLOCK]> {
         self.append.as_deref()
     }
@@ -59,17 +60,17 @@ impl Work {
 pub struct Restarted {
     /// The blocks of the journal that are committed. It goes on behind them; the rest is to be cut off.
     pub blocks: u32,
-    /// The last own block among them. It is to be handed out once more: the cut may have come before
-    /// it first was.
+    /// The last own block among them whose slot is not out. It is to be handed out once more: the cut may
+    /// have come before it first was.
     pub last: Option<[u8; BLOCK]>,
 }
 
 /// What one [`crate::Station::work`] did. It aborts nobody, and has no journal to append to.
 #[derive(Clone, Copy, Debug, PartialEq, Eq)]
 pub struct Step {
-    /// The replica whose block stands at the turn.
+    /// The replica whose block stands at the turn, or whose slot is out.
     pub sender: u8,
-    /// The ticket of the writeset committed, 0 for a block without records.
+    /// The ticket of the writeset committed, 0 for a block without records and for a slot that is out.
     pub ticket: u32,
     /// Whether the turn went up.
     pub moved: bool,

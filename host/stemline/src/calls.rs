@@ -25,6 +25,10 @@ pub trait Calls: sealed::Sealed {
     fn work(&mut self) -> Result<Work, Refusal>;
     /// As [`Replica::load`].
     fn load(&mut self, classes: &[u8]) -> Result<(), Refusal>;
+    /// As [`Replica::out`].
+    fn out(&mut self, replica: u32, slot: u32) -> Result<(), Refusal>;
+    /// As [`Replica::back`].
+    fn back(&mut self, replica: u32, slot: u32) -> Result<(), Refusal>;
     /// As [`Replica::take`].
     fn take(&mut self, bytes: &[u8]) -> Result<Taken, Refusal>;
 }
@@ -75,6 +79,14 @@ macro_rules! calls {
 
             fn load(&mut self, classes: &[u8]) -> Result<(), Refusal> {
                 $type::load(self, classes)
+            }
+
+            fn out(&mut self, replica: u32, slot: u32) -> Result<(), Refusal> {
+                $type::out(self, replica, slot)
+            }
+
+            fn back(&mut self, replica: u32, slot: u32) -> Result<(), Refusal> {
+                $type::back(self, replica, slot)
             }
 
             fn take(&mut self, bytes: &[u8]) -> Result<Taken, Refusal> {

@@ -8,11 +8,19 @@ use std::path::Path;
 #[derive(Debug)]
 pub(crate) struct Disk {
     pub(crate) file: File,
+    what: What,
+}
+
+/// Which file it is.
+#[derive(Clone, Copy, Debug, PartialEq, Eq)]
+pub(crate) enum What {
+    Journal,
+    Notices,
 }
 
 impl Disk {
     /// Opens a file, or makes it, and gives its length.
-    pub(crate) fn open(path: &Path) -> io::Result<(Disk, u64)> {
+    pub(crate) fn open(path: &Path, what: What) -> io::Result<(Disk, u64)> {
         let mut options = OpenOptions::new();
         let options = options.read(true).write(true).create(true).truncate(false);
         let file = options.open(path)?;
@@ -24,8 +32,8 @@ impl Disk {
         if !kind.is_file() {
             return Err(io::Error::other("it is no file on a disk"));
         }
-        sync_folder(path)?;
-        Ok((Disk { file }, kind.len()))
+        sync_folder(path, what)?;
+        Ok((Disk { file, what }, kind.len()))
     }
 
     /// A reader of what is from this byte on.
@@ -36,20 +44,20 @@ impl Disk {
 
     /// Writes from this byte on.
     pub(crate) fn write(&mut self, at: u64, bytes: &[u8]) -> io::Result<()> {
-        tell(|| Step::Write(at, bytes.to_vec()))?;
+        tell(self.what, || Step::Write(at, bytes.to_vec()))?;
         self.file.seek(SeekFrom::Start(at))?;
         self.file.write_all(bytes)
     }
 
     /// Makes the file so long, be it shorter or longer; what is new is zero.
     pub(crate) fn cut(&mut self, length: u64) -> io::Result<()> {
-        tell(|| Step::Cut(length))?;
+        tell(self.what, || Step::Cut(length))?;
         self.file.set_len(length)
     }
 
     /// Makes all that was written durable.
     pub(crate) fn sync(&mut self) -> io::Result<()> {
-        tell(|| Step::Sync)?;
+        tell(self.what, || Step::Sync)?;
         self.file.sync_data()
     }
 }
@@ -63,12 +71,12 @@ impl Drop for Disk {
 }
 
 /// A file that was made is durable once its folder is.
-fn sync_folder(path: &Path) -> io::Result<()> {
+fn sync_folder(path: &Path, what: What) -> io::Result<()> {
     let folder = match path.parent() {
         Some(folder) if folder != Path::new("") => folder,
         _ => Path::new("."),
     };
-    tell(|| Step::Folder(folder.display().to_string()))?;
+    tell(what, || Step::Folder(folder.display().to_string()))?;
     let synced = match cfg!(unix) {
         true => File::open(folder).and_then(|folder| folder.sync_all()),
         false => Ok(()),
@@ -90,45 +98,47 @@ pub(crate) enum Step {
 }
 
 #[cfg(not(test))]
-fn tell(_: impl FnOnce() -> Step) -> io::Result<()> {
+fn tell(_: What, _: impl FnOnce() -> Step) -> io::Result<()> {
     Ok(())
 }
 
 #[cfg(test)]
-fn tell(step: impl FnOnce() -> Step) -> io::Result<()> {
-    told::tell(step())
+fn tell(what: What, step: impl FnOnce() -> Step) -> io::Result<()> {
+    told::tell(what, step())
 }
 
-/// The steps of this thread's journals, which are a test's.
+/// The steps of this thread's journals and notices, which are a test's.
 #[cfg(test)]
 pub(crate) mod told {
     use std::cell::{Cell, RefCell};
     use std::io;
 
-    use super::Step;
+    use super::{Step, What};
 
     thread_local! {
-        static STEPS: RefCell<Vec<Step>> = const { RefCell::new(Vec::new()) };
+        static STEPS: RefCell<Vec<(What, Step)>> = const { RefCell::new(Vec::new()) };
         static FAILS: Cell<Option<&'static str>> = const { Cell::new(None) };
     }
 
-    impl Step {
-        /// Its line, without the bytes.
-        fn line(&self) -> String {
-            match self {
-                Step::Folder(folder) => format!("folder {folder}"),
-                Step::Write(at, bytes) => format!("write {} at {at}", bytes.len()),
-                Step::Cut(length) => format!("cut {length}"),
-                Step::Sync => "sync".to_string(),
-            }
+    /// The line of a step, without the bytes.
+    fn line(what: What, step: &Step) -> String {
+        let line = match step {
+            Step::Folder(folder) => format!("folder {folder}"),
+            Step::Write(at, bytes) => format!("write {} at {at}", bytes.len()),
+            Step::Cut(length) => format!("cut {length}"),
+            Step::Sync => "sync".to_string(),
+        };
+        match what {
+            What::Journal => line,
+            What::Notices => format!("notices: {line}"),
         }
     }
 
-    pub(super) fn tell(step: Step) -> io::Result<()> {
+    pub(super) fn tell(what: What, step: Step) -> io::Result<()> {
         let fails = FAILS
             .get()
-            .is_some_and(|word| step.line().starts_with(word));
-        STEPS.with_borrow_mut(|steps| steps.push(step));
+            .is_some_and(|word| line(what, &step).starts_with(word));
+        STEPS.with_borrow_mut(|steps| steps.push((what, step)));
         match fails {
             true => {
                 FAILS.set(None);
@@ -144,12 +154,13 @@ pub(crate) mod told {
     }
 
     /// The steps since they were asked for last.
-    pub(crate) fn taken() -> Vec<Step> {
+    pub(crate) fn taken() -> Vec<(What, Step)> {
         STEPS.take()
     }
 
     /// Their lines.
     pub(crate) fn steps() -> Vec<String> {
-        taken().iter().map(Step::line).collect()
+        let steps = taken();
+        steps.iter().map(|(what, step)| line(*what, step)).collect()
     }
 }

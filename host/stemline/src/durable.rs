@@ -2,20 +2,21 @@
 
 use std::io::{self, Write};
 use std::path::Path;
-use std::{error, fmt};
 
 use crate::head::Head;
 use crate::journal::Journal;
 use crate::outcome::Outcomes;
 use crate::{
-    Asked, Calls, Digest, DiskError, Outcome, Recorder, Refusal, Reopened, Replica, Report,
-    Restarted, Taken, Work, BLOCK, ITEMS,
+    Asked, Calls, Digest, DiskError, Failure, Notice, Outcome, Recorder, Refusal, Reopened,
+    Replica, Report, Restarted, Taken, Work, BLOCK, ITEMS,
 };
 
 /// One replica of a group with its journal in a file.
 ///
 /// Nothing is handed out that was not made durable. A send gives its block once that is durable; a work
-/// appends the block that it leaves, which is durable with the next send. Where the disk fails, a call
+/// appends the block that it leaves, which is durable with the next send. What is journaled is also durable
+/// when a notice is taken, and when a slot that is out is passed; the notices stand in a file beside the
+/// journal ([`crate::notices_path`]). Where the disk fails, a call
 /// gives an error and no block, what was appended since the last good sync is cut off again, and no call
 /// but a look (values, read, report, turn) is accepted any more: it is opened anew. A look may then show
 /// more than the file has. The [`Replica`] itself is not given out, since after a failed send it holds a
@@ -58,14 +59,6 @@ pub struct Durable<R = Replica> {
     last: Option<[u8; BLOCK]>,
 }
 
-/// Why a call at a [`Durable`] gives nothing. Both `{}` and `{:?}` write the words.
-pub enum Failure {
-    /// The replica refuses the call, as [`Replica`]'s calls say.
-    Refused(Refusal),
-    /// The disk failed.
-    Disk(DiskError),
-}
-
 impl Durable {
     /// Opens replica `own` of `n` of a group from its journal, with the group's values to start with. With
     /// no file, or an empty one, it is a new replica, and the file gets its head. The last own block goes to
@@ -84,6 +77,10 @@ impl Durable {
     /// are damaged at once.
     ///
     /// Tickets above the highest in own blocks are given again: see [`Reopened`].
+    ///
+    /// The notices taken are in force again ([`Durable::notices`]). Where they are lost or damaged, it is an
+    /// error. Those that were announced meanwhile are taken before the first work, and then what waits is worked
+    /// off: the turn may stand at a slot that is out ([`Durable::waits`]).
     pub fn open(
         path: impl AsRef<Path>,
         group: &str,
@@ -91,7 +88,8 @@ impl Durable {
         own: u32,
         values: &[i32; ITEMS],
     ) -> Result<(Durable, Reopened), Failure> {
-        let restart = |bytes: &[u8]| Replica::restart(n, own, values, bytes);
+        let restart =
+            |bytes: &[u8], notices: &[Notice]| Replica::restart(n, own, values, bytes, notices);
         Durable::take_up(path.as_ref(), group, n, own, values, restart)
     }
 
@@ -141,7 +139,9 @@ impl<C: Write, A: Write> Durable<Recorder<C, A>> {
         values: &[i32; ITEMS],
         (calls, answers): (C, A),
     ) -> Result<(Durable<Recorder<C, A>>, Reopened), Failure> {
-        let restart = |bytes: &[u8]| Recorder::restart(n, own, values, bytes, calls, answers);
+        let restart = |bytes: &[u8], notices: &[Notice]| {
+            Recorder::restart(n, own, values, bytes, notices, calls, answers)
+        };
         Durable::take_up(path.as_ref(), group, n, own, values, restart)
     }
 
@@ -184,14 +184,15 @@ impl<R: Calls> Durable<R> {
         n: u32,
         own: u32,
         values: &[i32; ITEMS],
-        restart: impl FnOnce(&[u8]) -> Result<(R, Restarted), Refusal>,
+        restart: impl FnOnce(&[u8], &[Notice]) -> Result<(R, Restarted), Refusal>,
     ) -> Result<(Durable<R>, Reopened), Failure> {
         // What is refused makes no file.
         Replica::new(n, own, values)?;
         let head = Head::new(group, n, own, values)
             .map_err(|words| DiskError::new("open", path, io::Error::other(words)))?;
         let (mut journal, found) = Journal::open(path, &head)?;
-        let (replica, restarted) = journal.lend(&found, restart)??;
+        let notices = journal.notices.taken.clone();
+        let (replica, restarted) = journal.lend(&found, |bytes| restart(bytes, &notices))??;
         if restarted.blocks != found.tally.turn {
             // The reader of blocks is held to the restart by tests.
             let words = "a restart does not take up the blocks that are read";
@@ -259,6 +260,29 @@ impl<R: Calls> Durable<R> {
         self.replica.replica().is_turn()
     }
 
+    /// As [`Replica::waits`].
+    pub fn waits(&self) -> bool {
+        self.replica.replica().waits()
+    }
+
+    /// The notices taken, in order, since the first open of the file. One whose call a cut has ended may be
+    /// among them.
+    pub fn notices(&self) -> &[Notice] {
+        &self.journal.notices.taken
+    }
+
+    /// As [`Replica::out`]; all that is journaled, and then the notice, is durable.
+    pub fn out(&mut self, replica: u32, slot: u32) -> Result<(), Failure> {
+        self.going()?.out(replica, slot)?;
+        Ok(self.journal.notice(Notice::Out { replica, slot })?)
+    }
+
+    /// As [`Replica::back`]; all that is journaled, and then the notice, is durable.
+    pub fn back(&mut self, replica: u32, slot: u32) -> Result<(), Failure> {
+        self.going()?.back(replica, slot)?;
+        Ok(self.journal.notice(Notice::Back { replica, slot })?)
+    }
+
     /// As [`Replica::begin`].
     pub fn begin(&mut self) -> Result<u32, Failure> {
         let ticket = self.going()?.begin()?;
@@ -306,17 +330,20 @@ impl<R: Calls> Durable<R> {
         Ok(self.going()?.deliver(bytes)?)
     }
 
-    /// As [`Replica::work`]; what it gives to append is appended.
+    /// As [`Replica::work`]; what it gives to append is appended, and durable where the slot is out.
     pub fn work(&mut self) -> Result<Work, Failure> {
         let work = self.going()?.work()?;
         self.keep(&work)?;
+        self.journal.settle()?;
         Ok(work)
     }
 
-    /// As [`Replica::take`]; what its steps give to append is appended, in order.
+    /// As [`Replica::take`]; what its steps give to append is appended, in order, and durable where one of
+    /// their slots is out.
     pub fn take(&mut self, bytes: &[u8]) -> Result<Taken, Failure> {
         let taken = self.going()?.take(bytes)?;
         taken.steps.iter().try_for_each(|work| self.keep(work))?;
+        self.journal.settle()?;
         Ok(taken)
     }
 
@@ -334,45 +361,6 @@ impl<R: Calls> Durable<R> {
         Ok(&mut self.replica)
     }
 }
-
-impl Failure {
-    /// The refusal, if it is one.
-    pub fn refusal(&self) -> Option<Refusal> {
-        match *self {
-            Failure::Refused(refusal) => Some(refusal),
-            Failure::Disk(_) => None,
-        }
-    }
-}
-
-impl From<Refusal> for Failure {
-    fn from(refusal: Refusal) -> Failure {
-        Failure::Refused(refusal)
-    }
-}
-
-impl From<DiskError> for Failure {
-    fn from(error: DiskError) -> Failure {
-        Failure::Disk(error)
-    }
-}
-
-impl fmt::Display for Failure {
-    fn fmt(&self, f: &mut fmt::Formatter) -> fmt::Result {
-        match self {
-            Failure::Refused(refusal) => refusal.fmt(f),
-            Failure::Disk(error) => error.fmt(f),
-        }
-    }
-}
-
-impl fmt::Debug for Failure {
-    fn fmt(&self, f: &mut fmt::Formatter) -> fmt::Result {
-        fmt::Display::fmt(self, f)
-    }
-}
-
-impl error::Error for Failure {}
 
 #[cfg(test)]
 mod tests;

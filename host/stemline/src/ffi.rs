@@ -1,6 +1,6 @@
 //! The static library as Rust sees it: its structs, and its functions as safe ones over slices, parameter
 //! by parameter those of `crates/replica_make`, `replica_station`, `replica_client`, `replica_write`,
-//! `replica_turn` and `replica_block`: the calls at a replica, and three that read a block.
+//! `replica_turn`, `replica_notice` and `replica_block`: the calls at a replica, and three that read a block.
 //! `host/include/stemline_calls.h` says the same in C; tests compare the layouts, and the parameters of all
 //! three.
 //!
@@ -9,7 +9,7 @@
 
 use std::fmt;
 
-use crate::TABLE;
+use crate::{REPLICAS, TABLE};
 
 /// An open transaction. Ticket 0 is a free row. Stage 0 is active, 1 asked, 2 sent.
 #[repr(C)]
@@ -39,7 +39,7 @@ pub struct Turn {
     pub applying: u8,
 }
 
-/// What a replica knows of its group. A make or a restart sets it, and no other call.
+/// What a replica knows of its group. A make, a restart or a notice sets it, and no other call.
 #[repr(C)]
 #[derive(Clone, Copy, Debug, Default, PartialEq, Eq)]
 pub struct Group {
@@ -47,6 +47,10 @@ pub struct Group {
     pub replicas: u8,
     /// The replica's own number, below n; [`crate::NO_NUMBER`] for a station.
     pub own: u8,
+    /// The last outage of each replica: its slots from this one on are out,
+    pub from: [u32; REPLICAS],
+    /// and from this one on they count again: [`crate::SLOTS`] where no Back was taken yet, 0 where no Out was.
+    pub until: [u32; REPLICAS],
 }
 
 /// The numbers of a replica, lent as the turn is.
@@ -162,8 +166,8 @@ pub struct WorkReply {
     pub ticket: u32,
     /// Rising, zeros behind the first `count`.
     pub aborted: [u32; TABLE],
-    /// Whether the turn left another's slot: the lent block is then the one that stood there, and is
-    /// to be appended to the journal.
+    /// Whether the turn left another's slot, or any that is out: the lent block is then the one that stood
+    /// there, or the *next* of a slot that is out, and is to be appended to the journal.
     pub append: bool,
 }
 
@@ -234,7 +238,7 @@ impl fmt::Display for Entry {
 const _: () = {
     assert!(size_of::<Txn>() == 16);
     assert!(size_of::<Turn>() == 8);
-    assert!(size_of::<Group>() == 2);
+    assert!(size_of::<Group>() == 52);
     assert!(size_of::<Counts>() == 28);
     assert!(size_of::<Report>() == 32);
     assert!(size_of::<BeginReply>() == 8);
@@ -293,14 +297,26 @@ calls! {
     ) -> u8;
 
     /// As a make; then the blocks of the journal are committed, up to the first that is torn, fails its
-    /// check or form, has another `n` or is not the next slot's. Fills the block with the last own one
-    /// of them, with zeros if there is none. Refused by 1, 2; a journal may have any length.
+    /// check or form, has another `n` or is not the next slot's. The notices, three numbers each, are put
+    /// in force untested: replica, 1 for Out or 0 for Back, slot. Fills the block with the last own one
+    /// committed whose slot is not out by them, with zeros if there is none. Refused by 1, 2; a journal
+    /// may have any length, and there are three numbers for each notice.
     fn restart = stemline_restart(
         table: mut [Txn], group: &mut Group, turn: &mut Turn, counts: &mut Counts, n: u32, own: u32,
         start: ref [i32], queue: mut [u32], items: mut [u8], writes: mut [i32], snapshots: mut [i32],
         values: mut [i32], stamps: mut [u32], classes: mut [u8], places: mut [u8], outbox: mut [u8],
-        journal: ref [u8], block: mut [u8]
+        journal: ref [u8], notices: ref [u32], block: mut [u8]
     ) -> RestartReply;
+
+    /// The slots of a replica from this one on are passed by work, as a *next*. Refused by 1, 2, 28.
+    fn out = stemline_out(
+        group: &mut Group, turn: &Turn, places: ref [u8], replica: u32, slot: u32
+    ) -> u8;
+
+    /// The slots of a replica from this one on count again. Refused by 1, 2, 28.
+    fn back = stemline_back(
+        group: &mut Group, turn: &Turn, places: ref [u8], replica: u32, slot: u32
+    ) -> u8;
 
     /// Opens a transaction. Refused by 1, 5, 6.
     fn begin = stemline_begin(
@@ -331,19 +347,19 @@ calls! {
     /// The replica's report. Refused by 1.
     fn report = stemline_report(table: ref [Txn], turn: &Turn, counts: &Counts) -> ReportReply;
 
-    /// Writes the block for the own slot. Refused by 25, 1, 13, 11, 12.
+    /// Writes the block for the own slot. Refused by 25, 1, 13, 11, 29, 12.
     fn send = stemline_send(
         table: mut [Txn], group: &Group, turn: &mut Turn, queue: mut [u32], items: ref [u8],
         writes: ref [i32], outbox: mut [u8], block: mut [u8]
     ) -> u8;
 
-    /// Keeps a block until its slot is the turn. Refused by 1, 14, 15, 16, 17, 18, 19, 20.
+    /// Keeps a block until its slot is the turn. Refused by 1, 14, 15, 16, 17, 29, 18, 19, 20.
     fn deliver = stemline_deliver(
         group: &Group, turn: &Turn, places: mut [u8], outbox: ref [u8], bytes: ref [u8]
     ) -> u8;
 
-    /// Takes one step at the block of the turn. Where the turn leaves another's slot it fills the lent
-    /// block, which is otherwise not touched. Refused by 1, 21.
+    /// Takes one step at the block of the turn, or passes a slot that is out. Where the turn leaves another's
+    /// slot or one that is out it fills the lent block, which is otherwise not touched. Refused by 1, 21.
     fn work = stemline_work(
         table: mut [Txn], group: &Group, turn: &mut Turn, counts: &mut Counts, queue: mut [u32],
         items: ref [u8], values: mut [i32], stamps: mut [u32], places: mut [u8], block: mut [u8]

@@ -1,6 +1,6 @@
 //! The head of a journal's file: whose journal it is.
 //!
-//! A file of version 1, all numbers with the lowest byte first:
+//! All numbers have the lowest byte first:
 //!
 //! | Bytes | What |
 //! |---|---|
@@ -14,20 +14,26 @@
 //!
 //! The copies have pages of their own: what is written while the next one is sent touches neither whose the
 //! file is, nor the copy of the own block sent last.
+//!
+//! A file is of version 1 until its replica takes its first notice, and of version 2 from then on: beside it is
+//! a file of notices (`notices.rs`), without which it is not taken up.
 
 use std::borrow::Cow;
-use std::fmt;
+use std::path::Path;
+use std::{fmt, io};
 
 use crate::digest::{digest, START};
+use crate::notices::Notices;
 use crate::round::{places, Round};
-use crate::{Block, ITEMS};
+use crate::{Block, Notice, ITEMS};
 
 /// The bytes of a journal's file in front of its first block.
 pub const HEAD: usize = 3 * PAGE;
 /// What is written at different times stands on different pages.
 pub(crate) const PAGE: usize = 4_096;
-/// The version of the files that this crate writes, and the only one that it takes up.
-const VERSION: u32 = 1;
+/// The version of a file with no notices, and that of one with notices beside it.
+const PLAIN: u32 = 1;
+const NOTICED: u32 = 2;
 /// No text begins so.
 const MARK: [u8; 16] = *b"\x89stemline\r\n\x1a\n\0\0\xff";
 /// The most bytes of a group's name.
@@ -43,6 +49,7 @@ const END: usize = CHECK + 8;
 /// Both `{}` and `{:?}` write it in one line.
 #[derive(Clone, PartialEq, Eq)]
 pub struct Head {
+    version: u32,
     n: u32,
     own: u32,
     group: Vec<u8>,
@@ -65,6 +72,7 @@ impl Head {
                 Err("the group's name has a control character")
             }
             1..=NAME => Ok(Head {
+                version: PLAIN,
                 n,
                 own,
                 group,
@@ -89,9 +97,9 @@ impl Head {
             u32::from_le_bytes(*number)
         };
         let (version, n, own, length) = (number(16), number(20), number(24), number(28));
-        if version != VERSION {
+        if ![PLAIN, NOTICED].contains(&version) {
             return Err(format!(
-                "it is of version {version}, and this program knows version {VERSION}"
+                "it is of version {version}, and this program knows the versions {PLAIN} and {NOTICED}"
             ));
         }
         let check = digest(START, &bytes[..CHECK]).to_le_bytes();
@@ -99,6 +107,7 @@ impl Head {
             return Err("its head is damaged: the check does not match".into());
         }
         Ok(Head {
+            version,
             n,
             own,
             group: bytes[NAMED..][..length as usize].to_vec(),
@@ -110,7 +119,7 @@ impl Head {
     pub(crate) fn bytes(&self) -> [u8; END] {
         let mut bytes = [0; END];
         bytes[..16].copy_from_slice(&MARK);
-        let numbers = [VERSION, self.n, self.own, self.group.len() as u32];
+        let numbers = [self.version, self.n, self.own, self.group.len() as u32];
         for (at, number) in (16..).step_by(4).zip(numbers) {
             bytes[at..][..4].copy_from_slice(&number.to_le_bytes());
         }
@@ -143,12 +152,44 @@ impl Head {
         &self.values
     }
 
+    /// Whether a notice was taken: then there is a file of notices beside the journal.
+    pub fn is_noticed(&self) -> bool {
+        self.version == NOTICED
+    }
+
+    /// This head with notices beside the journal, or without.
+    pub(crate) fn noticed(&self, noticed: bool) -> Head {
+        let version = if noticed { NOTICED } else { PLAIN };
+        Head {
+            version,
+            ..self.clone()
+        }
+    }
+
+    /// The digest by which a file of notices is this journal's.
+    pub(crate) fn identity(&self) -> u64 {
+        // Without the digest in it, as in `common`.
+        digest(START, &self.noticed(false).bytes()[..CHECK])
+    }
+
     /// The copies of its last rounds that are whole, at most two, of a file that begins with these bytes:
-    /// each has the blocks of consecutive slots, the last of them an own one.
+    /// each has the blocks of consecutive slots behind an own one, up to the next own one at most.
     pub fn copies(&self, front: &[u8]) -> Vec<Vec<Block>> {
         let rounds = self.rounds(front).into_iter();
         let blocks = |round: Round| round.blocks.iter().flat_map(|b| Block::read(b)).collect();
         rounds.map(blocks).collect()
+    }
+
+    /// The notices beside a journal that begins with these bytes, or in words what is wrong with them. How many
+    /// blocks it had at the last of them is not looked at.
+    pub fn notices(&self, front: &[u8], journal: &Path) -> io::Result<Result<Vec<Notice>, String>> {
+        let copies = self.rounds(front);
+        let taken = copies.iter().map(|round| round.notices).max();
+        let notices = Notices::read(journal, self)?;
+        Ok(notices.and_then(|notices| {
+            let lacking = notices.lacking(taken.unwrap_or(0), u32::MAX);
+            lacking.map_or(Ok(notices.taken), Err)
+        }))
     }
 
     pub(crate) fn rounds(&self, front: &[u8]) -> Vec<Round> {
@@ -162,7 +203,7 @@ impl Head {
     pub(crate) fn common(&self) -> u64 {
         let any = Head {
             own: 0,
-            ..self.clone()
+            ..self.noticed(false)
         };
         // Without the digest in it: with that it would be the same for all.
         digest(START, &any.bytes()[..CHECK])
@@ -174,7 +215,8 @@ impl Head {
     ///
     /// First the file is made `HEAD` bytes long, of zeros, then the head is put there, each durable before
     /// the next. So a head that is torn, each of its bytes still zero or right, stands in a file of just
-    /// that length, and one that is whole in no shorter one.
+    /// that length, and one that is whole in no shorter one. A head that a cut left between its two versions
+    /// is this one.
     pub(crate) fn is_new(&self, front: &[u8], length: u64) -> Result<bool, String> {
         let zeros = |bytes: &[u8]| bytes.iter().all(|&byte| byte == 0);
         if length < HEAD as u64 {
@@ -190,11 +232,14 @@ impl Head {
             Ok(found) => return self.same(&found).map(|()| false),
             Err(why) => why,
         };
-        let due = self.bytes();
-        let torn = |(&byte, &due): (&u8, &u8)| byte == 0 || byte == due;
-        let made = length == HEAD as u64 && front[..END].iter().zip(&due).all(torn);
-        match made && zeros(&front[END..]) {
-            true => Ok(true),
+        let each = |a: &[u8; END], b: &[u8; END]| {
+            let mut due = front.iter().zip(a.iter().zip(b));
+            due.all(|(byte, (a, b))| byte == a || byte == b)
+        };
+        let (plain, noticed) = (self.noticed(false).bytes(), self.noticed(true).bytes());
+        let made = length == HEAD as u64 && each(&[0; END], &plain) && zeros(&front[END..]);
+        match made || each(&plain, &noticed) {
+            true => Ok(made),
             false => Err(why),
         }
     }
@@ -230,7 +275,8 @@ impl fmt::Display for Head {
         let start = digest(START, &self.bytes()[STARTS..CHECK]);
         write!(
             f,
-            "replica {own} of {n} of the group {group:?}, version {VERSION}, start {start:016x}"
+            "replica {own} of {n} of the group {group:?}, version {}, start {start:016x}",
+            self.version
         )
     }
 }

@@ -5,12 +5,13 @@ use std::path::{Path, PathBuf};
 use std::{error, fmt};
 
 use crate::digest::Digests;
-use crate::disk::Disk;
+use crate::disk::{Disk, What};
 use crate::head::{Head, HEAD};
 use crate::map::lend;
+use crate::notices::Notices;
 use crate::round::Round;
 use crate::tally::Tally;
-use crate::{owner, Block, Blocks, Stop, BLOCK};
+use crate::{owner, Block, Blocks, Notice, Stop, BLOCK};
 
 /// A journal over a file.
 ///
@@ -20,14 +21,18 @@ use crate::{owner, Block, Blocks, Stop, BLOCK};
 pub(crate) struct Journal {
     pub(crate) disk: Disk,
     path: PathBuf,
-    n: u32,
+    head: Head,
+    /// The notices beside it.
+    pub notices: Notices,
     /// The blocks that the file has.
     blocks: u32,
     /// Those that were there when it was opened or last made durable. Those of an open are kept whether they
     /// are durable or not: the last one may have been handed out before.
     kept: u32,
-    /// The blocks behind the last own one.
+    /// The blocks behind the last own slot.
     since: Vec<[u8; BLOCK]>,
+    /// Whether one of those appended since the last good sync is of a slot that is out.
+    passed: bool,
     /// What its blocks have committed.
     pub digests: Digests,
     /// Where a copy was begun since the last good sync.
@@ -65,25 +70,33 @@ impl Journal {
     /// where it is not this head's or is damaged, it is left as it is. Then comes [`Journal::take_up`].
     pub fn open(path: &Path, head: &Head) -> Result<(Journal, Found), DiskError> {
         let fails = |doing| move |error| DiskError::new(doing, path, error);
-        let (mut disk, mut length) = Disk::open(path).map_err(fails("open"))?;
+        let opened = Disk::open(path, What::Journal);
+        let (mut disk, mut length) = opened.map_err(fails("open"))?;
         let mut front = vec![0; length.min(HEAD as u64) as usize];
         let read = |disk: &mut Disk, front: &mut [u8]| disk.reader(0)?.read_exact(front);
         read(&mut disk, &mut front).map_err(fails("read"))?;
-        let is_new = head.is_new(&front, length).map_err(io::Error::other);
-        if is_new.map_err(fails("take up"))? {
-            make(&mut disk, head).map_err(fails("make"))?;
+        let words = |words: String| fails("take up")(io::Error::other(words));
+        let is_new = head.is_new(&front, length).map_err(words)?;
+        // A head that is torn between its versions is of the later one.
+        let head = head.noticed(!is_new && !front.starts_with(&head.bytes()));
+        let notices = Notices::read(path, &head).map_err(fails("read the notices of"))?;
+        let notices = notices.map_err(words)?;
+        if is_new {
+            make(&mut disk, &head).map_err(fails("make"))?;
             front = vec![0; HEAD];
             length = HEAD as u64;
         }
-        let found = look(&mut disk, head, &front, length).map_err(fails("read"))?;
-        let found = found.map_err(io::Error::other).map_err(fails("take up"))?;
+        let found = look(&mut disk, &head, &notices, &front, length).map_err(fails("read"))?;
+        let found = found.map_err(words)?;
         let journal = Journal {
             disk,
             path: path.to_path_buf(),
-            n: head.replicas(),
+            head,
+            notices,
             blocks: found.tally.turn,
             kept: found.tally.turn,
             since: found.tally.since.clone(),
+            passed: false,
             digests: found.tally.digests.clone(),
             copied: None,
             failed: false,
@@ -107,8 +120,17 @@ impl Journal {
     ///
     /// What is read may be in the system's memory alone, and counts there as written where a sync of it
     /// failed before: a sync would then pass it over. So all that is not known to be durable is written
-    /// once more, the blocks since the own one before the last, and the copy.
+    /// once more, the last notice, the blocks since the own one before the last, and the copy; where notices
+    /// were taken, also the head, and a copy of the blocks behind the last own one, which may be of slots that
+    /// are out.
     pub fn take_up(&mut self, found: &Found) -> Result<(), DiskError> {
+        let is_noticed = self.head.is_noticed();
+        if is_noticed {
+            let renewed = self.notices.take_up();
+            self.done("renew the notices of", renewed)?;
+            let renewed = self.disk.write(0, &self.head.bytes());
+            self.done("renew the head of", renewed)?;
+        }
         let cut = self.disk.cut(place(self.blocks));
         self.done("cut", cut)?;
         let tally = &found.tally;
@@ -126,13 +148,63 @@ impl Journal {
             self.done("renew the end of", renewed)?;
         }
         if let Some(round) = last {
-            self.copy(round)?;
+            self.copy(round.first, &round.blocks)?;
         }
+        match is_noticed {
+            true => self.keep(),
+            false => self.sync(),
+        }
+    }
+
+    /// Appends what a work gives: a block of another, durable after the next [`Journal::send`], or the *next*
+    /// of a slot that is out, durable after [`Journal::settle`].
+    pub fn append(&mut self, block: &[u8; BLOCK]) -> Result<(), DiskError> {
+        let slot = self.blocks;
+        if owner(slot, self.head.replicas()) == self.head.own() {
+            return self.send(block);
+        }
+        self.put(block)?;
+        self.passed |= self.notices.is_out(slot);
+        Ok(())
+    }
+
+    /// Makes the *next* of each slot passed as out durable.
+    pub fn settle(&mut self) -> Result<(), DiskError> {
+        match self.passed {
+            true => self.keep(),
+            false => Ok(()),
+        }
+    }
+
+    /// Makes all durable that was appended, and the number of notices, with a copy of the round so far.
+    fn keep(&mut self) -> Result<(), DiskError> {
+        let blocks = self.since.clone();
+        self.copy(self.blocks - blocks.len() as u32, &blocks)?;
         self.sync()
     }
 
-    /// Appends a block of another. It is durable after the next [`Journal::send`].
-    pub fn append(&mut self, block: &[u8; BLOCK]) -> Result<(), DiskError> {
+    /// Puts a notice that the replica has taken beside the journal. All that was appended is durable before
+    /// it, and it is when this returns.
+    pub fn notice(&mut self, notice: Notice) -> Result<(), DiskError> {
+        self.going()?;
+        if self.kept < self.blocks {
+            self.keep()?;
+        }
+        if !self.notices.is_open() {
+            let begun = self.notices.begin();
+            self.done("make the notices of", begun)?;
+            self.head = self.head.noticed(true);
+            let written = self.disk.write(0, &self.head.bytes());
+            self.done("renew the head of", written)?;
+            self.sync()?;
+        }
+        let appended = self.notices.append(notice, self.blocks);
+        self.done("put a notice beside", appended)?;
+        self.keep()
+    }
+
+    /// Puts a block behind all others.
+    fn put(&mut self, block: &[u8; BLOCK]) -> Result<(), DiskError> {
         self.going()?;
         // Only altered memory gives another.
         let read = Block::read(block).map_err(io::Error::other);
@@ -147,15 +219,19 @@ impl Journal {
 
     /// Appends an own block, with its copy, and makes all durable.
     pub fn send(&mut self, block: &[u8; BLOCK]) -> Result<(), DiskError> {
-        self.append(block)?;
+        self.put(block)?;
         let blocks = std::mem::take(&mut self.since);
-        let first = self.blocks - blocks.len() as u32;
-        self.copy(&Round { first, blocks })?;
+        self.copy(self.blocks - blocks.len() as u32, &blocks)?;
         self.sync()
     }
 
-    fn copy(&mut self, round: &Round) -> Result<(), DiskError> {
-        let at = round.place(self.n);
+    fn copy(&mut self, first: u32, blocks: &[[u8; BLOCK]]) -> Result<(), DiskError> {
+        let round = Round {
+            first,
+            blocks: blocks.to_vec(),
+            notices: self.notices.count(),
+        };
+        let at = round.place(self.head.replicas(), self.head.own());
         self.copied = Some(at);
         let written = self.disk.write(at, &round.bytes());
         self.done("put a copy into", written)
@@ -166,6 +242,7 @@ impl Journal {
         self.done("sync", synced)?;
         self.kept = self.blocks;
         self.copied = None;
+        self.passed = false;
         Ok(())
     }
 
@@ -213,6 +290,7 @@ fn make(disk: &mut Disk, head: &Head) -> io::Result<()> {
 fn look(
     disk: &mut Disk,
     head: &Head,
+    notices: &Notices,
     front: &[u8],
     length: u64,
 ) -> io::Result<Result<Found, String>> {
@@ -231,11 +309,19 @@ fn look(
         }
     };
     let turn = tally.turn;
-    if let Some(round) = copies.iter().find(|round| round.last() >= turn) {
-        let sent = round.last();
+    if let Some(round) = copies.iter().find(|round| round.end() > turn) {
+        let last = round.end() - 1;
+        let words = match owner(last, n) == own {
+            true => format!("the own block of slot {last} behind it was perhaps handed out"),
+            false => format!("slot {last} behind it was passed as out, or a notice taken there"),
+        };
         return Ok(Err(format!(
-            "its block {turn} is damaged, and the own block of slot {sent} behind it was perhaps handed out: {stop}"
+            "its block {turn} is damaged, and {words}: {stop}"
         )));
+    }
+    let taken = copies.iter().map(|round| round.notices).max();
+    if let Some(words) = notices.lacking(taken.unwrap_or(0), turn) {
+        return Ok(Err(words));
     }
     let behind = length.saturating_sub(place(turn));
     if behind > torn(n, own, turn) {

@@ -1,6 +1,6 @@
 //! A replica of the proved engine, for Rust.
 //!
-//! [`Replica`] has document 01's ten calls and document 02's restart and load. A refused call gives a
+//! [`Replica`] has document 01's ten calls, document 02's restart and load, and its two notices, out and back. A refused call gives a
 //! [`Refusal`] and changes nothing, but for [`Refusal::Stale`], which ends its transaction. A group has 2
 //! to 6 replicas, numbered from 0; each holds 128 values, of the items 0 to 127.
 //!
@@ -55,11 +55,14 @@ mod calls;
 mod digest;
 mod disk;
 mod durable;
+mod failure;
 pub mod ffi;
 mod head;
 mod journal;
 mod map;
 mod memory;
+mod notice;
+mod notices;
 mod outcome;
 mod recorder;
 mod refusal;
@@ -75,11 +78,14 @@ pub use block::{Block, DigitsError, Record};
 pub use blocks::{Blocks, Stop};
 pub use calls::Calls;
 pub use digest::Digest;
-pub use durable::{Durable, Failure};
+pub use durable::Durable;
+pub use failure::Failure;
 pub use ffi::{Entry, Report};
 pub use head::{Head, HEAD};
 pub use journal::DiskError;
 pub use memory::Memory;
+pub use notice::Notice;
+pub use notices::notices_path;
 pub use outcome::Outcome;
 pub use recorder::{Recorder, StationRecorder};
 pub use refusal::Refusal;
@@ -107,8 +113,11 @@ pub const WRITTEN: usize = 48;
 pub const SNAPSHOTS: usize = 768;
 /// Bytes of a block. The places have so many for each replica of the group.
 pub const BLOCK: usize = 512;
-/// The most steps of one [`Replica::take`]: 6 blocks wait at most, of 6 writesets each.
-pub const STEPS: usize = 36;
+/// The most steps of one [`Replica::take`], while not all replicas are out at once: 6 blocks wait at most, of
+/// 6 writesets each, and behind them come at most 5 slots that are out.
+pub const STEPS: usize = 41;
+/// The most slots that one [`Replica::take`] leaves, so: 6 with a block, and 5 that are out.
+pub const LEFT: usize = 11;
 /// In the place of an own number: a station, which has none.
 pub const NO_NUMBER: u8 = 255;
 

@@ -10,7 +10,7 @@ use self::list::{answered, hex, List};
 pub use self::station::StationRecorder;
 use crate::ffi::WorkReply;
 use crate::replica::works;
-use crate::{Asked, Refusal, Replica, Report, Restarted, Taken, Work, BLOCK, ITEMS};
+use crate::{Asked, Notice, Refusal, Replica, Report, Restarted, Taken, Work, BLOCK, ITEMS};
 
 /// The most bytes that a line of the list delivers, restarts from, and loads.
 const DELIVERED: usize = 520;
@@ -78,28 +78,31 @@ impl<C: Write, A: Write> Recorder<C, A> {
     /// As [`Replica::restart`], with the sinks of the calls and the answers. Where it is refused, nothing
     /// is written.
     ///
-    /// A line has room for a journal of 2,100 bytes. A longer one is written by calls: a second replica,
-    /// made for that, takes the others' blocks and sends the own ones once more, with tickets, writes and
-    /// asks as they have them; then the list restarts it from these blocks. The program keeps 128. Behind
-    /// more the second replica goes on as it is, which differs from the restarted one in how its tickets
-    /// ended, if in anything: then reports are left out. A journal that no replica could have written
-    /// stops the recording, which [`Recorder::stopped`] tells; so does one from which more than 1,000,000
-    /// tickets are missing, each of which the list would begin and withdraw.
+    /// A line has room for a journal of 2,100 bytes, and for no notices. A longer one, or one with notices, is
+    /// written by calls: a second replica, made for that, takes the notices and the others' blocks and sends
+    /// the own ones once more, with tickets, writes and asks as they have them; then the list restarts it
+    /// from these blocks. The program keeps 128, and 32 notices. Behind more the second replica goes on as it
+    /// is, which differs from the restarted one in how its tickets ended, if in anything: then reports are
+    /// left out. A journal that no replica could have written, with these notices, stops the recording, which
+    /// [`Recorder::stopped`] tells; so does one from which more than 1,000,000 tickets are missing, each of
+    /// which the list would begin and withdraw.
+    #[allow(clippy::too_many_arguments)]
     pub fn restart(
         n: u32,
         own: u32,
         values: &[i32; ITEMS],
         journal: &[u8],
+        notices: &[Notice],
         calls: C,
         answers: A,
     ) -> Result<(Recorder<C, A>, Restarted), Refusal> {
-        let (replica, restarted) = Replica::restart(n, own, values, journal)?;
+        let (replica, restarted) = Replica::restart(n, own, values, journal, notices)?;
         let answer = format!(
             "0 {} {}",
             restarted.blocks,
             hex(&restarted.last.unwrap_or([0; BLOCK]))
         );
-        let list = if journal.len() <= RESTARTED {
+        let list = if journal.len() <= RESTARTED && notices.is_empty() {
             let mut list = List::new(own, values, calls, answers);
             let lent = format!(" {n} {own} {} {}", list.value, hex(journal));
             list.record('Y', &lent, &answer);
@@ -107,7 +110,7 @@ impl<C: Write, A: Write> Recorder<C, A> {
         } else {
             let mut second = Recorder::new(n, own, values, calls, answers)?;
             let taken = BLOCK * restarted.blocks as usize;
-            second.take_up(&journal[..taken], &replica, &answer);
+            second.take_up(&journal[..taken], notices, &replica, &answer);
             second.list
         };
         Ok((Recorder { replica, list }, restarted))
@@ -250,11 +253,27 @@ impl<C: Write, A: Write> Recorder<C, A> {
         answer
     }
 
+    /// As [`Replica::out`].
+    pub fn out(&mut self, replica: u32, slot: u32) -> Result<(), Refusal> {
+        let answer = self.replica.out(replica, slot);
+        let said = format!(" {replica} {slot}");
+        self.list.record('O', &said, &accepted(&answer));
+        answer
+    }
+
+    /// As [`Replica::back`].
+    pub fn back(&mut self, replica: u32, slot: u32) -> Result<(), Refusal> {
+        let answer = self.replica.back(replica, slot);
+        let said = format!(" {replica} {slot}");
+        self.list.record('U', &said, &accepted(&answer));
+        answer
+    }
+
     /// As [`Replica::take`]; it is recorded as its deliver and its works.
     pub fn take(&mut self, bytes: &[u8]) -> Result<Taken, Refusal> {
         self.deliver(bytes)?;
         let waits = |recorder: &Self| recorder.replica.waits();
-        Ok(works(self, waits, Recorder::work))
+        Ok(works(self, waits, Recorder::work, |work| work.moved))
     }
 }
 

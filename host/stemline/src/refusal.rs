@@ -12,7 +12,7 @@ use std::{error, fmt};
 pub enum Refusal {
     /// 1: a lent slice has not its exact length.
     WrongLength,
-    /// 2: the number of replicas, the own number, the item or a class.
+    /// 2: the number of replicas, the own number, the item, a class, or the replica or slot of a notice.
     OutOfRange,
     /// 3: no open transaction has this ticket.
     NotOpen,
@@ -48,7 +48,8 @@ pub enum Refusal {
     /// 17: the block's slot is processed already.
     PastSlot,
     /// 18: the block's slot is n or more ahead of the turn. A station is to be offered the block again: see
-    /// [`crate::Station::take`]. At a replica no block that its group handed out is refused so.
+    /// [`crate::Station::take`]; so is a replica that is out, or was. At another no block that its group
+    /// handed out is refused so.
     FarSlot,
     /// 19: the block names this replica as its sender, and is not the one that it sent.
     NotSent,
@@ -60,6 +61,13 @@ pub enum Refusal {
     LoadWhileApplying,
     /// 25: a write or a send on the memory of a station. A [`crate::Station`] has neither call.
     StationOnlyReads,
+    /// 28: the notice does not fit. Its slot is passed; Out of a replica that is out already, that comes back
+    /// above the turn, or of which a block at or behind the slot is here; Back of one that is not out, or not
+    /// behind its Out.
+    NoticeRefused,
+    /// 29: the slot is out. No block is sent for it; one that comes is to be offered again where a Back is
+    /// still to be taken.
+    SlotOut,
     /// A number that the table does not have: the library is newer than this crate.
     Unknown(u8),
 }
@@ -68,15 +76,15 @@ pub enum Refusal {
 const UNKNOWN: &str = "refused by an unknown number";
 
 /// The cases in the order of their numbers, from 1 on, and what each says; `stemline_words` of the C
-/// header says the same. The documents have no 24.
-const TABLE: [(Refusal, &str); 25] = [
+/// header says the same. The documents have no 24; 26 and 27 are the program `week`'s.
+const TABLE: [(Refusal, &str); 29] = [
     (
         Refusal::WrongLength,
         "a lent slice has not its exact length",
     ),
     (
         Refusal::OutOfRange,
-        "the number of replicas, the own number, the item or a class is out of range",
+        "the number of replicas, the own number, the item, a class, or a notice's replica or slot is out of range",
     ),
     (Refusal::NotOpen, "no open transaction has this ticket"),
     (
@@ -129,6 +137,13 @@ const TABLE: [(Refusal, &str); 25] = [
     ),
     (Refusal::Unknown(24), UNKNOWN),
     (Refusal::StationOnlyReads, "a station neither writes nor sends"),
+    (Refusal::Unknown(26), UNKNOWN),
+    (Refusal::Unknown(27), UNKNOWN),
+    (
+        Refusal::NoticeRefused,
+        "the notice does not fit the turn, the notices taken before or a block that is here",
+    ),
+    (Refusal::SlotOut, "the slot is out by a notice"),
 ];
 
 impl Refusal {
@@ -191,7 +206,7 @@ mod tests {
         for number in 1..=u8::MAX {
             let refusal = Refusal::from_number(number).unwrap();
             assert_eq!(refusal.number(), number);
-            let known = matches!(number, 1..=21 | 23 | 25);
+            let known = matches!(number, 1..=21 | 23 | 25 | 28 | 29);
             assert_eq!(matches!(refusal, Refusal::Unknown(_)), !known);
         }
     }
@@ -202,7 +217,8 @@ mod tests {
         assert_eq!(words(14), "the block's check does not match (14)");
         assert_eq!(words(24), "refused by an unknown number (24)");
         assert_eq!(words(26), "refused by an unknown number (26)");
-        let said: Vec<&str> = (1..=26)
+        assert_eq!(words(30), "refused by an unknown number (30)");
+        let said: Vec<&str> = (1..=30)
             .map(|number| Refusal::from_number(number).unwrap().words())
             .collect();
         let known: Vec<&str> = said
@@ -211,8 +227,8 @@ mod tests {
             .filter(|&words| words != UNKNOWN)
             .collect();
         assert!((1..known.len()).all(|at| !known[..at].contains(&known[at])));
-        assert_eq!([21, 23, 25].map(|at| said[at]), [UNKNOWN; 3]);
-        assert_eq!(known.len(), 23);
+        assert_eq!([21, 23, 25, 26, 29].map(|at| said[at]), [UNKNOWN; 5]);
+        assert_eq!(known.len(), 25);
         let boxed: Box<dyn error::Error> = Box::new(Refusal::Stale);
         assert!(boxed.to_string().ends_with("(9)"));
         // What std prints of a main that ends in an error.
@@ -230,5 +246,7 @@ mod tests {
         assert_eq!(Refusal::from_number(22), Some(Refusal::Unknown(22)));
         assert_eq!(Refusal::from_number(23), Some(Refusal::LoadWhileApplying));
         assert_eq!(Refusal::from_number(25), Some(Refusal::StationOnlyReads));
+        assert_eq!(Refusal::from_number(28), Some(Refusal::NoticeRefused));
+        assert_eq!(Refusal::from_number(29), Some(Refusal::SlotOut));
     }
 }

@@ -13,8 +13,8 @@ use crate::{Stop, BLOCK};
 pub struct Reopened {
     /// The blocks of the journal that are taken up.
     pub blocks: u32,
-    /// The last own block among them. It is to be handed out once more: the cut may have come before
-    /// it first was.
+    /// The last own block among them whose slot is not out. It is to be handed out once more: the cut may
+    /// have come before it first was.
     pub last: Option<[u8; BLOCK]>,
     /// How many bytes were behind them, and are cut off.
     pub cut: u64,

@@ -4,12 +4,16 @@ use crate::Refusal;
 
 impl Refusal {
     /// Whether it is what a line brings that loses, repeats and delays blocks: the block was processed (17), is
-    /// too far ahead (18), is an own one of another turn (19) or waits already (20). A host passes over it;
-    /// what is too far ahead comes again.
+    /// too far ahead (18), is an own one of another turn (19), waits already (20), or comes before the notice
+    /// that its sender is back (29). A host passes over it; what is too early comes again.
     pub fn is_repeat(self) -> bool {
         matches!(
             self,
-            Refusal::PastSlot | Refusal::FarSlot | Refusal::NotSent | Refusal::SlotTaken
+            Refusal::PastSlot
+                | Refusal::FarSlot
+                | Refusal::NotSent
+                | Refusal::SlotTaken
+                | Refusal::SlotOut
         )
     }
 }
@@ -22,7 +26,8 @@ mod tests {
     fn by_number() {
         for number in 1..=u8::MAX {
             let refusal = Refusal::from_number(number).unwrap();
-            assert_eq!(refusal.is_repeat(), (17..=20).contains(&number), "{number}");
+            let due = matches!(number, 17..=20 | 29);
+            assert_eq!(refusal.is_repeat(), due, "{number}");
         }
     }
 }

@@ -2,8 +2,8 @@
 
 use crate::ffi::{self, WorkReply};
 use crate::{
-    accepted, owner, Asked, Memory, Refusal, Report, Restarted, Taken, Work, BLOCK, ITEMS,
-    NO_NUMBER, SLOTS, STEPS,
+    accepted, owner, Asked, Memory, Notice, Refusal, Report, Restarted, Taken, Work, BLOCK, ITEMS,
+    LEFT, NO_NUMBER, SLOTS, STEPS,
 };
 
 /// One replica of a group.
@@ -43,6 +43,9 @@ impl Replica {
     /// next slot. Transactions that were open are gone; tickets go on above the highest in its own
     /// blocks; classes are to be loaded anew. Refused by 2; the journal may have any length.
     ///
+    /// The notices are all that were taken, in order, and are put in force untested. The block given back
+    /// is the last own one whose slot they do not put out.
+    ///
     /// Before the block given back is handed out, the journal is cut behind the blocks committed and
     /// made durable.
     pub fn restart(
@@ -50,6 +53,7 @@ impl Replica {
         own: u32,
         values: &[i32; ITEMS],
         journal: &[u8],
+        notices: &[Notice],
     ) -> Result<(Replica, Restarted), Refusal> {
         let mut memory = Box::new(Memory::zero(n));
         let mut block = [0; BLOCK];
@@ -72,6 +76,10 @@ impl Replica {
             &mut m.places,
             &mut m.outbox,
             journal,
+            &notices
+                .iter()
+                .flat_map(|notice| notice.numbers())
+                .collect::<Vec<_>>(),
             &mut block,
         );
         let restarted = Restarted {
@@ -168,18 +176,19 @@ impl Replica {
         ffi::report(&m.table, &m.turn, &m.counts).report
     }
 
-    /// Whether a [`Replica::send`] would be accepted now: the turn is a slot of this replica, its block
-    /// for that slot is not sent yet, and slots are left.
+    /// Whether a [`Replica::send`] would be accepted now: the turn is a slot of this replica that is not
+    /// out, its block for that slot is not sent yet, and slots are left.
     #[inline]
     pub fn is_turn(&self) -> bool {
         let (group, turn) = (&self.memory.group, &self.memory.turn);
         let is_owner = owner(turn.slot, group.replicas.into()) == group.own.into();
-        turn.slot < SLOTS && is_owner && group.own != NO_NUMBER && turn.sent == 0
+        let is_free = group.own != NO_NUMBER && turn.sent == 0;
+        turn.slot < SLOTS && is_owner && is_free && !group.is_out(turn.slot)
     }
 
     /// The block for the own slot, with the writesets of all transactions asked so far, be it none. It
     /// goes to every replica of the group, this one too; where there is a journal, once it stands there
-    /// and is durable. Refused by 25, 13, 11, 12.
+    /// and is durable. Refused by 25, 13, 11, 29, 12.
     #[inline]
     pub fn send(&mut self) -> Result<[u8; BLOCK], Refusal> {
         let mut block = [0; BLOCK];
@@ -197,7 +206,7 @@ impl Replica {
         accepted(number, block)
     }
 
-    /// Keeps a block until its slot is the turn. Refused by 1, 14, 15, 16, 17, 18, 19, 20.
+    /// Keeps a block until its slot is the turn. Refused by 1, 14, 15, 16, 17, 29, 18, 19, 20.
     #[inline]
     pub fn deliver(&mut self, bytes: &[u8]) -> Result<(), Refusal> {
         let m = &mut *self.memory;
@@ -206,7 +215,7 @@ impl Replica {
     }
 
     /// Takes one step at the block of the turn: commits its next writeset, or passes over a block
-    /// without records. Refused by 1, 21.
+    /// without records, or over a slot that is out. Refused by 1, 21.
     #[inline]
     pub fn work(&mut self) -> Result<Work, Refusal> {
         let mut block = [0; BLOCK];
@@ -232,12 +241,15 @@ impl Replica {
         )
     }
 
-    /// Whether a block waits for the turn: where none does, and only there, a [`Replica::work`] is refused
-    /// by 21.
+    /// Whether a block waits for the turn, or its slot is out: where neither is, and only there, a
+    /// [`Replica::work`] is refused by 21.
     #[inline]
     pub fn waits(&self) -> bool {
         let m = &*self.memory;
         let n = m.group.replicas;
+        if m.group.is_out(m.turn.slot) {
+            return true;
+        }
         // Only in altered memory have the places another length, and is n 0.
         let refused_by_1 = m.places.len() != BLOCK * usize::from(n);
         let place = m.turn.slot.checked_rem(n.into());
@@ -255,32 +267,55 @@ impl Replica {
         accepted(ffi::load(&m.turn, &mut m.classes, classes), ())
     }
 
+    /// Takes the notice *Out `replica` from `slot`*: from that slot on its slots need no block, and
+    /// [`Replica::work`] passes them as a *next*, which goes to the journal. Refused by 2, 28.
+    ///
+    /// Behind it the turn may stand at a slot that is out: [`Replica::waits`].
+    pub fn out(&mut self, replica: u32, slot: u32) -> Result<(), Refusal> {
+        let m = &mut *self.memory;
+        let number = ffi::out(&mut m.group, &m.turn, &m.places, replica, slot);
+        accepted(number, ())
+    }
+
+    /// Takes the notice *Back `replica` at `slot`*: from that slot on its slots count again. Refused by 2,
+    /// 28.
+    pub fn back(&mut self, replica: u32, slot: u32) -> Result<(), Refusal> {
+        let m = &mut *self.memory;
+        let number = ffi::back(&mut m.group, &m.turn, &m.places, replica, slot);
+        accepted(number, ())
+    }
+
     /// What a replica does with a block that arrives: delivers it, then works until nothing waits for the
     /// turn. Gives the steps in their order: none where the block is early and has to wait; those of
     /// blocks that waited already too, where this is the one that they waited for. What they give to
     /// append goes to the journal.
     ///
-    /// Refused by 1, 14, 15, 16, 17, 18, 19, 20, as the deliver is: nothing is worked, and what waits
+    /// Refused by 1, 14, 15, 16, 17, 29, 18, 19, 20, as the deliver is: nothing is worked, and what waits
     /// already goes on waiting. So it is with a block that comes a second time (17 or 20), which a
     /// host may pass over.
     ///
-    /// Only altered memory leads to more than [`STEPS`] steps, of which the rest is left to the next take.
+    /// Only altered memory, and slots of which all are out, lead to more than [`STEPS`] steps or [`LEFT`]
+    /// slots; the rest is left to the next take.
     pub fn take(&mut self, bytes: &[u8]) -> Result<Taken, Refusal> {
         self.deliver(bytes)?;
-        Ok(works(self, Replica::waits, Replica::work))
+        Ok(works(self, Replica::waits, Replica::work, |work| {
+            work.moved
+        }))
     }
 }
 
-/// The works behind the deliver of a take: as long as a block waits for the turn.
+/// The works behind the deliver of a take: as long as a block waits for the turn, or its slot is out.
 pub(crate) fn works<R, W>(
     replica: &mut R,
     waits: impl Fn(&R) -> bool,
     mut work: impl FnMut(&mut R) -> Result<W, Refusal>,
+    moved: impl Fn(&W) -> bool,
 ) -> Taken<W> {
-    let mut steps = Vec::new();
-    while steps.len() < STEPS && waits(replica) {
+    let (mut steps, mut left) = (Vec::new(), 0);
+    while steps.len() < STEPS && left < LEFT && waits(replica) {
         // Only at altered memory is it refused.
         let Ok(step) = work(replica) else { break };
+        left += usize::from(moved(&step));
         steps.push(step);
     }
     Taken { steps }

@@ -11,7 +11,8 @@ use crate::{accepted, Memory, Refusal, Replica, Report, Step, Taken, BLOCK, ITEM
 /// comes too early. It has no journal and no restart: after a cut of the power it is made anew, with the
 /// values that the group started with, and needs all blocks again. The journal of a replica, as far as it
 /// is durable, has them in order; block `turn` of it is what a station takes next, where `turn` is that
-/// of its [`Station::report`].
+/// of its [`Station::report`]. Of a slot that is out there is nothing to take: the station takes the notices
+/// too, and passes it by [`Station::work`].
 ///
 /// ```
 /// use stemline::{Refusal, Replica, Station, Step, ITEMS};
@@ -64,7 +65,7 @@ use crate::{accepted, Memory, Refusal, Replica, Report, Step, Taken, BLOCK, ITEM
 /// ```
 ///
 /// ```compile_fail,E0599
-/// stemline::Station::restart(2, 0, &[0; 128], &[]);
+/// stemline::Station::restart(2, 0, &[0; 128], &[], &[]);
 /// ```
 #[derive(Clone, Debug, PartialEq, Eq)]
 pub struct Station {
@@ -149,7 +150,7 @@ impl Station {
         self.replica.report()
     }
 
-    /// Keeps a block until its slot is the turn. Refused by 1, 14, 15, 16, 17, 18, 20; of 18
+    /// Keeps a block until its slot is the turn. Refused by 1, 14, 15, 16, 17, 29, 18, 20; of 18
     /// [`Station::take`] says more.
     #[inline]
     pub fn deliver(&mut self, bytes: &[u8]) -> Result<(), Refusal> {
@@ -157,7 +158,7 @@ impl Station {
     }
 
     /// Takes one step at the block of the turn: commits its next writeset, or passes over a block without
-    /// records. Refused by 1, 21.
+    /// records, or over a slot that is out. Refused by 1, 21.
     #[inline]
     pub fn work(&mut self) -> Result<Step, Refusal> {
         Step::of(&self.replica.step(&mut [0; BLOCK]))
@@ -169,6 +170,16 @@ impl Station {
         self.replica.waits()
     }
 
+    /// As [`Replica::out`]. A station takes the notices of its group too. Refused by 2, 28.
+    pub fn out(&mut self, replica: u32, slot: u32) -> Result<(), Refusal> {
+        self.replica.out(replica, slot)
+    }
+
+    /// As [`Replica::back`]. Refused by 2, 28.
+    pub fn back(&mut self, replica: u32, slot: u32) -> Result<(), Refusal> {
+        self.replica.back(replica, slot)
+    }
+
     /// What a station does with a block that arrives, as [`Replica::take`]: delivers it, then works until
     /// nothing waits for the turn.
     ///
@@ -177,6 +188,8 @@ impl Station {
     /// sender will not hand it out for ever.
     pub fn take(&mut self, bytes: &[u8]) -> Result<Taken<Step>, Refusal> {
         self.deliver(bytes)?;
-        Ok(works(self, Station::waits, Station::work))
+        Ok(works(self, Station::waits, Station::work, |step| {
+            step.moved
+        }))
     }
 }

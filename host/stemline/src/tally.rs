@@ -15,9 +15,9 @@ pub(crate) struct Tally {
     pub digests: Digests,
     /// The own tickets among these, each with its place in the sequence, counted from 1.
     pub committed: Vec<(u32, u32)>,
-    /// The blocks up to the last own one, from behind the one before.
+    /// The blocks up to the last own slot, from behind the one before.
     pub last: Option<Round>,
-    /// The blocks behind the last own one.
+    /// The blocks behind the last own slot.
     pub since: Vec<[u8; BLOCK]>,
 }
 
@@ -47,7 +47,11 @@ impl Tally {
         if own {
             let blocks = std::mem::take(&mut self.since);
             let first = self.turn - blocks.len() as u32;
-            self.last = Some(Round { first, blocks });
+            self.last = Some(Round {
+                first,
+                blocks,
+                notices: 0,
+            });
         }
     }
 }

@@ -5,6 +5,7 @@ use mathlib.Core.Bool.{true}
 use native.Mathlib.Omega.{arith}
 use borrow.Author.Tests.{not-true, not-false}
 use lib.ListN.{length}
+use Rattle.call_reply.specs.Notices.{noticesIn}
 use Rattle.call_journal.specs.declared.JournalTally.{JournalTally}
 use Rattle.call_journal.specs.Replays.{replayed, tallied}
 use Rattle.call_journal.proofs.JournalLaws.{isNext, lent-block, block-long, next-is, rest-stop, rest-none, Replaying, replay-start, replay-end, replay-room, replay-turn}
@@ -13,25 +14,25 @@ use Rattle.call_journal.proofs.read_journal.Statement.{statement}
 use Rattle.call_journal.proofs.read_journal.Tie as tie
 
 abbrev Inv-loop : tie.InvT-loop
-Inv-loop n own journal values₀ stamps₀ most tally₀ values stamps tally =
-    (length values ≡ length values₀) × (length stamps ≡ length stamps₀) × Replaying n own journal (replayed 0 values₀ stamps₀) values stamps tally
+Inv-loop n own journal notices values₀ stamps₀ most tally₀ values stamps tally =
+    (length values ≡ length values₀) × (length stamps ≡ length stamps₀) × Replaying n own journal (noticesIn notices) (replayed 0 values₀ stamps₀) values stamps tally
 
 abbrev μ-loop : tie.MeasureT-loop
-μ-loop n own journal values₀ stamps₀ most tally₀ values stamps tally = most - tally .blocks
+μ-loop n own journal notices values₀ stamps₀ most tally₀ values stamps tally = most - tally .blocks
 
 -- past the test the block is the next
 next : (c : tie.Else2 Inv-loop μ-loop) →
     let b = c .before .before .before .before .before .before in
-    let a = b .before .before .before .args in
+    let a = b .before .before .before .before .args in
     isNext (a .n) (a .journal .now) (b .loop .tally .blocks) ≡ true
 next c =
     let q = c .before in
     let b = q .before .before .before .before .before in
-    let a = b .before .before .before .args in
+    let a = b .before .before .before .before .args in
     next-is (a .n) (a .journal .now) (b .loop .tally .blocks) (q .is-next .result) (q .is-next .ensures) ∙ not-false _ (c .if2 .left)
 
 loop-holds : tie.Need-loop-holds Inv-loop μ-loop
-loop-holds c = let a = c .before .before .args in (refl, refl, replay-start (a .n) (a .own) (a .journal .now) (a .values .now) (a .stamps .now))
+loop-holds c = let a = c .before .before .before .args in (refl, refl, replay-start (a .n) (a .own) (a .journal .now) (noticesIn (a .notices .now)) (a .values .now) (a .stamps .now))
 
 cast-if1 : tie.Need-cast-if1 Inv-loop μ-loop
 cast-if1 c = search needs
@@ -67,24 +68,24 @@ returns : tie.Need-returns Inv-loop μ-loop
 returns c =
     let q = c .before in
     let b = q .before .before .before .before .before in
-    let a = b .before .before .before .args in
+    let a = b .before .before .before .before .args in
     let i = b .loop .tally .blocks in
-    replay-end (a .n) (a .own) (a .journal .now) _ (b .loop .values) (b .loop .stamps) (b .loop .tally) (b .loop .inv .2)
+    replay-end (a .n) (a .own) (a .journal .now) (noticesIn (a .notices .now)) _ (b .loop .values) (b .loop .stamps) (b .loop .tally) (b .loop .inv .2)
     (rest-stop (a .n) (a .journal .now) i (omega arith) (next-is (a .n) (a .journal .now) i (q .is-next .result) (q .is-next .ensures) ∙ not-true _ (c .if2 .taken)))
 
 commit-block-requires : tie.Need-commit-block-requires Inv-loop μ-loop
 commit-block-requires c κs =
     let b = c .before .before .before .before .before .before .before .before in
-    let a = b .before .before .before .args in
+    let a = b .before .before .before .before .args in
     block-long (a .n) (a .journal .now) (b .loop .tally .blocks) (omega arith)
 
 count-block-requires : tie.Need-count-block-requires Inv-loop μ-loop
 count-block-requires c κs =
     let e = c .before .before .before .before .before .before in
     let b = e .before .before .before .before .before .before in
-    let a = b .before .before .before .args in
+    let a = b .before .before .before .before .args in
     let i = b .loop .tally .blocks in
-    let r = replay-room (a .n) (a .own) (a .journal .now) _ (b .loop .values) (b .loop .stamps) (b .loop .tally) (b .loop .inv .2) (omega arith) (next e) in
+    let r = replay-room (a .n) (a .own) (a .journal .now) (noticesIn (a .notices .now)) _ (b .loop .values) (b .loop .stamps) (b .loop .tally) (b .loop .inv .2) (omega arith) (next e) in
     (block-long (a .n) (a .journal .now) i (omega arith), r .0, rw (lent-block (a .n) (a .journal .now) i) (r .1))
 
 loop-less : tie.Need-loop-less Inv-loop μ-loop
@@ -99,7 +100,7 @@ loop-again c =
     let p = c .before .before .before .before in
     let e = p .before .before .before in
     let b = e .before .before .before .before .before .before in
-    let a = b .before .before .before .args in
+    let a = b .before .before .before .before .args in
     let i = b .loop .tally .blocks in
     let v : length (p .commit-block .last .0) ≡ length (b .loop .values) = p .commit-block .kept .0 in
     let s : length (p .commit-block .last .1 .0) ≡ length (b .loop .stamps) = p .commit-block .kept .1 .0 in
@@ -107,7 +108,7 @@ loop-again c =
       v ∙ b .loop .inv .0,
       s ∙ b .loop .inv .1,
       rw (c .count-block .ensures, l)
-          (replay-turn (a .n) (a .own) (a .journal .now) _ (b .loop .values) (b .loop .stamps) (b .loop .tally) (b .loop .inv .2) (omega arith) (next e)
+          (replay-turn (a .n) (a .own) (a .journal .now) (noticesIn (a .notices .now)) _ (b .loop .values) (b .loop .stamps) (b .loop .tally) (b .loop .inv .2) (omega arith) (next e)
           (p .commit-block .result) (p .commit-block .last .0) (p .commit-block .last .1 .0) (rw l at (p .commit-block .ensures))),
     )
 
@@ -120,8 +121,8 @@ same-length-4 c = search needs
 returns-2 : tie.Need-returns-2 Inv-loop μ-loop
 returns-2 c =
     let b = c .before .before in
-    let a = b .before .before .before .args in
-    replay-end (a .n) (a .own) (a .journal .now) _ (b .loop .values) (b .loop .stamps) (b .loop .tally) (b .loop .inv .2)
+    let a = b .before .before .before .before .args in
+    replay-end (a .n) (a .own) (a .journal .now) (noticesIn (a .notices .now)) _ (b .loop .values) (b .loop .stamps) (b .loop .tally) (b .loop .inv .2)
     (rest-none (a .n) (a .journal .now) (b .loop .tally .blocks) (omega arith))
 
 pub read-journal-spec : {M : Type 1} → statement M

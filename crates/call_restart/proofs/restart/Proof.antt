@@ -1,21 +1,26 @@
 -- `restart` meets its contract: refused as its make is, or what the journal's blocks leave of the parts just made.
-use mathlib.Core.Path.{_≡_, refl, _∙_}
+use Prim.Native.Nat.{_%_}
+use mathlib.Core.Path.{_≡_, refl, sym, ap, _∙_}
+use mathlib.Core.Bool.{true, _&&_}
 use mathlib.Core.List.{List, []}
-use native.Mathlib.Omega.{arith}
+use lib.Dec.{eqb}
+use borrow.Author.Tests.{not-true, not-false}
 use lib.ListN.{length, replicate}
 use Rattle.memory.specs.declared.Counts.{Counts}
 use Rattle.memory.specs.declared.Group.{Group}
 use Rattle.memory.specs.declared.Turn.{Turn}
 use Rattle.memory.specs.declared.Txn.{Txn}
 use Rattle.memory.specs.Memory.{Memory, groupOf}
+use Rattle.memory.specs.Notices.{withNotices}
 use Rattle.memory.specs.Rows.{closed}
 use Rattle.engine.specs.Make.{turnZero, countsZero}
 use Rattle.call_reply.specs.Parts.{allParts}
 use Rattle.call_reply.specs.Replies.{restartReply}
+use Rattle.call_reply.specs.Notices.{noticesIn}
 use Rattle.call_reply.proofs.ReplyLaws.{gives-with}
-use Rattle.call_make.proofs.MakeLaws.{Given, if-refused}
+use Rattle.call_make.proofs.MakeLaws.{if-refused}
 use Rattle.call_restart.specs.Answered.{answered}
-use Rattle.call_restart.proofs.AnswerLaws.{restart-other, restart-refused, restart-given, restart-taken, restart-turn, restart-counts}
+use Rattle.call_restart.proofs.AnswerLaws.{restart-other, restart-long, restart-refused, restart-taken, restart-turn, restart-counts}
 use borrow.Author.Needs.{needs}
 use Rattle.call_restart.proofs.restart.Statement.{statement}
 use Rattle.call_restart.proofs.restart.Tie as tie
@@ -26,15 +31,23 @@ before s group turn counts rows =
     let a = s .args in
     allParts group turn counts rows (a .queue .now) (a .items .now) (a .writes .now) (a .snapshots .now) (a .values .now) (a .stamps .now) (a .classes .now) (a .places .now) (a .outbox .now)
 
+lent-fit-requires : tie.Need-lent-fit-requires
+lent-fit-requires c κs = search needs
+
 refused-requires : tie.Need-refused-requires
 refused-requires c κs = search needs
 
 returns : tie.Need-returns
 returns c =
-    let s = c .before .before .before .before .before .before .before .before .before .before in
+    let f = c .before .before in
+    let s = f .before .before .before .before .before .before .before .before .before .before in
     let a = s .args in
     rw (c .refused .ensures)
-    (λ group turn counts rows. gives-with restartReply (a .block .now) (restart-other (before s group turn counts rows) (a .n) (a .own) (a .start .now) (a .journal .now) (a .block .now) (c .before .if1 .taken)), refl, refl, refl)
+    (λ group turn counts rows. gives-with restartReply (a .block .now) (restart-other (before s group turn counts rows) (a .n) (a .own) (a .start .now) (a .journal .now) (a .notices .now) (a .block .now) (sym (f .lent-fit .ensures) ∙ not-true _ (c .before .if1 .taken))), refl, refl, refl)
+
+-- the lengths, where they fit
+fitting : (c : tie.Else1) → let a = c .before .before .before .before .before .before .before .before .before .before .before .args in (eqb (length (a .notices .now) % 3) 0 && eqb (length (a .block .now)) 512) ≡ true
+fitting c = sym (c .before .lent-fit .ensures) ∙ not-false _ (c .if1 .left)
 
 make-requires : tie.Need-make-requires
 make-requires c κs = search needs
@@ -46,104 +59,96 @@ same-length : tie.Need-same-length
 same-length c = c .before .before .before .before .before .before .before .before .before .before .before .before .before .before .before .before .before .before .make .kept .1 .1 .1 .0
 
 same-length-2 : tie.Need-same-length-2
-same-length-2 c = search needs
+same-length-2 c = c .before .before .before .before .before .before .before .before .before .before .before .before .before .before .before .before .before .before .make .kept .1 .1 .1 .1 .0
 
 same-length-3 : tie.Need-same-length-3
-same-length-3 c = search needs
+same-length-3 c = c .before .before .before .before .before .before .before .before .before .before .before .before .before .before .before .before .before .before .make .kept .1 .1 .1 .1 .1 .0
 
 same-length-4 : tie.Need-same-length-4
-same-length-4 c = search needs
+same-length-4 c = c .before .before .before .before .before .before .before .before .before .before .before .before .before .before .before .before .before .before .make .kept .1 .1 .1 .1 .1 .1 .0
 
 same-length-5 : tie.Need-same-length-5
-same-length-5 c = search needs
+same-length-5 c = c .before .before .before .before .before .before .before .before .before .before .before .before .before .before .before .before .before .before .make .kept .1 .1 .1 .1 .1 .1 .1 .0
 
 same-length-6 : tie.Need-same-length-6
-same-length-6 c = search needs
+same-length-6 c = c .before .before .before .before .before .before .before .before .before .before .before .before .before .before .before .before .before .before .make .kept .1 .1 .1 .1 .1 .1 .1 .1 .0
 
 same-length-7 : tie.Need-same-length-7
-same-length-7 c = search needs
+same-length-7 c = c .before .before .before .before .before .before .before .before .before .before .before .before .before .before .before .before .before .before .make .kept .1 .1 .1 .1 .1 .1 .1 .1 .1 .0
 
 same-length-8 : tie.Need-same-length-8
-same-length-8 c = search needs
+same-length-8 c = c .before .before .before .before .before .before .before .before .before .before .before .before .before .before .before .before .before .before .make .kept .1 .1 .1 .1 .1 .1 .1 .1 .1 .1 .0
 
 same-length-9 : tie.Need-same-length-9
-same-length-9 c = search needs
+same-length-9 c = c .before .before .before .before .before .before .before .before .before .before .before .before .before .before .before .before .before .before .make .kept .1 .1 .1 .1 .1 .1 .1 .1 .1 .1 .1 .0
 
 returns-2 : tie.Need-returns-2
 returns-2 c =
     let d = c .before .before .before .before .before .before .before .before .before .before .before .before .before .before .before .before .before .before in
-    let s = d .before .before .before .before .before .before .before .before .before .before .before .before .before .before .before .before .before .before .before in
+    let s = d .before .before .before .before .before .before .before .before .before .before .before .before .before .before .before .before .before .before .before .before .before in
     let a = s .args in
     rw (c .refused2 .ensures) (
       λ group turn counts rows.
           gives-with restartReply (a .block .now)
-          (restart-refused (before s group turn counts rows) (a .n) (a .own) (a .start .now) (a .journal .now) (a .block .now) (d .before .before .before .before .before .before .before .before .before .before .if1 .left)
+          (restart-refused (before s group turn counts rows) (a .n) (a .own) (a .start .now) (a .journal .now) (a .notices .now) (a .block .now) (fitting (d .before .before .before .before .before .before .before .before .before .before))
           (d .make .result .number) _ (d .make .ensures .0 group turn counts rows) (c .before .if2 .taken) _ _ _ (replicate 6 closed)),
       if-refused _ _ _ (c .before .if2 .taken),
       if-refused _ _ _ (c .before .if2 .taken),
       if-refused _ _ _ (c .before .if2 .taken),
     )
 
--- what is known once the restart is not refused
-taken : (c : tie.Else2) → let s = c .before .before .before .before .before .before .before .before .before .before .before .before .before .before .before .before .before .before .before .before .before .before .before .before .before .before .before .before .before .before .before .before .before .before .before .before in Given (before s (groupOf 0 0) turnZero countsZero []) (s .args .n) (s .args .own) (s .args .start .now)
-taken c =
-    let d = c .before .before .before .before .before .before .before .before .before .before .before .before .before .before .before .before .before in
-    let s = d .before .before .before .before .before .before .before .before .before .before .before .before .before .before .before .before .before .before .before in
-    let a = s .args in
-    restart-given (before s (groupOf 0 0) turnZero countsZero []) (a .n) (a .own) (a .start .now) (a .journal .now) (a .block .now) (d .before .before .before .before .before .before .before .before .before .before .if1 .left)
-    (d .make .result .number) _ (d .make .ensures .0 (groupOf 0 0) turnZero countsZero []) (c .if2 .left)
-
 read-journal-requires : tie.Need-read-journal-requires
 read-journal-requires c κs = search needs
 
 give-back-requires : tie.Need-give-back-requires
-give-back-requires c κs = (c .before .before .before .before .before .before .before .before .before .before .before .before .before .before .before .before .before .before .before .before .before .before .before .before .before .before .before .before .before .before .before .before .before .before .if1 .left, c .before .before .before .before .read-journal .ensures .last-there)
+give-back-requires c κs =
+    let f = c .before .before .before .before .before .before .before .before .before .before .before .before .before .before .before .before .before .before .before .before .before .before .before .before .before .before .before .before .before .before .before .before .before .before in
+    let s = f .before .before .before .before .before .before .before .before .before .before .before in
+    let a = s .args in
+    (restart-long (before s (groupOf 0 0) turnZero countsZero []) (a .n) (a .own) (a .start .now) (a .journal .now) (a .notices .now) (a .block .now) (fitting f), c .before .before .before .before .read-journal .ensures .last-there)
 
-cast-answer : tie.Need-cast-answer
-cast-answer c = omega (arith, taken (c .before .before .before .before .before .before .before .before .before .before) .most)
-
-cast-answer-2 : tie.Need-cast-answer-2
-cast-answer-2 c = let g = taken (c .before .before .before .before .before .before .before .before .before .before) in omega (arith, g .most, g .own-low)
+with-notices-requires : tie.Need-with-notices-requires
+with-notices-requires c κs = search needs
 
 answer-requires : tie.Need-answer-requires
 answer-requires c κs = search needs
 
 same-length-10 : tie.Need-same-length-10
-same-length-10 c = c .before .before .before .before .before .before .before .before .before .before .before .before .before .before .before .before .before .before .before .before .before .before .before .before .before .before .before .before .make .kept .1 .1 .1 .0
+same-length-10 c = c .before .before .before .before .before .before .before .before .before .before .before .before .before .before .before .before .before .before .before .before .before .before .before .before .before .before .before .before .before .make .kept .1 .1 .1 .0
 
 same-length-11 : tie.Need-same-length-11
-same-length-11 c = c .before .before .before .before .before .before .before .before .before .before .before .before .before .before .before .before .before .before .before .before .before .before .before .before .before .before .before .before .make .kept .1 .1 .1 .1 .0
+same-length-11 c = c .before .before .before .before .before .before .before .before .before .before .before .before .before .before .before .before .before .before .before .before .before .before .before .before .before .before .before .before .before .make .kept .1 .1 .1 .1 .0
 
 same-length-12 : tie.Need-same-length-12
-same-length-12 c = c .before .before .before .before .before .before .before .before .before .before .before .before .before .before .before .before .before .before .before .before .before .before .before .before .before .before .before .before .make .kept .1 .1 .1 .1 .1 .0
+same-length-12 c = c .before .before .before .before .before .before .before .before .before .before .before .before .before .before .before .before .before .before .before .before .before .before .before .before .before .before .before .before .before .make .kept .1 .1 .1 .1 .1 .0
 
 same-length-13 : tie.Need-same-length-13
-same-length-13 c = c .before .before .before .before .before .before .before .before .before .before .before .before .before .before .before .before .before .before .before .before .before .before .before .before .before .before .before .before .make .kept .1 .1 .1 .1 .1 .1 .0
+same-length-13 c = c .before .before .before .before .before .before .before .before .before .before .before .before .before .before .before .before .before .before .before .before .before .before .before .before .before .before .before .before .before .make .kept .1 .1 .1 .1 .1 .1 .0
 
 same-length-14 : tie.Need-same-length-14
 same-length-14 c =
-    let r = c .before .before .before .before .before .before .before .before in
+    let r = c .before .before .before .before .before .before .before .before .before in
     let d = r .before .before .before .before .before .before .before .before .before .before .before .before .before .before .before .before .before .before .before .before in
-    let v : length (r .read-journal .last .1 .1 .1 .0) ≡ length (d .make .last .1 .1 .1 .1 .1 .1 .1 .0) = r .read-journal .kept .1 .1 .1 .0 in
-    let w : length (d .make .last .1 .1 .1 .1 .1 .1 .1 .0) ≡ length (d .before .before .before .before .before .before .before .before .before .before .before .before .before .before .before .before .before .before .before .args .values .now) = d .make .kept .1 .1 .1 .1 .1 .1 .1 .0 in
+    let v : length (r .read-journal .last .1 .1 .1 .1 .0) ≡ length (d .make .last .1 .1 .1 .1 .1 .1 .1 .0) = r .read-journal .kept .1 .1 .1 .1 .0 in
+    let w : length (d .make .last .1 .1 .1 .1 .1 .1 .1 .0) ≡ length (d .before .before .before .before .before .before .before .before .before .before .before .before .before .before .before .before .before .before .before .before .before .args .values .now) = d .make .kept .1 .1 .1 .1 .1 .1 .1 .0 in
     v ∙ w
 
 same-length-15 : tie.Need-same-length-15
 same-length-15 c =
-    let r = c .before .before .before .before .before .before .before .before in
+    let r = c .before .before .before .before .before .before .before .before .before in
     let d = r .before .before .before .before .before .before .before .before .before .before .before .before .before .before .before .before .before .before .before .before in
-    let v : length (r .read-journal .last .1 .1 .1 .1 .0) ≡ length (d .make .last .1 .1 .1 .1 .1 .1 .1 .1 .0) = r .read-journal .kept .1 .1 .1 .1 .0 in
-    let w : length (d .make .last .1 .1 .1 .1 .1 .1 .1 .1 .0) ≡ length (d .before .before .before .before .before .before .before .before .before .before .before .before .before .before .before .before .before .before .before .args .stamps .now) = d .make .kept .1 .1 .1 .1 .1 .1 .1 .1 .0 in
+    let v : length (r .read-journal .last .1 .1 .1 .1 .1 .0) ≡ length (d .make .last .1 .1 .1 .1 .1 .1 .1 .1 .0) = r .read-journal .kept .1 .1 .1 .1 .1 .0 in
+    let w : length (d .make .last .1 .1 .1 .1 .1 .1 .1 .1 .0) ≡ length (d .before .before .before .before .before .before .before .before .before .before .before .before .before .before .before .before .before .before .before .before .before .args .stamps .now) = d .make .kept .1 .1 .1 .1 .1 .1 .1 .1 .0 in
     v ∙ w
 
 same-length-16 : tie.Need-same-length-16
-same-length-16 c = c .before .before .before .before .before .before .before .before .before .before .before .before .before .before .before .before .before .before .before .before .before .before .before .before .before .before .before .before .make .kept .1 .1 .1 .1 .1 .1 .1 .1 .1 .0
+same-length-16 c = c .before .before .before .before .before .before .before .before .before .before .before .before .before .before .before .before .before .before .before .before .before .before .before .before .before .before .before .before .before .make .kept .1 .1 .1 .1 .1 .1 .1 .1 .1 .0
 
 same-length-17 : tie.Need-same-length-17
-same-length-17 c = c .before .before .before .before .before .before .before .before .before .before .before .before .before .before .before .before .before .before .before .before .before .before .before .before .before .before .before .before .make .kept .1 .1 .1 .1 .1 .1 .1 .1 .1 .1 .0
+same-length-17 c = c .before .before .before .before .before .before .before .before .before .before .before .before .before .before .before .before .before .before .before .before .before .before .before .before .before .before .before .before .before .make .kept .1 .1 .1 .1 .1 .1 .1 .1 .1 .1 .0
 
 same-length-18 : tie.Need-same-length-18
-same-length-18 c = c .before .before .before .before .before .before .before .before .before .before .before .before .before .before .before .before .before .before .before .before .before .before .before .before .before .before .before .before .make .kept .1 .1 .1 .1 .1 .1 .1 .1 .1 .1 .1 .0
+same-length-18 c = c .before .before .before .before .before .before .before .before .before .before .before .before .before .before .before .before .before .before .before .before .before .before .before .before .before .before .before .before .before .make .kept .1 .1 .1 .1 .1 .1 .1 .1 .1 .1 .1 .0
 
 same-length-19 : tie.Need-same-length-19
 same-length-19 c = search needs
@@ -151,24 +156,27 @@ same-length-19 c = search needs
 returns-3 : tie.Need-returns-3
 unfolding answered
 returns-3 c =
-    let g = c .before .before .before in
+    let w = c .before in
+    let g = w .before .before .before in
     let r = g .before .before .before .before .before in
     let e = r .before .before .before in
     let d = e .before .before .before .before .before .before .before .before .before .before .before .before .before .before .before .before .before in
-    let s = d .before .before .before .before .before .before .before .before .before .before .before .before .before .before .before .before .before .before .before in
+    let s = d .before .before .before .before .before .before .before .before .before .before .before .before .before .before .before .before .before .before .before .before .before in
     let a = s .args in
     let b = before s (groupOf 0 0) turnZero countsZero [] in
-    let long = d .before .before .before .before .before .before .before .before .before .before .if1 .left in
-    rw (c .answer .ensures, g .give-back .ensures) (
+    let fits = fitting (d .before .before .before .before .before .before .before .before .before .before) in
+    let made : d .make .result .group ≡ groupOf (a .n) (a .own) = rw (e .if2 .left) at (d .make .ensures .1) in
+    let group : w .with-notices .result ≡ withNotices (groupOf (a .n) (a .own)) (noticesIn (a .notices .now)) = w .with-notices .ensures ∙ ap (λ (x : Group). withNotices x (noticesIn (a .notices .now))) made in
+    rw (c .answer .ensures, group, g .give-back .ensures) (
       λ group turn counts rows.
           gives-with restartReply (a .block .now)
-          (restart-taken (before s group turn counts rows) (a .n) (a .own) (a .start .now) (a .journal .now) (a .block .now) (d .before .before .before .before .before .before .before .before .before .before .if1 .left)
+          (restart-taken (before s group turn counts rows) (a .n) (a .own) (a .start .now) (a .journal .now) (a .notices .now) (a .block .now) fits
           (d .make .result .number) _ (d .make .ensures .0 group turn counts rows) (e .if2 .left)
           (r .read-journal .result) _ _ (r .read-journal .ensures)),
       refl,
-      restart-turn b (a .n) (a .own) (a .start .now) (a .journal .now) (a .block .now) long
+      restart-turn b (a .n) (a .own) (a .start .now) (a .journal .now) (a .notices .now) (a .block .now) fits
           (d .make .result .number) _ (d .make .ensures .0 (groupOf 0 0) turnZero countsZero []) (e .if2 .left) (r .read-journal .result) _ _ (r .read-journal .ensures),
-      restart-counts b (a .n) (a .own) (a .start .now) (a .journal .now) (a .block .now) long
+      restart-counts b (a .n) (a .own) (a .start .now) (a .journal .now) (a .notices .now) (a .block .now) fits
           (d .make .result .number) _ (d .make .ensures .0 (groupOf 0 0) turnZero countsZero []) (e .if2 .left) (r .read-journal .result) _ _ (r .read-journal .ensures),
     )
 
@@ -176,6 +184,7 @@ pub restart-spec : {M : Type 1} → statement M
 restart-spec =
     tie.close
     (tie.spec
+    lent-fit-requires
     refused-requires
     returns
     make-requires
@@ -192,8 +201,7 @@ restart-spec =
     returns-2
     read-journal-requires
     give-back-requires
-    cast-answer
-    cast-answer-2
+    with-notices-requires
     answer-requires
     same-length-10
     same-length-11

@@ -6,7 +6,8 @@ use lib.ListN.{replicate}
 use Rattle.memory.proofs.RowLaws.{index-within}
 use Rattle.call_reply.specs.Parts.{sendParts}
 use Rattle.memory.proofs.ByteLaws.{copied}
-use Rattle.call_send.proofs.BlockLaws.{header-written, zeros-behind, message-put}
+use Rattle.block_writer.proofs.WholeLaws.{header-written, zeros-behind}
+use Rattle.call_send.proofs.BlockLaws.{message-put}
 use borrow.Author.Needs.{needs}
 use Rattle.call_send.proofs.put_block.Statement.{statement}
 use Rattle.call_send.proofs.put_block.Tie as tie

@@ -1,20 +1,21 @@
--- `work` meets its contract: the bytes lent for a block, the refusal's number, a *next*, or a writeset.
+-- `work` meets its contract: the bytes lent for a block, the refusal's number, an out slot, a *next*, or a writeset.
 use Prim.Native.Nat.{_+_, _≤_}
 use mathlib.Core.Path.{_≡_, refl, sym, _∙_}
+use mathlib.Core.Bool.{true, false}
 use mathlib.Core.List.{[]}
 use native.Mathlib.Omega.{arith}
 use lib.ListN.{length}
 use Rattle.block.proofs.ListLaws.{lent-slice}
 use Rattle.memory.specs.Memory.{Memory}
 use Rattle.engine.specs.Make.{madeMemory}
-use Rattle.engine.specs.Moves.{workRefusal, workStep}
+use Rattle.engine.specs.Moves.{outAtTurn, workRefusal, workStep}
 use Rattle.call_commit.proofs.EndLaws.{end-none}
 use Rattle.call_reply.specs.Called.{withBlock}
 use Rattle.call_reply.specs.Parts.{workParts}
 use Rattle.call_reply.specs.Replies.{workReply}
 use Rattle.call_reply.proofs.CalledLaws.{block-512, block-other}
 use Rattle.call_reply.proofs.ReplyLaws.{gives-with}
-use Rattle.call_work.proofs.WorkLaws.{same-gives, marks-other, work-refused, marks-refused, work-room, work-next, marks-next, work-writeset, marks-writeset, writeset-committed}
+use Rattle.call_work.proofs.WorkLaws.{same-gives, marks-other, work-refused, marks-refused, work-out, marks-out, work-room, work-next, marks-next, work-writeset, marks-writeset, writeset-committed}
 use borrow.Author.Needs.{needs}
 use Rattle.call_work.proofs.work.Statement.{statement}
 use Rattle.call_work.proofs.work.Tie as tie
@@ -39,12 +40,16 @@ stepped c m = sym (block-512 workStep (before (start c) m) (start c .args .block
 abbrev place : tie.After-refusal → tie.After-place-start
 place r = r .before .before
 
+-- whether the turn's slot is out
+abbrev asked : tie.After-refusal → tie.After-is-out
+asked r = place r .before
+
 abbrev lent : tie.After-refusal → tie.Else1
-lent r = place r .before .before
+lent r = asked r .before .before
 
 -- the number is the refusal's
 said : (c : tie.After-refusal) (m : Memory) → c .refusal .result ≡ workRefusal (before (start (lent c)) m)
-said c m = c .refusal .ensures (before (start (lent c)) m) refl (place c .place-start .ensures) (sym (place c .before .lengths-fit .ensures))
+said c m = c .refusal .ensures (before (start (lent c)) m) refl (place c .place-start .ensures) (sym (asked c .before .lengths-fit .ensures)) (sym (asked c .is-out .ensures))
 
 unchanged-requires : tie.Need-unchanged-requires
 unchanged-requires c κs = search needs
@@ -62,6 +67,9 @@ returns c = λ m.
 
 lengths-fit-requires : tie.Need-lengths-fit-requires
 lengths-fit-requires c κs = search needs
+
+is-out-requires : tie.Need-is-out-requires
+is-out-requires c κs = search needs
 
 place-start-requires : tie.Need-place-start-requires
 place-start-requires c κs = search needs
@@ -86,20 +94,12 @@ returns-2 c = λ m.
       marks-refused b (r .refusal .result) (said r m) bytes (lent r .if1 .left) (c .before .if2 .taken),
     )
 
--- past the refusals the block at the turn lies in the places
-room : (c : tie.Else2) → place (c .before) .place-start .result + 512 ≤ length (start (lent (c .before)) .args .places .now)
-room c =
-    let r = c .before in
-    let m : Memory = madeMemory 0 0 [] in
-    work-room (before (start (lent r)) m) (r .refusal .result) (said r m) (c .if2 .left) (place r .place-start .result) (place r .place-start .ensures)
+-- an out slot
+out : (c : tie.Then3) (m : Memory) → outAtTurn (before (start (lent (c .before .before))) m) ≡ true
+out c m = sym (asked (c .before .before) .is-out .ensures) ∙ c .if3 .taken
 
-slice-read-if3 : tie.Need-slice-read-if3
-slice-read-if3 c = omega (arith, room (c .before))
-
-pass-next-requires : tie.Need-pass-next-requires
-pass-next-requires c κs =
-    let e = c .before .before .before .before in
-    (place (e .before) .place-start .ensures, room e, lent (e .before) .if1 .left)
+pass-out-requires : tie.Need-pass-out-requires
+pass-out-requires c κs = (out (c .before) (madeMemory 0 0 []), lent (c .before .before .before) .if1 .left)
 
 same-length-2 : tie.Need-same-length-2
 same-length-2 c = search needs
@@ -109,22 +109,66 @@ same-length-3 c = search needs
 
 returns-3 : tie.Need-returns-3
 returns-3 c = λ m.
+    let o = c .before .before in
+    let t = o .before .before in
+    let e = t .before in
+    let r = e .before in
+    let s = start (lent r) in
+    let b = before s m in
+    let bytes = s .args .block .now in
+    rw (o .pass-out .ensures .1, end-none 6 (s .args .rows)) (
+      same-gives workReply (work-out b (r .refusal .result) (said r m) (e .if2 .left) (out t m) ∙ stepped (lent r) m) bytes (o .pass-out .ensures .0 b),
+      marks-out b (r .refusal .result) (said r m) (e .if2 .left) bytes (lent r .if1 .left) (out t m),
+    )
+
+-- any other slot
+live : (c : tie.Else3) (m : Memory) → outAtTurn (before (start (lent (c .before .before))) m) ≡ false
+live c m = sym (asked (c .before .before) .is-out .ensures) ∙ c .if3 .left
+
+-- past the refusals the block at the turn lies in the places
+room : (c : tie.Else3) → place (c .before .before) .place-start .result + 512 ≤ length (start (lent (c .before .before)) .args .places .now)
+room c =
+    let r = c .before .before in
+    let m : Memory = madeMemory 0 0 [] in
+    work-room (before (start (lent r)) m) (r .refusal .result) (said r m) (c .before .if2 .left) (live c m) (place r .place-start .result) (place r .place-start .ensures)
+
+slice-read-if4 : tie.Need-slice-read-if4
+slice-read-if4 c = omega (arith, room (c .before))
+
+pass-next-requires : tie.Need-pass-next-requires
+pass-next-requires c κs =
+    let e = c .before .before .before .before in
+    let r = e .before .before in
+    (place r .place-start .ensures, room e, lent r .if1 .left)
+
+same-length-4 : tie.Need-same-length-4
+same-length-4 c = search needs
+
+same-length-5 : tie.Need-same-length-5
+same-length-5 c = search needs
+
+returns-4 : tie.Need-returns-4
+returns-4 c = λ m.
     let n = c .before .before .before .before in
     let t = n .before .before .before in
     let e = t .before .before in
-    let r = e .before in
+    let z = e .before .if2 .left in
+    let r = e .before .before in
     let s = start (lent r) in
     let b = before s m in
     let bytes = s .args .block .now in
     let at = place r .place-start .result in
     let placed = place r .place-start .ensures in
     rw (n .pass-next .ensures .1, end-none 6 (s .args .rows)) (
-      same-gives workReply (work-next b (r .refusal .result) (said r m) (e .if2 .left) at placed (t .if3 .taken) ∙ stepped (lent r) m) bytes (n .pass-next .ensures .0 b),
-      marks-next b (r .refusal .result) (said r m) (e .if2 .left) at placed bytes (lent r .if1 .left) (t .if3 .taken),
+      same-gives workReply (work-next b (r .refusal .result) (said r m) z (live e m) at placed (t .if4 .taken) ∙ stepped (lent r) m) bytes (n .pass-next .ensures .0 b),
+      marks-next b (r .refusal .result) (said r m) z (live e m) at placed bytes (lent r .if1 .left) (t .if4 .taken),
     )
 
 add-end : tie.Need-add-end
-add-end c = omega (arith, room (c .before .before))
+add-end c =
+    let e = c .before .before in
+    let g = start (lent (e .before .before)) .good .1 .1 .1 .1 .1 .1 .1 .1 .0 in
+    omega (arith, room e, g)
 
 sub-end-writeset : tie.Need-sub-end-writeset
 sub-end-writeset c = search needs
@@ -141,13 +185,7 @@ end-writeset-requires c κs = search needs
 pass-writeset-requires : tie.Need-pass-writeset-requires
 pass-writeset-requires c κs =
     let e = c .before .before .before .before .before .before .before .before .before .before .before .before .before .before .before in
-    (room e, lent (e .before) .if1 .left)
-
-same-length-4 : tie.Need-same-length-4
-same-length-4 c = search needs
-
-same-length-5 : tie.Need-same-length-5
-same-length-5 c = search needs
+    (room e, lent (e .before .before) .if1 .left)
 
 same-length-6 : tie.Need-same-length-6
 same-length-6 c = search needs
@@ -158,13 +196,20 @@ same-length-7 c = search needs
 same-length-8 : tie.Need-same-length-8
 same-length-8 c = search needs
 
-returns-4 : tie.Need-returns-4
-returns-4 c = λ m.
+same-length-9 : tie.Need-same-length-9
+same-length-9 c = search needs
+
+same-length-10 : tie.Need-same-length-10
+same-length-10 c = search needs
+
+returns-5 : tie.Need-returns-5
+returns-5 c = λ m.
     let d = c .before .before .before .before in
     let w = d .before .before .before .before .before .before .before .before in
     let o = w .before .before .before .before .before .before in
     let e = o .before .before in
-    let r = e .before in
+    let z = e .before .if2 .left in
+    let r = e .before .before in
     let s = start (lent r) in
     let a = s .args in
     let at = place r .place-start .result in
@@ -172,13 +217,13 @@ returns-4 c = λ m.
     let block = lent-slice at (at + 512) (a .places .now) (omega (arith, room e)) in
     let is = rw block at (w .end-writeset .ensures .0) in
     rw (d .pass-writeset .ensures .0) (
-      same-gives workReply (work-writeset (before s m) (r .refusal .result) (said r m) (e .if2 .left) at placed (o .if3 .left) ∙ stepped (lent r) m) (a .block .now)
+      same-gives workReply (work-writeset (before s m) (r .refusal .result) (said r m) z (live e m) at placed (o .if4 .left) ∙ stepped (lent r) m) (a .block .now)
           (writeset-committed m (a .group) (a .turn) (a .counts) (a .rows) (a .queue .now) (a .items .now) (a .values .now) (a .stamps .now) (a .places .now) (six s) at placed (room e)
           (w .end-writeset .result) is
           (w .end-writeset .last .1 .1 .1 .1 .0) (w .end-writeset .last .1 .1 .1 .1 .1 .1 .0) (w .end-writeset .last .1 .1 .1 .1 .1 .1 .1 .0)
           (rw block at (w .end-writeset .ensures .1)) (rw block at (w .end-writeset .ensures .2)) (rw block at (w .end-writeset .ensures .3))
           (d .pass-writeset .last .1 .1 .0) (d .pass-writeset .ensures .1) (a .block .now) _ (d .pass-writeset .ensures .2)),
-      marks-writeset (before s m) (r .refusal .result) (said r m) (e .if2 .left) at placed (a .block .now) (lent r .if1 .left) (o .if3 .left) (w .end-writeset .result) is,
+      marks-writeset (before s m) (r .refusal .result) (said r m) z (live e m) at placed (a .block .now) (lent r .if1 .left) (o .if4 .left) (w .end-writeset .result) is,
     )
 
 pub work-spec : {M : Type 1} → statement M
@@ -188,25 +233,30 @@ work-spec =
     unchanged-requires
     returns
     lengths-fit-requires
+    is-out-requires
     place-start-requires
     refusal-requires
     unchanged-requires-2
     same-length
     returns-2
-    slice-read-if3
-    pass-next-requires
+    pass-out-requires
     same-length-2
     same-length-3
     returns-3
+    slice-read-if4
+    pass-next-requires
+    same-length-4
+    same-length-5
+    returns-4
     add-end
     sub-end-writeset
     part-end-writeset-start
     part-end-writeset-end
     end-writeset-requires
     pass-writeset-requires
-    same-length-4
-    same-length-5
     same-length-6
     same-length-7
     same-length-8
-    returns-4)
+    same-length-9
+    same-length-10
+    returns-5)

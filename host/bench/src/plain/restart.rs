@@ -1,6 +1,7 @@
 //! A restart from a journal.
 
 use model::block::{self, BLOCK, ENTRY, HEADER, RECORD, RECORD_HEAD};
+use model::notice::{self, Notice};
 use model::replica::ITEMS;
 
 use super::Replica;
@@ -15,12 +16,13 @@ pub struct Restarted {
 }
 
 impl Replica {
-    /// A replica from a journal.
+    /// A replica from a journal and all notices taken.
     pub fn restart(
         n: u32,
         own: u32,
         values: &[i32; ITEMS],
         journal: &[u8],
+        notices: &[Notice],
     ) -> Result<(Replica, Restarted), u8> {
         let mut replica = Replica::make(n, own, values)?;
         let mut last = None;
@@ -29,10 +31,12 @@ impl Replica {
             if !replica.commit_next(block) {
                 break;
             }
-            if block::header(block).sender == replica.own {
+            let header = block::header(block);
+            if header.sender == replica.own && !notice::puts_out(notices, n, header.slot) {
                 last = Some(block);
             }
         }
+        notices.iter().for_each(|&notice| replica.put(notice));
         replica.aborted = replica.tickets.saturating_sub(replica.committed);
         let restarted = Restarted {
             blocks: replica.turn,

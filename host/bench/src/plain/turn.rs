@@ -3,7 +3,7 @@
 use model::block::{self, Header, BLOCK, NEXT, TO_COMMIT};
 use model::refusal::{
     ALREADY_SENT, FAR_SLOT, NOTHING_WAITS, NOT_OUR_TURN, NOT_SENT, PAST_SLOT, SLOTS_SPENT,
-    SLOT_TAKEN, STATION_ONLY_READS, WRONG_GROUP,
+    SLOT_OUT, SLOT_TAKEN, STATION_ONLY_READS, WRONG_GROUP,
 };
 use model::replica::SLOTS;
 
@@ -20,6 +20,9 @@ impl Replica {
         }
         if self.place(self.turn) != usize::from(self.own) {
             return Err(NOT_OUR_TURN);
+        }
+        if self.is_out(self.turn) {
+            return Err(SLOT_OUT);
         }
         if self.sent {
             return Err(ALREADY_SENT);
@@ -56,6 +59,9 @@ impl Replica {
         if header.slot < self.turn {
             return Err(PAST_SLOT);
         }
+        if self.is_out(header.slot) {
+            return Err(SLOT_OUT);
+        }
         if header.slot - self.turn >= u32::from(self.n) {
             return Err(FAR_SLOT);
         }
@@ -75,6 +81,9 @@ impl Replica {
     pub fn work(&mut self) -> Result<Work, u8> {
         let at = self.place(self.turn);
         let place = &self.places[at];
+        if self.is_out(self.turn) && self.turn < SLOTS {
+            return Ok(self.pass());
+        }
         if place[0] == 0 {
             return Err(NOTHING_WAITS);
         }

@@ -1,7 +1,15 @@
-//! Prints the list of calls that is stored as the input of the program `replay`.
+//! Prints the list of calls that is stored as the input of the program `replay`; with the argument `notices`
+//! the worked lists of document 02's Req 10 alone.
 
 use std::io::{self, Write};
 
+use model::workload;
+
 fn main() -> io::Result<()> {
-    io::stdout().write_all(&model::workload::calls())
+    let list = match std::env::args().nth(1).as_deref() {
+        None => workload::calls(),
+        Some("notices") => workload::worked_notices(),
+        Some(other) => return Err(io::Error::other(format!("{other:?} is no list"))),
+    };
+    io::stdout().write_all(&list)
 }

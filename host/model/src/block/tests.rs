@@ -260,7 +260,7 @@ fn journals_of_before() {
     let before = blocks.each_ref().map(encode_before).concat();
     assert_eq!(read(&before[..BLOCK]), Err(WRONG_CHECK));
     for (journal, count) in [(now, 2), (before, 0)] {
-        let (replica, restarted) = Replica::restart(2, 0, &start_values(), &journal).unwrap();
+        let (replica, restarted) = Replica::restart(2, 0, &start_values(), &journal, &[]).unwrap();
         assert_eq!((replica.report().turn, restarted.count), (count, count));
         assert_eq!(restarted.gave_back(), count > 0);
     }

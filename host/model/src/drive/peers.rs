@@ -42,6 +42,12 @@ impl Peers {
 
     /// A random call.
     pub fn random_call(&self, random: &mut Random, style: Style) -> Call {
+        if style.notices > 0 && random.below(100) < style.notices {
+            let Tally {
+                report, notices, ..
+            } = &self.tally;
+            return Call::Notice(samples::notice(random, self.n, report.turn, notices));
+        }
         match random.below(50) {
             _ if random.below(100) < style.local => local_call(random, &self.tally, style),
             0..8 => Call::Send,
@@ -54,7 +60,7 @@ impl Peers {
 
     /// Takes in the answer to a call.
     pub fn feed(&mut self, call: &Call, answer: &Result<Answer, u8>) {
-        self.seen.feed(&self.tally, call, answer);
+        self.seen.feed(self.n, &self.tally, call, answer);
         self.tally.feed(call, answer);
         self.keep(call, answer);
     }

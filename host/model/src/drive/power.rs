@@ -2,6 +2,7 @@
 
 use super::{start_values, Group, Subject};
 use crate::block::{self, BLOCK};
+use crate::journal;
 use crate::replica::{Replica, Report, Restarted, ITEMS};
 use crate::samples::Random;
 use crate::trace::{Answer, Call, Restart};
@@ -10,10 +11,15 @@ use crate::trace::{Answer, Call, Restart};
 pub trait Powered: Subject {
     /// What was appended.
     fn disk(&self) -> &[u8];
-    /// The bytes that a cut leaves at least: those on the disk when the last own block was handed out.
+    /// The bytes that a cut leaves at least: those on the disk when the last own block was handed out,
+    /// the last notice taken, or the last out slot passed.
     fn floor(&self) -> usize;
     /// A restart, behind which the journal goes on.
     fn restart(&mut self, restart: &Restart) -> Result<Restarted, u8>;
+    /// A call that a cut ends: nothing of it is left but what it appended, if that. A restart is next.
+    fn ended(&mut self, call: &Call) {
+        let _ = self.call(call);
+    }
 }
 
 /// The model's replica and its disk.
@@ -40,8 +46,9 @@ impl Machine {
 
 impl Subject for Machine {
     fn call(&mut self, call: &Call) -> Result<Answer, u8> {
+        let out = self.replica.is_out(self.replica.turn);
         let answer = self.replica.call_journaled(call, &mut self.disk);
-        if let Ok(Answer::Block(_)) = answer {
+        if journal::fixes(call, &answer, out) {
             self.floor = self.disk.len();
         }
         answer
@@ -64,13 +71,13 @@ impl Powered for Machine {
     fn restart(&mut self, restart: &Restart) -> Result<Restarted, u8> {
         let restarted = restart.run(&mut self.replica)?;
         self.disk = restart.journal[..BLOCK * restarted.count as usize].to_vec();
-        // Without an own block none was handed out.
-        self.floor = if restarted.gave_back() {
-            self.disk.len()
-        } else {
-            0
-        };
+        self.floor = journal::floor_after(self.floor, restart, &restarted);
         Ok(restarted)
+    }
+    fn ended(&mut self, call: &Call) {
+        let floor = self.floor;
+        let _ = self.call(call);
+        self.floor = floor;
     }
 }
 
@@ -84,9 +91,12 @@ impl<S: Powered> Group<S> {
         ended: Option<Call>,
         length: impl FnOnce(usize, usize) -> usize,
     ) -> Restarted {
+        if ended.is_some() {
+            self.take_due(k);
+        }
         let floor = self.members[k].floor();
         if let Some(call) = ended {
-            let _ = self.members[k].call(&call);
+            self.members[k].ended(&call);
         }
         let disk = self.members[k].disk();
         let left = length(floor, disk.len());
@@ -95,10 +105,13 @@ impl<S: Powered> Group<S> {
             own: k as u32,
             values: start_values().to_vec(),
             journal: disk[..left].to_vec(),
+            notices: self.observer.notices(k).to_vec(),
         };
         let answer = self.members[k].restart(&restart);
         self.observer.feed_restart(k, &restart, &answer);
         self.tallies[k].feed_restart(&restart, &answer);
+        self.waits.feed_restart(k);
+        self.given.retain(|&(member, _)| member != k);
         self.seen.restarts += 1;
         let restarted = answer.expect("a restart is lent what the make was");
         if restarted.gave_back() {
@@ -112,9 +125,11 @@ impl<S: Powered> Group<S> {
     }
 
     /// A cut at a random replica, which ends a call or none and leaves some bytes at or above the floor.
+    /// At a closed one no call is ended.
     pub fn random_cut(&mut self, random: &mut Random) {
         let any = random.below(self.replicas);
         let (k, ended) = match random.below(3) {
+            _ if self.is_closed(any) => (any, None),
             0 => (any, None),
             1 => (any, Some(Call::Work)),
             _ => (self.sender().unwrap_or(any), Some(Call::Send)),

@@ -3,7 +3,7 @@
 
 use super::{Group, Subject, Tally};
 use crate::block;
-use crate::refusal::FAR_SLOT;
+use crate::refusal::{FAR_SLOT, SLOT_OUT};
 use crate::samples::Random;
 use crate::trace::{Answer, Call};
 
@@ -12,6 +12,7 @@ impl<S: Subject> Group<S> {
     /// gives its index.
     pub fn add_station(&mut self, station: S) -> usize {
         let k = self.observer.add_station();
+        self.waits.add_member();
         self.tallies.push(Tally::of_station(station.report()));
         self.members.push(station);
         self.stations.push(k);
@@ -48,6 +49,10 @@ impl<S: Subject> Group<S> {
         if self.blocks.get(&slot).is_none_or(|sent| **sent != *block) {
             return;
         }
+        // Who may still have to take it was not given it.
+        if !matches!(answer, Err(FAR_SLOT | SLOT_OUT)) {
+            self.given.insert((k, slot));
+        }
         match answer {
             Err(FAR_SLOT) if k < self.replicas => self.seen.far_at_replicas += 1,
             Err(FAR_SLOT) => {
@@ -65,12 +70,9 @@ impl<S: Subject> Group<S> {
         for k in self.stations.clone() {
             loop {
                 let turn = self.tallies[k].report.turn;
-                let blocks = self.blocks.range(turn..).take(self.replicas + 1);
-                let blocks: Vec<_> = blocks.map(|(_, block)| block.to_vec()).collect();
-                for bytes in blocks {
-                    let _ = self.call(k, &Call::Deliver { bytes });
-                }
-                while self.call(k, &Call::Work).is_ok() {}
+                self.take_all(k);
+                self.hand(k, self.replicas + 1);
+                self.work_off(k);
                 if self.tallies[k].report.turn == turn {
                     break;
                 }

@@ -2,6 +2,7 @@
 
 use crate::block;
 use crate::journal;
+use crate::notice::{self, Notice};
 use crate::replica::{Replica, Report, Restarted, ITEMS};
 use crate::trace::{Answer, Call, Restart};
 
@@ -35,6 +36,8 @@ pub struct Tally {
     pub report: Report,
     /// The tickets open.
     pub open: Vec<u32>,
+    /// The notices taken, in order.
+    pub notices: Vec<Notice>,
     /// Ticket and item of their writes.
     locks: Vec<(u32, u32)>,
 }
@@ -54,6 +57,7 @@ impl Tally {
             own: None,
             report,
             open: Vec::new(),
+            notices: Vec::new(),
             locks: Vec::new(),
         }
     }
@@ -70,6 +74,11 @@ impl Tally {
         };
         let mut locks = self.locks.iter();
         locks.any(|(other, held)| held == item && other != ticket)
+    }
+
+    /// Whether the turn's slot is out, in a group of `n`.
+    pub fn is_out(&self, n: u32) -> bool {
+        notice::puts_out(&self.notices, n, self.report.turn)
     }
 
     /// Takes in a call and its answer.
@@ -89,6 +98,7 @@ impl Tally {
                 self.close(*ticket);
             }
             (Call::Write { ticket, item, .. }, Ok(_)) => self.locks.push((*ticket, *item)),
+            (Call::Notice(notice), Ok(_)) => self.notices.push(*notice),
             (Call::Write { ticket, .. }, Err(9)) => {
                 report.aborted += 1;
                 self.close(*ticket);
@@ -128,6 +138,7 @@ impl Tally {
         let tickets = own.iter().copied().max().unwrap_or(0);
         self.open.clear();
         self.locks.clear();
+        self.notices.clone_from(&restart.notices);
         self.report = Report {
             turn: blocks.len() as u32,
             commits,
@@ -150,7 +161,7 @@ pub struct Seen {
     /// The calls made.
     pub calls: u64,
     /// By refusal number.
-    pub refused: [u64; 26],
+    pub refused: [u64; 30],
     /// Writesets committed, at whatever replica.
     pub commits: u64,
     /// Transactions aborted by a work.
@@ -177,11 +188,15 @@ pub struct Seen {
     pub restarts: u64,
     /// Blocks first handed out by a restart, because a cut ended their send.
     pub sent_by_restart: u64,
+    /// Notices taken.
+    pub notices: u64,
+    /// Slots passed as out.
+    pub passed_out: u64,
 }
 
 impl Seen {
-    /// Takes in a call and its answer, and what the calls before amount to.
-    pub fn feed(&mut self, before: &Tally, call: &Call, answer: &Result<Answer, u8>) {
+    /// Takes in a call and its answer in a group of `n`, and what the calls before amount to.
+    pub fn feed(&mut self, n: u32, before: &Tally, call: &Call, answer: &Result<Answer, u8>) {
         self.calls += 1;
         self.stale_and_held += u64::from(*answer == Err(9) && before.is_held(call));
         match (call, answer) {
@@ -192,11 +207,13 @@ impl Seen {
             (_, Ok(Answer::Work(work))) => {
                 self.commits += u64::from(work.ticket != 0);
                 self.aborted += work.aborted.len() as u64;
+                self.passed_out += u64::from(before.is_out(n));
             }
             (_, Ok(Answer::ReadOnly(true))) => self.read_only += 1,
             (_, Ok(Answer::Block(block))) => self.sent[usize::from(block[3])] += 1,
             (Call::Withdraw { .. }, Ok(_)) => self.withdrawn += 1,
             (Call::Deliver { .. }, Ok(_)) => self.delivered += 1,
+            (Call::Notice(_), Ok(_)) => self.notices += 1,
             _ => {}
         }
     }
@@ -221,6 +238,8 @@ impl Seen {
         self.offered_again += other.offered_again;
         self.restarts += other.restarts;
         self.sent_by_restart += other.sent_by_restart;
+        self.notices += other.notices;
+        self.passed_out += other.passed_out;
     }
 
     /// The refusal numbers met at least `least` times.

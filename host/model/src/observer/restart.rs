@@ -1,6 +1,6 @@
 //! What a restart does to the sheet (document 02, Req 01), and what it may be lent.
 
-use super::{holds, Observer};
+use super::{holds, Observer, Standing};
 use crate::block::{self, Header, BLOCK, NEXT, TO_COMMIT};
 use crate::journal::{self, Journal};
 use crate::replica::Restarted;
@@ -22,8 +22,12 @@ impl Observer {
             self.feed_given_back(replica, &restarted.block);
         }
         self.queues[replica].clear();
-        let blocks = journal::blocks(restart.n, &restart.journal);
-        self.commits[replica] = blocks.flat_map(writesets).collect();
+        let blocks: Vec<_> = journal::blocks(restart.n, &restart.journal).collect();
+        self.standings[replica] = Standing {
+            turn: blocks.len() as u32,
+            notices: restart.notices.clone(),
+        };
+        self.commits[replica] = blocks.into_iter().flat_map(writesets).collect();
         self.journals[replica].feed_restart(restart, answer);
     }
 
@@ -47,15 +51,16 @@ impl Observer {
         }
     }
 
-    /// Whether a restart is lent what its make was, and a journal that a cut can leave: a first part,
-    /// not below the floor, of what was appended. The last of that may be by a call that the cut
-    /// ended, one at most.
+    /// Whether a restart is lent what its make was, the notices taken, and a journal that a cut can
+    /// leave: a first part, not below the floor, of what was appended. The last of that may be by a call
+    /// that the cut ended, one at most.
     fn may_be_lent(&self, replica: usize, restart: &Restart) -> bool {
         let journal = &self.journals[replica];
         let mut appended = journal.bytes().to_vec();
         appended.extend(self.next_appended(replica).iter().flatten());
         (restart.n as usize, restart.own as usize) == (self.queues.len(), replica)
             && restart.values == self.values
+            && restart.notices == self.standings[replica].notices
             && restart.journal.len() >= journal.floor()
             && appended.starts_with(&restart.journal)
     }
@@ -64,7 +69,9 @@ impl Observer {
     fn next_appended(&self, replica: usize) -> Option<[u8; BLOCK]> {
         let journal = &self.journals[replica];
         let slot = journal.own_slot(self.queues.len() as u32);
-        slot.map(|slot| self.next_sent(replica, slot))
+        // For an out slot nothing is sent, and nothing waits.
+        self.out_next(replica)
+            .or(slot.map(|slot| self.next_sent(replica, slot)))
             .or(journal.next_left().copied())
     }
 

@@ -1,7 +1,7 @@
 //! Stations on the sheet (document 02, Req 05): notes, starts and commits like a replica's, and no
 //! line, since a station sends nothing.
 
-use super::Observer;
+use super::{Observer, Standing};
 use crate::refusal::{NOT_ACTIVE, NOT_SENT, STATION_ONLY_READS};
 use crate::trace::{Answer, Call};
 
@@ -10,6 +10,7 @@ impl Observer {
     /// are fed: the replicas have the first ones. A station that is made anew is another one.
     pub fn add_station(&mut self) -> usize {
         self.commits.push(Vec::new());
+        self.standings.push(Standing::at(self.first));
         self.commits.len() - 1
     }
 

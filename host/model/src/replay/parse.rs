@@ -4,6 +4,7 @@ use std::str::FromStr;
 
 use super::{MAX_BYTES, MAX_JOURNAL, MAX_TABLE, PLACES};
 use crate::block::BLOCK;
+use crate::notice::Notice;
 use crate::trace::Call;
 
 /// What a line asks for at a place.
@@ -113,6 +114,8 @@ fn call(letter: &[u8], arguments: &[&[u8]]) -> Option<Call> {
         (b"P", [hex]) => Call::Load {
             classes: bytes(hex, MAX_TABLE)?,
         },
+        (b"O", [about, slot]) => Call::Notice(Notice::out(number(about)?, number(slot)?)),
+        (b"U", [about, slot]) => Call::Notice(Notice::back(number(about)?, number(slot)?)),
         _ => return None,
     })
 }

@@ -1,11 +1,14 @@
 //! A replica or station of the program, and the journal that is kept of a replica.
 
 use crate::block::BLOCK;
+use crate::notice::Notice;
 use crate::replica::{Replica, ITEMS};
 use crate::trace::{Answer, Call};
 
 /// The most blocks of a journal that is kept.
 pub const JOURNAL: usize = 128;
+/// The most notices that are kept for a restart.
+pub const NOTICES: usize = 32;
 
 #[derive(Clone, Debug, PartialEq, Eq)]
 pub(super) struct Place {
@@ -34,12 +37,12 @@ impl Place {
     /// With all values the same. It also gives the number of blocks committed and the block given
     /// back.
     pub fn restart(
-        n: u32,
-        own: u32,
+        (n, own): (u32, u32),
         value: i32,
         mut journal: Vec<u8>,
+        notices: &[Notice],
     ) -> Result<(Place, u32, [u8; BLOCK]), u8> {
-        let (replica, restarted) = Replica::restart(n, own, &[value; ITEMS], &journal)?;
+        let (replica, restarted) = Replica::restart(n, own, &[value; ITEMS], &journal, notices)?;
         journal.truncate(BLOCK * restarted.count as usize);
         let place = Place {
             replica,
@@ -64,6 +67,12 @@ impl Place {
     /// The journal, if there is one and all of it is kept.
     pub fn journal(&self) -> Option<&[u8]> {
         self.journal.as_deref()
+    }
+
+    /// The notices taken, if all of them are kept.
+    pub fn notices(&self) -> Option<&[Notice]> {
+        let taken = &self.replica.notices[..];
+        (taken.len() <= NOTICES).then_some(taken)
     }
 
     /// Block i of the journal.

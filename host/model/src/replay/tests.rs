@@ -1,5 +1,6 @@
 //! The format, line by line.
 
+mod notices;
 mod restarts;
 mod stations;
 

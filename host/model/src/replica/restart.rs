@@ -1,16 +1,19 @@
-//! A restart from the journal on the replica's disk (document 02, Req 01).
+//! A restart from the journal on the replica's disk (document 02, Req 01), and the notices kept beside
+//! it (Req 10).
 
 use super::turn::put;
 use super::Replica;
 use crate::block::{self, Message, BLOCK};
 use crate::journal;
+use crate::notice::{self, Notice};
 
 /// The answer to an accepted [`Replica::restart`].
 #[derive(Clone, Debug, PartialEq, Eq)]
 pub struct Restarted {
     /// The blocks committed. The journal goes on behind them; the rest is to be cut off.
     pub count: u32,
-    /// The last own block among them, to be handed out once more; 512 zeros if there is none.
+    /// The last own block among them whose slot is not out, to be handed out once more; 512 zeros if
+    /// there is none.
     pub block: Box<[u8; BLOCK]>,
 }
 
@@ -26,6 +29,9 @@ impl Replica {
     /// one at which [`journal::blocks`] stops, own ones from their bytes. Refused as a make, by 1, 2;
     /// a journal may have any length.
     ///
+    /// The notices are all that were taken, in order. They are in force without a test, and are not
+    /// compared with the blocks; the block given back is of a slot that none of them puts out.
+    ///
     /// Nothing is open, asked, sent or waiting then, and no table of classes is loaded. The tickets up
     /// to the highest in an own block count as given, those in own blocks as committed and the others
     /// as aborted.
@@ -34,15 +40,19 @@ impl Replica {
         own: u32,
         values: &[i32],
         journal: &[u8],
+        notices: &[Notice],
     ) -> Result<(Replica, Restarted), u8> {
         let mut replica = Replica::make(n, own, values)?;
         let mut last_own = [0; BLOCK];
         for bytes in journal::blocks(n, journal) {
             replica.commit_block(bytes);
-            if replica.is_own(block::header(bytes).sender) {
+            let header = block::header(bytes);
+            // By the whole list: an own slot may be out by an outage before the last one.
+            if replica.is_own(header.sender) && !notice::puts_out(notices, n, header.slot) {
                 last_own = *bytes;
             }
         }
+        replica.notices = notices.to_vec();
         // More own writesets than tickets: a journal that a cut alone does not leave.
         replica.aborted = replica.tickets.saturating_sub(replica.committed);
         let restarted = Restarted {

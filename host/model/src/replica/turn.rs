@@ -4,12 +4,12 @@ use super::{Replica, Stage, Transaction, Work, ITEMS, SLOTS};
 use crate::block::{self, Header, Message, Record, BLOCK, NEXT, TO_COMMIT};
 use crate::refusal::{
     ALREADY_SENT, FAR_SLOT, NOTHING_WAITS, NOT_OUR_TURN, NOT_SENT, PAST_SLOT, SLOTS_SPENT,
-    SLOT_TAKEN, STATION_ONLY_READS, WRONG_GROUP, WRONG_LENGTH,
+    SLOT_OUT, SLOT_TAKEN, STATION_ONLY_READS, WRONG_GROUP, WRONG_LENGTH,
 };
 
 impl Replica {
     /// The block for the own slot, with the writesets of all transactions asked so far, in the
-    /// order asked. Refused by 25, 13, 11, 12.
+    /// order asked. Refused by 25, 13, 11, 29, 12.
     pub fn send(&mut self) -> Result<[u8; BLOCK], u8> {
         let own = self.own.ok_or(STATION_ONLY_READS)?;
         if self.turn == SLOTS {
@@ -17,6 +17,9 @@ impl Replica {
         }
         if self.owner(self.turn) != usize::from(own) {
             return Err(NOT_OUR_TURN);
+        }
+        if self.is_out(self.turn) {
+            return Err(SLOT_OUT);
         }
         if self.outbox.is_some() {
             return Err(ALREADY_SENT);
@@ -47,7 +50,7 @@ impl Replica {
         Ok(block)
     }
 
-    /// As [`Replica::send`], into bytes of the caller. Refused by 25, 1, 13, 11, 12.
+    /// As [`Replica::send`], into bytes of the caller. Refused by 25, 1, 13, 11, 29, 12.
     pub fn send_into(&mut self, bytes: &mut [u8]) -> Result<(), u8> {
         if self.is_station() {
             return Err(STATION_ONLY_READS);
@@ -57,8 +60,8 @@ impl Replica {
         Ok(())
     }
 
-    /// Keeps the message of a block until its slot is the turn. Refused by 1, 14, 15, 16, 17, 18,
-    /// 19, 20.
+    /// Keeps the message of a block until its slot is the turn. Refused by 1, 14, 15, 16, 17, 29,
+    /// 18, 19, 20.
     pub fn deliver(&mut self, bytes: &[u8]) -> Result<(), u8> {
         let header = block::read(bytes)?;
         let replicas = self.inbox.len();
@@ -67,6 +70,9 @@ impl Replica {
         }
         if header.slot < self.turn {
             return Err(PAST_SLOT);
+        }
+        if self.is_out(header.slot) {
+            return Err(SLOT_OUT);
         }
         if header.slot >= self.turn + replicas as u32 {
             return Err(FAR_SLOT);
@@ -85,20 +91,22 @@ impl Replica {
     }
 
     /// Takes one step at the turn's message: commits its next writeset, or passes over a message
-    /// without records. Refused by 21.
+    /// without records. An out slot is passed as by such a message, and needs none. Refused by 21.
     pub fn work(&mut self) -> Result<Work, u8> {
         let (work, _) = self.step()?;
         Ok(work)
     }
 
     /// As [`Replica::work`]; and beside the answer, if the turn left the slot of another, that one's
-    /// block, which is to be appended to the journal. An own block stands there since its send, and a
-    /// station has no journal.
+    /// block, or of an out slot the *next*, which is to be appended to the journal. An own block stands
+    /// there since its send, but not the *next* of an own slot that is out; and a station has no journal.
     pub fn work_journaled(&mut self) -> Result<(Work, Option<[u8; BLOCK]>), u8> {
+        let out = self.is_out(self.turn);
         let (work, left) = self.step()?;
+        let is_new = |message: &Message| out || !self.is_own(message.sender);
         // A message has one block, so these are the bytes that were delivered.
-        let of_another = left.filter(|message| !self.is_station() && !self.is_own(message.sender));
-        Ok((work, of_another.as_ref().map(block::encode)))
+        let appended = left.filter(|message| !self.is_station() && is_new(message));
+        Ok((work, appended.as_ref().map(block::encode)))
     }
 
     /// The block that waits for the turn, if one does: the bytes that were delivered.
@@ -110,6 +118,9 @@ impl Replica {
 
     /// A work, and the message of the slot that the turn left.
     fn step(&mut self) -> Result<(Work, Option<Message>), u8> {
+        if self.is_out(self.turn) {
+            return Ok(self.pass_out());
+        }
         let Some(message) = &self.inbox[self.owner(self.turn)] else {
             return Err(NOTHING_WAITS);
         };
@@ -163,11 +174,15 @@ impl Replica {
     /// Ends the turn, and gives the message of the slot that it was.
     fn advance(&mut self) -> Option<Message> {
         let owner = self.owner(self.turn);
+        self.leave_slot();
+        self.inbox[owner].take()
+    }
+
+    pub(super) fn leave_slot(&mut self) {
         self.turn += 1;
         self.outbox = None;
         self.done = 0;
         self.applying = false;
-        self.inbox[owner].take()
     }
 }
 

@@ -5,6 +5,7 @@ use std::ops::RangeInclusive;
 use std::str::{FromStr, SplitWhitespace};
 
 use crate::block::{BLOCK, ENTRIES, RECORDS};
+use crate::notice::Notice;
 use crate::replica::ITEMS;
 use crate::trace::Call;
 
@@ -46,7 +47,7 @@ pub(super) enum Command {
 }
 
 /// Where something is done.
-#[derive(Clone, Copy, Debug, PartialEq, Eq)]
+#[derive(Clone, Copy, Debug, PartialEq, Eq, PartialOrd, Ord)]
 pub(super) enum Who {
     Replica(usize),
     Station,
@@ -81,6 +82,8 @@ pub(super) enum Local {
     Lose {
         ticket: u32,
     },
+    /// Whether nothing comes to it by `stabilize`.
+    Close(bool),
 }
 
 /// Bytes on their way to a replica.
@@ -226,9 +229,9 @@ impl<'a> Rest<'a> {
 }
 
 /// The commands at one replica, whose number stands behind them, or at the station.
-const LOCAL: [&str; 16] = [
+const LOCAL: [&str; 20] = [
     "begin", "read", "write", "ask", "withdraw", "report", "send", "deliver", "take", "work",
-    "load", "restart", "journal", "values", "late", "lose",
+    "load", "out", "back", "restart", "journal", "values", "late", "lose", "close", "open",
 ];
 
 fn command(line: &str) -> Result<Command, String> {
@@ -276,6 +279,8 @@ fn local(name: &str, rest: &mut Rest) -> Result<Local, String> {
             with: rest.takes("with").then(|| carried(rest)).transpose()?,
         },
         "journal" => Local::Journal,
+        "close" => Local::Close(true),
+        "open" => Local::Close(false),
         "values" => Local::Values,
         "late" => Local::Late {
             slots: rest.named("slots")?,
@@ -312,6 +317,14 @@ fn call(name: &str, rest: &mut Rest) -> Result<Call, String> {
         "load" => Call::Load {
             classes: classes(rest)?,
         },
+        "out" => {
+            let about = rest.named("replica")?;
+            Call::Notice(Notice::out(about, rest.named("from")?))
+        }
+        "back" => {
+            let about = rest.named("replica")?;
+            Call::Notice(Notice::back(about, rest.named("at")?))
+        }
         "begin" => Call::Begin,
         _ => return Err(unknown(name)),
     })

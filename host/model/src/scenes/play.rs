@@ -1,18 +1,19 @@
 //! The replicas of a scene, its station, and the blocks that were handed out.
 
-use std::collections::BTreeMap;
+use std::collections::{BTreeMap, BTreeSet};
 
 use super::parse::{Carried, Change, Command, Local, Source, Who};
 use super::words;
 use super::{Player, Words};
 use crate::block::{self, BLOCK};
+use crate::notice::{self, Notice};
 use crate::refusal::{FAR_SLOT, NOTHING_WAITS, PAST_SLOT, SLOT_TAKEN};
 use crate::replica::ITEMS;
 use crate::samples::{block_of, Writes};
 use crate::trace::{Answer, Call, Restart};
 
-/// The most passes of one `stabilize`: far more than any scene needs.
-const PASSES: usize = 1_000;
+/// The most passes of one `stabilize`, and the most works in a row: far more than any scene needs.
+const PASSES: usize = 200;
 
 pub(super) struct Playing<P, M> {
     make: M,
@@ -23,6 +24,10 @@ pub(super) struct Playing<P, M> {
     start: i32,
     /// What was handed out last for a slot.
     blocks: BTreeMap<u32, Box<[u8; BLOCK]>>,
+    /// The notices that each took, in order.
+    notices: BTreeMap<Who, Vec<Notice>>,
+    /// Those that nothing comes to by `stabilize`.
+    closed: BTreeSet<Who>,
 }
 
 impl<P: Player, M: Fn(u32, Option<u32>, &[i32; ITEMS]) -> Result<P, u8>> Playing<P, M> {
@@ -34,6 +39,8 @@ impl<P: Player, M: Fn(u32, Option<u32>, &[i32; ITEMS]) -> Result<P, u8>> Playing
             station: None,
             start: 0,
             blocks: BTreeMap::new(),
+            notices: BTreeMap::new(),
+            closed: BTreeSet::new(),
         }
     }
 
@@ -84,6 +91,8 @@ impl<P: Player, M: Fn(u32, Option<u32>, &[i32; ITEMS]) -> Result<P, u8>> Playing
                 self.station = None;
                 self.start = value;
                 self.blocks.clear();
+                self.notices.clear();
+                self.closed.clear();
                 let last = n - 1;
                 vec![format!("replicas 0 to {last} hold all items at {value}")]
             }
@@ -101,6 +110,8 @@ impl<P: Player, M: Fn(u32, Option<u32>, &[i32; ITEMS]) -> Result<P, u8>> Playing
             Err(number) => vec![words::refusal(Who::Station, number, self.words)],
             Ok(station) => {
                 self.station = Some(station);
+                self.notices.remove(&Who::Station);
+                self.closed.remove(&Who::Station);
                 vec![format!("the station holds all items at {start}")]
             }
         })
@@ -139,17 +150,36 @@ impl<P: Player, M: Fn(u32, Option<u32>, &[i32; ITEMS]) -> Result<P, u8>> Playing
                 self.player(who).lose(*ticket);
                 format!("ticket {ticket} is gone from the memory of {who}")
             }
+            (Local::Close(true), _) => {
+                self.closed.insert(who);
+                format!("{who} is closed")
+            }
+            (Local::Close(false), _) => {
+                self.closed.remove(&who);
+                format!("{who} is open")
+            }
         };
         Ok(vec![line])
     }
 
     /// A call, in words, and its answer.
     fn call(&mut self, who: Who, call: &Call) -> (String, Result<Answer, u8>) {
+        let out = self.out_slot(who);
         let answer = self.player(who).call(call);
         if let Ok(Answer::Block(block)) = &answer {
             self.blocks.insert(block::header(block).slot, block.clone());
         }
-        (words::answer(who, call, &answer, self.words), answer)
+        if let (Call::Notice(notice), Ok(_)) = (call, &answer) {
+            self.notices.entry(who).or_default().push(*notice);
+        }
+        (words::answer(who, call, &answer, out, self.words), answer)
+    }
+
+    /// The slot that a turn is at, if it is out there.
+    fn out_slot(&mut self, who: Who) -> Option<u32> {
+        let (n, turn) = (self.players.len() as u32, self.player(who).report().turn);
+        let taken = self.notices.get(&who)?;
+        notice::puts_out(taken, n, turn).then_some(turn)
     }
 
     /// A deliver and, where it is accepted, works until nothing waits.
@@ -162,10 +192,11 @@ impl<P: Player, M: Fn(u32, Option<u32>, &[i32; ITEMS]) -> Result<P, u8>> Playing
         lines
     }
 
-    /// Works until nothing waits. Gives whether anything was done.
+    /// Works until nothing waits, or for long: where all are out, nothing need wait. Gives whether
+    /// anything was done.
     fn work(&mut self, who: Who, lines: &mut Vec<String>) -> bool {
         let mut moved = false;
-        loop {
+        for _ in 0..PASSES {
             let (line, answer) = self.call(who, &Call::Work);
             match answer {
                 Ok(_) => lines.push(line),
@@ -178,14 +209,17 @@ impl<P: Player, M: Fn(u32, Option<u32>, &[i32; ITEMS]) -> Result<P, u8>> Playing
             }
             moved = true;
         }
+        moved
     }
 
     /// Hands all blocks round and works, until nothing moves.
     fn stabilize(&mut self) -> Result<Vec<String>, String> {
         let mut lines = Vec::new();
+        let open = self.everyone().filter(|who| !self.closed.contains(who));
+        let open: Vec<Who> = open.collect();
         for _ in 0..PASSES {
             let mut moved = false;
-            for who in self.everyone() {
+            for &who in &open {
                 moved |= self.hand(who, &mut lines);
                 moved |= self.work(who, &mut lines);
             }
@@ -243,6 +277,11 @@ impl<P: Player, M: Fn(u32, Option<u32>, &[i32; ITEMS]) -> Result<P, u8>> Playing
             own: k as u32,
             values: vec![self.start; ITEMS],
             journal,
+            notices: self
+                .notices
+                .get(&Who::Replica(k))
+                .cloned()
+                .unwrap_or_default(),
         };
         let answer = self.players[k].restart(&restart);
         let restarted = answer.map_err(|number| format!("the restart is refused by {number}"))?;

@@ -84,6 +84,14 @@ fn wrong_commands() {
             "128 is not 5 to 127",
         ),
         ("restart 0 bytes 1", "the journal of replica 0 has 0 bytes"),
+        ("out 0", r#""replica" is due, and not the line's end"#),
+        ("out 0 replica 1 at 5", r#""from" is due, and not "at""#),
+        ("back 0 replica 1 from 5", r#""at" is due, and not "from""#),
+        (
+            "back 0 replica -1 at 5",
+            r#""-1" is no number, or out of range here"#,
+        ),
+        ("close 2", "replica 2 is not made"),
         ("begin station", "the station is not made"),
         (
             "make station 2",
@@ -189,6 +197,49 @@ fn stabilize_tells_the_steps() {
     let lines: Vec<&str> = answers.lines().skip(2).collect();
     let passes = |k| format!("replica {k} passes over the block of replica 0; the turn moves");
     assert_eq!(lines, [&passes(0), &passes(1), "nothing moves"]);
+}
+
+/// Who is closed is passed over; what each took is told, and lent to its restart. A new group has taken
+/// nothing.
+#[test]
+fn notices_in_a_scene() {
+    let text = "# A scene.\nmake 2\nout 0 replica 1 from 1\nclose 1\nsend 0\nstabilize\n\
+        open 1\nstabilize\nrestart 0\nsend 0\ntake 0 slot 2\nback 0 replica 1 at 4\n----\n";
+    let said = played(text).unwrap();
+    let (_, answers) = said.split_once("----\n").unwrap();
+    let lines: Vec<&str> = answers.lines().skip(1).collect();
+    let passes = "passes over the block of replica 0; the turn moves";
+    let due = [
+        "replica 0 takes it that replica 1 is out from slot 1",
+        "replica 1 is closed",
+        "replica 0 sends the block of slot 0, without writesets",
+        &format!("replica 0 {passes}"),
+        "replica 0 passes slot 1 of replica 1, which is out; the turn moves",
+        "replica 1 is open",
+        &format!("replica 1 {passes}"),
+        "replica 0 restarts with 2 blocks of its journal, and hands out once more the block of slot 0, \
+         without writesets",
+        "replica 0 sends the block of slot 2, without writesets",
+        "replica 0 keeps the block of slot 2",
+        &format!("replica 0 {passes}"),
+        "replica 0 passes slot 3 of replica 1, which is out; the turn moves",
+        "replica 0 takes it that replica 1 is back at slot 4",
+    ];
+    assert_eq!(lines, due);
+    let anew = played(&text.replace("restart 0\nsend 0\ntake 0 slot 2", "make 2")).unwrap();
+    assert!(
+        anew.ends_with("replica 0 refuses by 28: another\n"),
+        "{anew}"
+    );
+}
+
+/// Where all are out, works go on for long, and the group does not come to rest.
+#[test]
+fn all_out() {
+    let text =
+        "# A scene.\nmake 2\nout 0 replica 0 from 0\nout 0 replica 1 from 1\nstabilize\n----\n";
+    let error = played(text).unwrap_err();
+    assert_eq!(error, "some.txt, line 5: the group does not come to rest");
 }
 
 #[test]

@@ -3,11 +3,19 @@
 use super::parse::Who;
 use super::Words;
 use crate::block::{self, Message, BLOCK};
+use crate::notice::{Kind, Notice};
 use crate::replica::{Report, Restarted, Work, ITEMS};
 use crate::trace::{Answer, Call};
 
-/// What a replica or the station answers to a call.
-pub(super) fn answer(who: Who, call: &Call, answer: &Result<Answer, u8>, words: Words) -> String {
+/// What a replica or the station answers to a call. `out` is the slot that its turn was at, if that was
+/// out there.
+pub(super) fn answer(
+    who: Who,
+    call: &Call,
+    answer: &Result<Answer, u8>,
+    out: Option<u32>,
+    words: Words,
+) -> String {
     let said = match answer {
         Err(number) => return refusal(who, *number, words),
         Ok(Answer::Done) => done(call),
@@ -16,7 +24,7 @@ pub(super) fn answer(who: Who, call: &Call, answer: &Result<Answer, u8>, words: 
         Ok(Answer::ReadOnly(read_only)) => asked(call, *read_only),
         Ok(Answer::Report(numbers)) => report(numbers),
         Ok(Answer::Block(block)) => format!("sends {}", contents(block)),
-        Ok(Answer::Work(work)) => worked(work),
+        Ok(Answer::Work(work)) => worked(work, out),
     };
     format!("{who} {said}")
 }
@@ -39,6 +47,10 @@ fn done(call: &Call) -> String {
             Err(_) => "keeps bytes that are no block".to_string(),
         },
         Call::Load { .. } => "loads the classes".to_string(),
+        Call::Notice(Notice { kind, about, slot }) => match kind {
+            Kind::Out => format!("takes it that replica {about} is out from slot {slot}"),
+            Kind::Back => format!("takes it that replica {about} is back at slot {slot}"),
+        },
         other => format!("accepts {other:?}"),
     }
 }
@@ -61,10 +73,12 @@ fn report(of: &Report) -> String {
     )
 }
 
-fn worked(work: &Work) -> String {
-    let mut said = match work.ticket {
-        0 => format!("passes over the block of replica {}", work.sender),
-        ticket => format!("commits ticket {ticket} of replica {}", work.sender),
+fn worked(work: &Work, out: Option<u32>) -> String {
+    let sender = work.sender;
+    let mut said = match (work.ticket, out) {
+        (0, Some(slot)) => format!("passes slot {slot} of replica {sender}, which is out"),
+        (0, None) => format!("passes over the block of replica {sender}"),
+        (ticket, _) => format!("commits ticket {ticket} of replica {sender}"),
     };
     if !work.aborted.is_empty() {
         let tickets = if work.aborted.len() == 1 {

@@ -174,3 +174,43 @@ fn rounds_with_tables() {
     }
     assert!(waited > 100 && let_through > 30, "{waited}, {let_through}");
 }
+
+/// Groups with a membership service end with equal copies but for those that are closed; where any notice
+/// comes to anybody, some do not. Slots are passed as out, also by their own replica, and restarts are lent
+/// notices.
+#[test]
+fn rounds_with_notices() {
+    let mut list = List::default();
+    let (mut differ, mut slots, mut commits) = (0, 0, 0);
+    for (round, seed) in recorded::ROUNDS.iter().zip(recorded::FIRST_SEED..) {
+        let places = recorded::play(&mut list, round, seed);
+        if !round.any {
+            agree(&list, &places);
+            let report = list.replica(places[0]).report();
+            slots += report.turn;
+            commits += report.commits;
+        }
+        let first = list.replica(places[0]).values();
+        differ += i32::from(places.iter().any(|&k| list.replica(k).values() != first));
+    }
+    assert!(differ > 0, "any notice does no harm");
+    assert!(slots > 200 && commits > 20, "{slots}, {commits}");
+    let mut replay = Replay::default();
+    let (mut passed, mut own, mut lent, mut refused) = (0, 0, 0, 0);
+    for line in String::from_utf8(list.text.clone()).unwrap().lines() {
+        let place = line.get(2..3).and_then(|k| replay.replica(k.parse().ok()?));
+        let out = place.is_some_and(|replica| replica.is_out(replica.turn));
+        let at_own = place.is_some_and(|r| {
+            r.own
+                .is_some_and(|own| r.turn as usize % r.inbox.len() == own.into())
+        });
+        let taken = place.map_or(0, |replica| replica.notices.len());
+        let answer = replay.answer(line.as_bytes());
+        passed += i32::from(line.starts_with('K') && out);
+        own += i32::from(line.starts_with('K') && out && at_own);
+        lent += i32::from(line.starts_with('Z') && answer != "?" && taken > 0);
+        refused += i32::from(answer == "29");
+    }
+    assert!(passed > 300 && own > 50, "{passed}, {own}");
+    assert!(lent > 40 && refused > 15, "{lent}, {refused}");
+}

@@ -27,8 +27,8 @@ pub fn play(list: &mut List, lists: &[(&str, &str)]) {
 pub fn steps(text: &str, first: u64) -> impl Iterator<Item = (String, String)> + '_ {
     text.lines().skip(1).map(move |step| {
         let (line, answer) = step.trim().split_once(" -> ").unwrap();
-        let line = match line.strip_suffix(" 0").filter(|line| line.starts_with('D')) {
-            Some(deliver) => format!("{deliver} {first}"),
+        let line = match line.rsplit_once(' ').filter(|_| line.starts_with('D')) {
+            Some((deliver, i)) => format!("{deliver} {}", first + u64::from(number(i))),
             None => expand(line),
         };
         (line, expand(answer))

@@ -1,9 +1,10 @@
 //! The lines of the blocks: those of a picture, and those that a list has by its calls and answers alone.
 
 use model::block;
+use model::replay::Replay;
 
 use crate::lists::{bytes, List};
-use crate::marks::{elements, number};
+use crate::marks::{elements, is_out, number};
 
 /// The line of a block, by lines of the list.
 #[derive(Clone, Debug, PartialEq, Eq, PartialOrd, Ord)]
@@ -47,9 +48,12 @@ pub fn due(list: &List, first: usize, last: usize) -> Vec<Line> {
     let mut sent: Vec<(usize, Vec<u8>)> = Vec::new();
     let mut all: Vec<Open> = Vec::new();
     let mut turns = [0; 8];
+    let mut replay = Replay::default();
     for (at, (call, answer)) in list.calls.iter().zip(&list.told).enumerate() {
         let at = at + 1;
         let fields: Vec<&str> = call.split(' ').collect();
+        let out = is_out(&replay, &fields);
+        replay.answer(call.as_bytes());
         let answer: Vec<&str> = answer.split(' ').collect();
         if matches!(answer[0], "?" | "27") || fields[0] == "N" {
             continue;
@@ -81,6 +85,8 @@ pub fn due(list: &List, first: usize, last: usize) -> Vec<Line> {
             }
             _ if !accepted => {}
             "S" => sent.push((at, bytes(answer[1]))),
+            // No block was delivered for it.
+            "K" if out => turns[place] += 1,
             "K" => {
                 let mut waiting = all.iter_mut().filter(here);
                 let one = waiting.find(|one| one.slot == turns[place]).unwrap();

@@ -1,9 +1,10 @@
 //! Seeded lists of calls, with their answers: of the program `replay`, of a recorder, and of a week.
 
 use model::block::{self, BLOCK};
-use model::replay::{hex, Replay};
+use model::replay::{hex, line, Replay};
 use model::replica::Replica;
-use model::samples::Random;
+use model::samples::{self, Random};
+use model::trace::Call;
 use model::week::{Week, NOT_KEPT, NO_LINE};
 
 /// Calls and answers.
@@ -61,7 +62,8 @@ fn chosen(random: &mut Random, replica: &Replica) -> (usize, u32, u32) {
 /// A refused call is mostly put off for another.
 const TRIES: usize = 4;
 
-/// Calls at a group of two to five and a station, with notes, lines that are no calls, damaged blocks and cuts.
+/// Calls at a group of two to five and a station, with notes, lines that are no calls, damaged blocks, notices and
+/// cuts.
 pub fn seeded(seed: u64) -> List {
     let mut random = Random::new(seed);
     let n = 2 + random.below(4);
@@ -109,7 +111,11 @@ fn call(random: &mut Random, replay: &Replay, n: usize, slots: &[u32]) -> String
         36..46 => format!("S {owner}"),
         46..68 => format!("D {place} {block}"),
         68..70 => format!("F {place} {block} {}", random.below(8 * BLOCK)),
-        70..95 => format!("K {place}"),
+        70..72 => {
+            let notice = samples::notice(random, n as u32, replica.turn, &replica.notices);
+            line(place, &Call::Notice(notice))
+        }
+        72..95 => format!("K {place}"),
         95 => format!("V {place}"),
         96 => format!("Q {place}"),
         97 => "# a note with <signs> & \"quotes\"".to_string(),

@@ -139,7 +139,7 @@ fn check_values(test: &str, list: &List, first: usize, last: usize, picture: &st
 
 #[test]
 fn stored_lists() {
-    for name in ["stems", "early", "sends"] {
+    for name in ["stems", "early", "sends", "notices"] {
         let [calls, answers] =
             ["calls", "out"].map(|kind| file(&format!("examples/{name}.{kind}")));
         check(name, &List::stored(&calls, &answers));
@@ -179,7 +179,7 @@ fn seeded_lists() {
     }
     let counts = counts(&all);
     println!("{counts:?}");
-    assert_eq!(counts.len(), 13, "{counts:?}");
+    assert_eq!(counts.len(), 15, "{counts:?}");
     assert!(counts.values().all(|&count| count >= 3), "{counts:?}");
 }
 

@@ -2,6 +2,8 @@
 
 use std::collections::BTreeMap;
 
+use model::replay::{Replay, PLACES};
+
 use crate::lists::List;
 
 /// The elements of a picture with this start, each up to its first `>`.
@@ -42,9 +44,12 @@ pub fn marks(picture: &str) -> Vec<Mark> {
 /// The marks of these lines, counted from the calls and answers alone.
 pub fn due(list: &List, first: usize, last: usize) -> Vec<Mark> {
     let mut found = Vec::new();
+    let mut replay = Replay::default();
     for (at, (call, answer)) in list.calls.iter().zip(&list.told).enumerate() {
         let fields: Vec<&str> = call.split(' ').collect();
         let letter = fields[0];
+        let out = is_out(&replay, &fields);
+        replay.answer(call.as_bytes());
         let answer: Vec<&str> = answer.split(' ').collect();
         let kinds: &[&str] = match (letter, answer[0]) {
             (_, "?") if call.starts_with('#') => &[],
@@ -53,11 +58,13 @@ pub fn due(list: &List, first: usize, last: usize) -> Vec<Mark> {
             (_, number) if number != "0" => &["refusal"],
             ("S", _) => &["send"],
             ("D" | "F" | "H", _) => &["deliver"],
+            ("K", _) if out => &["out"],
             ("K", _) if answer[2] == "0" => &["pass"],
             ("K", _) => &["commit"],
             ("M" | "A", _) => &["make"],
             ("Z" | "Y", _) => &["restart"],
             ("V" | "Q" | "J" | "P", _) => &["look"],
+            ("O" | "U", _) => &["notice"],
             ("X", _) => &["withdrawn"],
             ("C", _) if answer[1] == "1" => &["read-only"],
             _ => &[],
@@ -79,6 +86,15 @@ pub fn due(list: &List, first: usize, last: usize) -> Vec<Mark> {
     }
     found.sort();
     found
+}
+
+/// Whether the turn of the place that a call is at is a slot that is out there. A week has no notices.
+pub fn is_out(replay: &Replay, fields: &[&str]) -> bool {
+    let place = fields.get(1).and_then(|place| place.parse().ok());
+    let replica = place
+        .filter(|&place| place < PLACES)
+        .and_then(|place: usize| replay.replica(place));
+    replica.is_some_and(|replica| replica.out_next().is_some())
 }
 
 /// How often each refusal number stands in the picture with words.

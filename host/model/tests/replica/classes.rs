@@ -124,7 +124,7 @@ fn after_a_restart() {
     let mut replica = make(2, 1);
     replica.load(&table(&[40])).unwrap();
     let journal = block_of(2, 0, &[(1, &[(5, 1)])]);
-    let (restarted, _) = Replica::restart(2, 1, &start_values(), &journal).unwrap();
+    let (restarted, _) = Replica::restart(2, 1, &start_values(), &journal, &[]).unwrap();
     assert_eq!(restarted.classes, [0; ITEMS]);
     assert_eq!(restarted.classes, make(2, 1).classes);
 }

@@ -2,10 +2,12 @@
 //! stamps are kept. It is slow, and it can be told to commit a fault.
 
 mod classes;
+mod notices;
 mod turn;
 
 use model::block::{self, Entry, Message, Record, BLOCK, MAX_TICKET};
 use model::drive::Subject;
+use model::notice::Notice;
 use model::replica::{Report, Work, ITEMS};
 use model::trace::{Answer, Call};
 
@@ -71,6 +73,8 @@ pub struct Historical {
     commits: Vec<Vec<Entry>>,
     /// Every table of classes loaded.
     loads: Vec<[u8; ITEMS]>,
+    /// Every notice taken.
+    notices: Vec<Notice>,
 }
 
 #[derive(Clone)]
@@ -131,6 +135,7 @@ impl Historical {
             works: Vec::new(),
             commits: Vec::new(),
             loads: Vec::new(),
+            notices: Vec::new(),
         }
     }
 
@@ -316,6 +321,7 @@ impl Subject for Historical {
             Call::Deliver { ref bytes } => self.deliver(bytes).map(|()| Answer::Done)?,
             Call::Work => Answer::Work(self.work()?),
             Call::Load { ref classes } => self.load(classes).map(|()| Answer::Done)?,
+            Call::Notice(notice) => self.notice(notice).map(|()| Answer::Done)?,
         })
     }
 

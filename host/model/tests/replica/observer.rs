@@ -1,6 +1,7 @@
 //! The observer, sentence by sentence of demand 3: lists of calls and answers that no right group
 //! gives, each of which breaks one sentence.
 
+mod notices;
 mod restarts;
 mod stations;
 
@@ -10,8 +11,9 @@ use model::trace::{Answer, Call};
 
 use crate::common::{block_of, start_values, Writes};
 
-/// An observed group of 2, and stations beside it, of which only the answers exist.
+/// An observed group, and stations beside it, of which only the answers exist.
 struct Script {
+    n: u32,
     observer: Observer,
     reports: Vec<Report>,
     values: Vec<[i32; ITEMS]>,
@@ -19,10 +21,15 @@ struct Script {
 
 impl Script {
     fn new() -> Script {
+        Script::of(2)
+    }
+
+    fn of(n: usize) -> Script {
         Script {
-            observer: Observer::new(2, start_values()),
-            reports: vec![Report::default(); 2],
-            values: vec![start_values(); 2],
+            n: n as u32,
+            observer: Observer::new(n, start_values()),
+            reports: vec![Report::default(); n],
+            values: vec![start_values(); n],
         }
     }
 
@@ -62,7 +69,7 @@ impl Script {
     }
 
     fn send(&mut self, replica: usize, slot: u32, records: &[Writes]) {
-        let block = Box::new(block_of(2, slot, records));
+        let block = Box::new(block_of(self.n, slot, records));
         self.observer
             .feed(replica, &Call::Send, &Ok(Answer::Block(block)));
     }

@@ -64,7 +64,7 @@ fn run(seed: u64, by_header: bool, met: &mut Met) {
                 };
                 journal.extend(block::encode(&forged));
             }
-            let (restarted, answer) = Replica::restart(n, own, &start_values(), &journal)
+            let (restarted, answer) = Replica::restart(n, own, &start_values(), &journal, &[])
                 .expect("N and number are right");
             journal.truncate(BLOCK * answer.count as usize);
             replica = restarted;

@@ -134,6 +134,11 @@ impl Powered for Faulty {
     fn disk(&self) -> &[u8] {
         &self.machine.disk
     }
+    fn ended(&mut self, call: &Call) {
+        let floor = self.machine.floor;
+        let _ = self.call(call);
+        self.machine.floor = floor;
+    }
     fn floor(&self) -> usize {
         self.machine.floor
     }
@@ -248,6 +253,7 @@ fn differ(fault: Fault, seed: u64) -> bool {
         own: u32::from(right.machine.replica.own.unwrap()),
         values: crate::common::start_values().to_vec(),
         journal,
+        notices: Vec::new(),
     };
     right.restart(&restart) != wrong.restart(&restart) || right.machine != wrong.machine
 }

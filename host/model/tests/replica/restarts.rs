@@ -11,7 +11,7 @@ use crate::common::{ask, block_of, make, pass_to, start_values, take};
 
 /// A restart of replica `own` of `n`.
 fn restart(n: u32, own: u32, journal: &[u8]) -> (Replica, Restarted) {
-    Replica::restart(n, own, &start_values(), journal).unwrap()
+    Replica::restart(n, own, &start_values(), journal, &[]).unwrap()
 }
 
 /// How many blocks of a journal a restart in a group of `n` commits.
@@ -33,7 +33,8 @@ fn four_blocks() -> Vec<u8> {
 #[test]
 fn refused_as_a_make() {
     let values = start_values();
-    let refused = |n, own, values: &[i32]| Replica::restart(n, own, values, &four_blocks()).err();
+    let refused =
+        |n, own, values: &[i32]| Replica::restart(n, own, values, &four_blocks(), &[]).err();
     for (n, own) in [(0, 0), (1, 0), (7, 0), (2, 2), (6, 6), (258, 0), (2, 256)] {
         assert_eq!(refused(n, own, &values), Some(2), "{n}, {own}");
         assert_eq!(refused(n, own, &values[1..]), Some(1), "{n}, {own}");

@@ -12,6 +12,7 @@ use model::trace::{Answer, Call, Restart};
 
 use crate::faults::FAULTS;
 use crate::history::{Fault, Historical};
+use crate::notice_faults;
 use crate::restart_faults;
 use crate::station_faults;
 
@@ -71,15 +72,15 @@ fn the_flag() {
     assert_eq!(rewrite(Some("yes")), Err(error.to_string()));
 }
 
-/// Every number of document 01's table, 23 and 25 refuse a call in some scene; there is no 22 any more, and no 24.
+/// Every number of document 01's table, 23, 25, 28 and 29 refuse a call in some scene; there is no 22 any
+/// more, and no 24, and 26 and 27 are of another program.
 #[test]
 fn every_refusal_is_shown() {
     let lines = all().iter().flat_map(|scene| scene.text.lines());
     let refused = lines.filter_map(|line| line.split_once(" refuses by ")?.1.split_once(':'));
     let numbers: BTreeSet<u8> = refused.map(|(n, _)| n.parse().unwrap()).collect();
-    assert!(numbers
-        .into_iter()
-        .eq((1..=25).filter(|&n| n != 22 && n != 24)));
+    let due = (1..=29).filter(|n| ![22, 24, 26, 27].contains(n));
+    assert!(numbers.into_iter().eq(due));
 }
 
 /// A replica by history, which has no disk.
@@ -155,6 +156,15 @@ impl Player for station_faults::Faulty {
     }
 }
 
+impl Player for notice_faults::Faulty {
+    fn late(&mut self, slots: u32, tickets: u32) {
+        self.machine.late(slots, tickets);
+    }
+    fn lose(&mut self, ticket: u32) {
+        self.machine.lose(ticket);
+    }
+}
+
 /// Whether such replicas do not answer what stands in the scene.
 fn differs<P: Player>(
     scene: &Scene,
@@ -204,6 +214,20 @@ fn wrong_stations_are_told() {
     };
     assert!(!told(station_faults::Fault::None));
     for (fault, _) in station_faults::FAULTS {
+        assert!(told(fault), "no scene tells {fault:?}");
+    }
+}
+
+/// Replicas and stations that are wrong about notices.
+#[test]
+fn wrong_notices_are_told() {
+    let told = |fault| {
+        let faulty = |machine| notice_faults::Faulty::of(machine, fault);
+        let make = |n, own, values: &_| Machine::make(n, own, values).map(faulty);
+        all().iter().any(|scene| differs(scene, make))
+    };
+    assert!(!told(notice_faults::Fault::None));
+    for (fault, _) in notice_faults::FAULTS {
         assert!(told(fault), "no scene tells {fault:?}");
     }
 }

@@ -133,6 +133,34 @@ fn both_give_the_same_at_stations() {
     assert_eq!(seen.numbers(1), due, "{seen:?}");
 }
 
+/// The same with any notices at any time, at replicas and stations, some of them near the last slot.
+#[test]
+fn both_give_the_same_with_notices() {
+    let mut seen = [Seen::default(), Seen::default()];
+    for seed in 300..420 {
+        let n = 2 + seed as u32 % 5;
+        let own = seed as u32 / 5 % n;
+        let style = STYLES[seed as usize % 4].with_notices(10);
+        let (slots, tickets) = match seed % 6 {
+            0 => (SLOTS - 60, MAX_TICKET - 60),
+            _ => (0, 0),
+        };
+        let is_station = seed % 4 == 0;
+        let pair = match is_station {
+            true => Pair::station(n, slots, tickets),
+            false => Pair::late(n, own, Fault::None, slots, tickets),
+        };
+        seen[usize::from(is_station)].add(&run(pair, seed, style, 2_000));
+    }
+    for (seen, at) in seen.iter().zip(["replicas", "stations"]) {
+        assert!(seen.notices > 1_000, "{at}: {seen:?}");
+        assert!(seen.passed_out > 2_000, "{at}: {seen:?}");
+        for number in [2, 28, 29] {
+            assert!(seen.refused[number] > 200, "{at}: {seen:?}");
+        }
+    }
+}
+
 /// The same near the last slots and tickets.
 #[test]
 fn both_give_the_same_at_the_end() {

@@ -128,6 +128,11 @@ impl Powered for Faulty {
     fn disk(&self) -> &[u8] {
         self.machine.disk()
     }
+    fn ended(&mut self, call: &Call) {
+        let floor = self.machine.floor;
+        let _ = self.call(call);
+        self.machine.floor = floor;
+    }
     fn floor(&self) -> usize {
         self.machine.floor()
     }

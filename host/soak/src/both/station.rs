@@ -20,6 +20,7 @@ macro_rules! played_at_station {
             Call::Report => Some(Ok(Answer::Report(report($station.report())))),
             Call::Deliver { ref bytes } => Some($station.deliver(bytes).map(|()| Answer::Done)),
             Call::Work => Some($station.work().map(|step| Answer::Work(stepped(step)))),
+            Call::Notice(notice) => Some($crate::noticed!($station, notice)),
             Call::Write { .. } | Call::Send | Call::Load { .. } => None,
         };
         played.map(|played| played.map_err(Refusal::number))

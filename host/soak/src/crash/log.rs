@@ -6,15 +6,17 @@ use std::fs::OpenOptions;
 use std::io::{Read, Seek, SeekFrom};
 use std::path::{Path, PathBuf};
 
-use model::block::BLOCK;
+use model::block::{header, BLOCK};
+use model::notice::Notice;
 use model::observer::Observer;
 use model::replica::{Restarted, ITEMS};
 use model::trace::{Answer, Call, Restart};
 use stemline::Durable;
 
+use super::service::due;
 use super::{journal, N};
 use crate::lines::{block, grouped, parse};
-use crate::studio::{lent, play};
+use crate::studio::{lent, play, taken};
 
 /// What killed programs did.
 #[derive(Clone, Copy, Debug, Default)]
@@ -29,6 +31,10 @@ pub struct Met {
     pub sent_by_restart: u64,
     /// The writesets committed, counted when the group is at rest.
     pub commits: u64,
+    /// The notices taken.
+    pub notices: u64,
+    /// Of these, the ones whose call a kill ended.
+    pub noticed_by_kill: u64,
 }
 
 /// What the log of a killed program says, run after run.
@@ -97,6 +103,20 @@ impl Log {
         }
         self.read += whole as u64;
         file.set_len(self.read).unwrap();
+        (0..N).for_each(|k| self.take_in_notices(k));
+    }
+
+    /// A notice that is durable was taken, also where the kill came before it was logged.
+    fn take_in_notices(&mut self, k: usize) {
+        let durable = taken(&journal(&self.room, k));
+        let known = self.observer.notices(k);
+        assert!(durable.starts_with(known), "journal {k}: notices are lost");
+        let unknown = durable[known.len()..].to_vec();
+        assert!(unknown.len() <= 1, "journal {k}: {unknown:?}");
+        for notice in unknown {
+            self.feed(k, &Call::Notice(notice), &Ok(Answer::Done));
+            self.met.noticed_by_kill += 1;
+        }
     }
 
     /// A restart. The first of a run is lent what was in the file then, any other so many bytes of what
@@ -111,6 +131,7 @@ impl Log {
             own: k as u32,
             values: self.values.to_vec(),
             journal: lent,
+            notices: self.observer.notices(k).to_vec(),
         };
         self.met.restarts += 1;
         if restarted.gave_back() {
@@ -132,6 +153,28 @@ impl Log {
         if let Ok(Answer::Block(block)) = answer {
             self.hand_out(block);
         }
+        self.met.notices += u64::from(matches!(call, Call::Notice(_)) && answer.is_ok());
+    }
+
+    /// The blocks that were handed out from a slot on, in their order.
+    pub fn blocks_from(&self, slot: u32) -> Vec<Vec<u8>> {
+        let slot_of = |block: &[u8; BLOCK]| header(block).slot;
+        let blocks = self
+            .handed_out
+            .iter()
+            .filter(|block| slot_of(block) >= slot);
+        let mut blocks: Vec<Vec<u8>> = blocks.map(|block| block.to_vec()).collect();
+        blocks.sort_by_key(|block| block[4..8].iter().rev().copied().collect::<Vec<_>>());
+        blocks
+    }
+
+    /// Lets a replica take all that was said and can be taken by now.
+    pub fn hear(&mut self, said: &[Notice], k: usize, durable: &mut Durable) {
+        let turn = durable.report().turn;
+        while let Some(notice) = due(said, self.observer.notices(k), turn) {
+            let answer = self.call(k, durable, &Call::Notice(notice));
+            assert!(answer.is_ok(), "replica {k} is stranded: {notice}");
+        }
     }
 
     /// 1 where the block is new, else 0.
@@ -150,6 +193,8 @@ impl Met {
         self.blocks += other.blocks;
         self.sent_by_restart += other.sent_by_restart;
         self.commits += other.commits;
+        self.notices += other.notices;
+        self.noticed_by_kill += other.noticed_by_kill;
     }
 }
 
@@ -157,10 +202,11 @@ impl fmt::Display for Met {
     fn fmt(&self, f: &mut fmt::Formatter) -> fmt::Result {
         let [calls, restarts, blocks] = [self.calls, self.restarts, self.blocks].map(grouped);
         let [first, commits] = [self.sent_by_restart, self.commits].map(grouped);
+        let [notices, ended] = [self.notices, self.noticed_by_kill].map(grouped);
         write!(
             f,
             "{calls} calls, {restarts} restarts, {blocks} blocks handed out, {first} of them first by a restart; \
-             {commits} writesets committed"
+             {notices} notices taken, {ended} of them in a call that a kill ended; {commits} writesets committed"
         )
     }
 }

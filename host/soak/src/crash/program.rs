@@ -7,17 +7,19 @@ use std::io::Write;
 use std::path::PathBuf;
 use std::time::{Duration, Instant};
 
-use model::block::BLOCK;
+use model::block::{header, BLOCK};
 use model::drive::{local_call, Style, Tally};
+use model::journal::fixes;
+use model::notice::{self, Notice};
 use model::replay::hex;
 use model::samples::{damage, Random};
 use model::trace::{Answer, Call};
 use stemline::{Durable, HEAD};
 
-use super::{journal, N};
+use super::{journal, service, N};
 use crate::both::report;
 use crate::lines::{line, shown};
-use crate::studio::{lent, open, play};
+use crate::studio::{lent, open, play, taken};
 
 /// Few items, so that there are conflicts.
 const STYLE: Style = Style::new(12, 0, 15);
@@ -28,13 +30,17 @@ struct Program {
     members: Vec<Member>,
     /// Blocks handed out before their sender's last one.
     old: Vec<[u8; BLOCK]>,
+    /// What the membership service has said.
+    said: Vec<Notice>,
 }
 
 struct Member {
     durable: Durable,
     tally: Tally,
-    /// The block handed out last, if there is one, and the bytes that were in the file then.
+    /// The block handed out last, if there is one.
     last: Option<[u8; BLOCK]>,
+    /// The bytes that were in the file when that was handed out, the last notice taken, or the last slot passed
+    /// that is out; or all that were there when it was opened.
     floor: u64,
 }
 
@@ -43,6 +49,7 @@ impl Program {
         let mut log = OpenOptions::new();
         let log = log.append(true).create(true).open(room.join("log"));
         let mut program = Program {
+            said: service::said(&room),
             room,
             log: log.unwrap(),
             members: Vec::new(),
@@ -52,6 +59,8 @@ impl Program {
             let member = program.open(k);
             program.members.push(member);
         }
+        // What was said while it was down, before the first work.
+        (0..N).for_each(|k| program.hear(k));
         program
     }
 
@@ -72,9 +81,10 @@ impl Program {
         let (durable, restarted) = open(&journal(&self.room, k), N as u32, k as u32);
         let answer = format!("{} {}", restarted.count, hex(&*restarted.block));
         self.note(&format!("T {k} {length}"), &answer);
-        let tally = Tally::new(k, report(durable.report()));
+        let mut tally = Tally::new(k, report(durable.report()));
+        tally.notices = taken(&journal(&self.room, k));
         let last = restarted.gave_back().then_some(*restarted.block);
-        let floor = last.map_or(0, |_| self.length(k));
+        let floor = self.length(k);
         Member {
             durable,
             tally,
@@ -92,16 +102,51 @@ impl Program {
         file.unwrap().set_len(HEAD as u64 + left).unwrap();
         let member = self.open(k);
         self.members.insert(k, member);
+        self.hear(k);
+    }
+
+    /// Takes all that was said and can be taken by now.
+    fn hear(&mut self, k: usize) {
+        let due = |program: &Program| {
+            let tally = &program.members[k].tally;
+            service::due(&program.said, &tally.notices, tally.report.turn)
+        };
+        while let Some(notice) = due(self) {
+            let taken = self.members[k].tally.notices.len();
+            self.call(k, &Call::Notice(notice));
+            let now = self.members[k].tally.notices.len();
+            assert!(now > taken, "replica {k} is stranded: {notice}");
+        }
+    }
+
+    /// Says of a replica that it is out or back, from a slot on that is above all that was sent for, and lets all
+    /// take it at once.
+    fn say(&mut self, random: &mut Random) {
+        let reached = self.members.iter().map(|member| {
+            let turn = member.tally.report.turn;
+            let sent = member.last.is_some_and(|block| header(&block).slot >= turn);
+            turn + u32::from(sent)
+        });
+        let slot = reached.max().unwrap_or(0) + random.pick(&[0, 0, 1, 4]);
+        let about = random.below(N) as u32;
+        if let Some(notice) = service::next(&self.said, about, slot) {
+            service::say(&self.room, notice);
+            self.said.push(notice);
+            (0..N).for_each(|k| self.hear(k));
+        }
     }
 
     fn call(&mut self, k: usize, call: &Call) {
         let member = &mut self.members[k];
+        let out = member.tally.is_out(N as u32);
         let answer = play(&mut member.durable, call);
         self.note(&line(k, call), &shown(&answer));
         let member = &mut self.members[k];
         member.tally.feed(call, &answer);
-        if let Ok(Answer::Block(block)) = answer {
-            self.old.extend(member.last.replace(*block));
+        if let Ok(Answer::Block(block)) = &answer {
+            self.old.extend(member.last.replace(**block));
+        }
+        if fixes(call, &answer, out) {
             self.members[k].floor = self.length(k);
         }
     }
@@ -119,21 +164,38 @@ impl Program {
         Some(block)
     }
 
+    /// The block of a replica's turn from another's journal: nobody waits for one that is out, so that it may
+    /// need older ones than are handed out again. Of a slot that is out there is none.
+    fn from_journal(&self, random: &mut Random, k: usize) -> Option<[u8; BLOCK]> {
+        let turn = self.members[k].tally.report.turn;
+        let is_out = notice::puts_out(&self.said, N as u32, turn);
+        let journal = lent(&journal(&self.room, random.below(N)));
+        let block = journal.get(BLOCK * turn as usize..)?.first_chunk();
+        block.filter(|_| !is_out).copied()
+    }
+
     fn step(&mut self, random: &mut Random) {
         let k = random.below(N);
+        // One behind a Back that was ahead so far.
+        self.hear(k);
         match random.below(100) {
             0..50 => {
                 let call = local_call(random, &self.members[k].tally, STYLE);
                 self.call(k, &call);
             }
             50..70 => {
-                if let Some(block) = self.block(random) {
+                let block = match random.below(10) {
+                    0 => self.from_journal(random, k),
+                    _ => self.block(random),
+                };
+                if let Some(block) = block {
                     let bytes = block.to_vec();
                     self.call(k, &Call::Deliver { bytes });
                 }
             }
             70..95 => self.call(k, &Call::Work),
             95.. if random.below(60) == 0 => self.lose_power(random, k),
+            95.. if random.below(40) == 0 => self.say(random),
             _ => self.call(k, &Call::Send),
         }
     }

@@ -1,10 +1,11 @@
 //! Shows and checks journals and blocks.
 //!
 //! - `journal show FILE` prints whose journal it is, as [`Head`] writes it, which slots its head has copies
-//!   of, a line for each good block, as [`Block`] writes it, and a last one that says where they stop and
-//!   why.
-//! - `journal check FILE` prints the same without the blocks. The status is 0 where the file is good blocks
-//!   to its end, 1 where they stop before or the head has a copy of more, and where it is no journal.
+//!   of, a line for each notice that its replica took, as [`Notice`] writes it, a line for each good block, as
+//!   [`Block`] writes it, with a mark where its slot is out, and a last one that says where they stop and why.
+//! - `journal check FILE` prints the same without notices and blocks. The status is 0 where the file is good
+//!   blocks to its end, 1 where they stop before or the head has a copy of more, where notices are lost, and
+//!   where it is no journal.
 //! - `journal values FILE` prints the values that the good blocks leave, a line `ITEM VALUE` for each of the
 //!   128, as the present values to begin a new run from. What is wrong with the file is said in a line on
 //!   standard error, and the status is then 1.
@@ -24,7 +25,7 @@ use std::path::Path;
 use std::process::ExitCode;
 use std::{env, iter};
 
-use stemline::{Block, Blocks, Head, Stop, BLOCK, HEAD};
+use stemline::{Block, Blocks, Head, Notice, Stop, BLOCK, HEAD};
 
 const USAGE: &str = "usage: journal show FILE | journal check FILE | journal values FILE | \
     journal block HEX.. | journal block - | journal --help | journal --version";
@@ -90,6 +91,8 @@ struct Opened {
     head: Head,
     length: Option<u64>,
     copies: Vec<Vec<Block>>,
+    /// The notices beside it, or what is wrong with them.
+    notices: Result<Vec<Notice>, String>,
     blocks: Blocks<BufReader<File>>,
 }
 
@@ -109,6 +112,7 @@ fn open(file: &Path) -> Result<Result<Opened, Option<String>>, End> {
         Ok(head) => Ok(Opened {
             length: about.is_file().then_some(about.len()),
             copies: head.copies(&front),
+            notices: head.notices(&front, file).map_err(unread)?,
             blocks: Blocks::of(source, head.replicas(), 0),
             head,
         }),
@@ -168,13 +172,30 @@ fn look(file: &Path, shown: bool, out: &mut impl Write) -> Result<bool, End> {
         }
     };
     let copies = copied(&opened.copies);
-    printed(writeln!(out, "{}; {copies}", opened.head))?;
-    let (line, good) = opened.all(file, |block| match shown {
-        true => printed(writeln!(out, "{block}")),
-        false => Ok(()),
+    let notices = opened.notices.clone();
+    let taken = match &notices {
+        Ok(taken) if taken.is_empty() => String::new(),
+        Ok(taken) => format!("; {}", many(taken.len() as u64, "notice")),
+        Err(words) => format!("; {words}"),
+    };
+    printed(writeln!(out, "{}; {copies}{taken}", opened.head))?;
+    let taken = notices.as_deref().unwrap_or_default();
+    for notice in taken.iter().filter(|_| shown) {
+        printed(writeln!(out, "notice: {notice}"))?;
+    }
+    let n = opened.head.replicas();
+    let (line, good) = opened.all(file, |block| {
+        let mark = match Notice::is_out(taken, n, block.slot()) {
+            true => ", out",
+            false => "",
+        };
+        match shown {
+            true => printed(writeln!(out, "{block}{mark}")),
+            false => Ok(()),
+        }
     })?;
     printed(writeln!(out, "{line}"))?;
-    Ok(good)
+    Ok(good && notices.is_ok())
 }
 
 /// Prints the values that the good blocks of a file leave. Gives whether these are all.
@@ -222,12 +243,16 @@ fn place(blocks: u64) -> u64 {
     HEAD as u64 + blocks * BLOCK as u64
 }
 
-/// The line of so many good blocks, why they stop, and how many bytes are behind them, where that is known.
-fn ending(good: u64, stop: Stop, left: Option<u64>) -> String {
-    let many = |count: u64, what: &str| match count {
+/// So many of something.
+fn many(count: u64, what: &str) -> String {
+    match count {
         1 => format!("1 {what}"),
         _ => format!("{count} {what}s"),
-    };
+    }
+}
+
+/// The line of so many good blocks, why they stop, and how many bytes are behind them, where that is known.
+fn ending(good: u64, stop: Stop, left: Option<u64>) -> String {
     let place = format!("after {}, at byte {}", many(good, "block"), place(good));
     let left = left.map_or(String::new(), |left| {
         format!(", {} before the end", many(left, "byte"))

@@ -5,10 +5,12 @@ use std::path::{Path, PathBuf};
 
 use super::*;
 use crate::disk::told;
-use crate::{Stop, HEAD};
+use crate::{notices_path, Stop, HEAD};
 
 mod cuts;
 mod heads;
+mod notice_cuts;
+mod notices;
 mod rot;
 mod steps;
 
@@ -31,6 +33,10 @@ impl Room {
 
     fn journal(&self) -> PathBuf {
         self.0.join("journal")
+    }
+
+    fn notices(&self) -> PathBuf {
+        notices_path(&self.journal())
     }
 }
 
@@ -56,7 +62,7 @@ fn said<T>(given: Result<T, Failure>) -> String {
 
 /// The blocks of slots 0 to `slots` − 1 of a group of 2, by replica 0 and its peer.
 fn fill(replica: &mut Durable, slots: u32) -> Vec<[u8; BLOCK]> {
-    let (mut peer, _) = Replica::restart(2, 1, &[0; ITEMS], &[]).unwrap();
+    let (mut peer, _) = Replica::restart(2, 1, &[0; ITEMS], &[], &[]).unwrap();
     let mut blocks = Vec::new();
     for slot in 0..slots {
         let block = match slot % 2 {
@@ -103,8 +109,15 @@ fn over(replica: &mut Durable, block: &[u8]) {
     assert!(said(replica.load(&[1; ITEMS])).ends_with(due));
     assert!(said(replica.work()).ends_with(due));
     assert!(said(replica.take(block)).ends_with(due));
+    assert!(said(replica.out(1, 900)).ends_with(due));
+    assert!(said(replica.back(1, 900)).ends_with(due));
     assert!(said(replica.journal.append(&[0; BLOCK]).map_err(Failure::Disk)).ends_with(due));
     assert!(said(replica.journal.send(&[0; BLOCK]).map_err(Failure::Disk)).ends_with(due));
+    let notice = Notice::Out {
+        replica: 1,
+        slot: 9,
+    };
+    assert!(said(replica.journal.notice(notice).map_err(Failure::Disk)).ends_with(due));
     assert!(replica.replica == before, "a call went on");
 }
 
@@ -132,7 +145,7 @@ fn a_failed_append() {
     let block = replica.send().unwrap();
     replica.take(&block).unwrap();
     // A work that cannot append.
-    let (mut peer, _) = Replica::restart(2, 1, &[0; ITEMS], &writable[HEAD..]).unwrap();
+    let (mut peer, _) = Replica::restart(2, 1, &[0; ITEMS], &writable[HEAD..], &[]).unwrap();
     peer.take(&block).unwrap();
     let next = peer.send().unwrap();
     replica.journal.disk.file = File::open(room.journal()).unwrap();

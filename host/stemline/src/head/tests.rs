@@ -48,7 +48,7 @@ fn damaged() {
         let said = Head::read(&bad).unwrap_err();
         let why = match bit / 8 {
             0..16 => "the mark is missing",
-            16..20 => "and this program knows version 1",
+            16..20 => "and this program knows the versions 1 and 2",
             _ => "its head is damaged: the check does not match",
         };
         assert!(said.ends_with(why), "bit {bit}: {said}");

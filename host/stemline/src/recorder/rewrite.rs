@@ -4,21 +4,28 @@ use std::collections::BTreeSet;
 use std::io::Write;
 
 use super::Recorder;
-use crate::{Block, Replica, BLOCK};
+use crate::{Block, Notice, Replica, BLOCK};
 
-/// The most blocks of a journal that the program keeps.
+/// The most blocks of a journal that the program keeps, and the most notices.
 const KEPT: usize = 128;
+const NOTICES: usize = 32;
 /// The most tickets, of those that no own block has, that are begun to come to the others.
 const MISSING: usize = 1_000_000;
 
 impl<C: Write, A: Write> Recorder<C, A> {
-    /// Brings a replica just made, in the list too, to where a restart from these blocks leaves one, which
-    /// answered this.
-    pub(super) fn take_up(&mut self, journal: &[u8], restarted: &Replica, answer: &str) {
+    /// Brings a replica just made, in the list too, to where a restart from these blocks and notices leaves
+    /// one, which answered this.
+    pub(super) fn take_up(
+        &mut self,
+        journal: &[u8],
+        notices: &[Notice],
+        restarted: &Replica,
+        answer: &str,
+    ) {
         let (blocks, _) = journal.as_chunks();
-        if let Err(words) = self.write_again(blocks) {
+        if let Err(words) = self.write_again(blocks, notices) {
             self.stop(words);
-        } else if blocks.len() <= KEPT {
+        } else if blocks.len() <= KEPT && notices.len() <= NOTICES {
             let lent = format!(" {} {}", journal.len(), self.list.value);
             self.list.record('Z', &lent, answer);
         } else if self.is_like(restarted) {
@@ -37,11 +44,14 @@ impl<C: Write, A: Write> Recorder<C, A> {
         let (a, b) = (self.replica.memory(), other.memory());
         let [x, y] = [self.replica.report(), other.report()];
         (x.turn, x.commits, x.tickets, x.open_count) == (y.turn, y.commits, y.tickets, y.open_count)
-            && (a.values, a.stamps, a.classes) == (b.values, b.stamps, b.classes)
+            && (a.values, a.stamps, a.classes, a.group) == (b.values, b.stamps, b.classes, b.group)
     }
 
-    /// Takes the blocks of others, and sends the own ones; or says why not.
-    fn write_again(&mut self, blocks: &[[u8; BLOCK]]) -> Result<(), String> {
+    /// Takes the notices and the blocks of others, and sends the own ones; or says why not.
+    ///
+    /// When each notice was taken is not known, and no matter: it is taken as soon as it can be, since slots
+    /// are out by its slot alone.
+    fn write_again(&mut self, blocks: &[[u8; BLOCK]], notices: &[Notice]) -> Result<(), String> {
         let none = |at| {
             let words = "is none that a replica writes, so that no list says it";
             format!("block {at} of the journal {words}")
@@ -58,21 +68,58 @@ impl<C: Write, A: Write> Recorder<C, A> {
                 "more than {MISSING} tickets are not in the journal"
             ));
         }
+        let mut notices = notices.iter().copied().peekable();
         for (at, block) in blocks.iter().enumerate() {
-            let sent = match block.sender() == own {
-                true => self.send_again(block, &tickets),
-                false => Some(()),
+            while let Some(notice) = notices.next_if(|&notice| self.is_due(notice)) {
+                self.take_notice(notice)?;
+            }
+            let done = if self.replica.memory().group.is_out(block.slot()) {
+                self.passes(block)
+            } else if block.sender() == own {
+                self.send_again(block, &tickets)
+                    .and_then(|()| self.takes(block))
+            } else {
+                self.takes(block)
             };
-            sent.and_then(|()| self.takes(block))
-                .ok_or_else(|| none(at))?;
+            done.ok_or_else(|| none(at))?;
         }
-        Ok(())
+        notices.try_for_each(|notice| self.take_notice(notice))
     }
 
-    /// Takes the block of the turn.
+    /// Whether the turn has come to where a notice can be taken: an Out is, once its replica is back.
+    fn is_due(&self, notice: Notice) -> bool {
+        let memory = self.replica.memory();
+        match notice {
+            Notice::Out { replica, .. } => {
+                let back = memory.group.until.get(replica as usize);
+                back.is_none_or(|&back| back <= memory.turn.slot)
+            }
+            Notice::Back { .. } => true,
+        }
+    }
+
+    fn take_notice(&mut self, notice: Notice) -> Result<(), String> {
+        let taken = match notice {
+            Notice::Out { replica, slot } => self.out(replica, slot),
+            Notice::Back { replica, slot } => self.back(replica, slot),
+        };
+        let none = |_| {
+            format!("the notice {notice} is none that a replica takes, so that no list says it")
+        };
+        taken.map_err(none)
+    }
+
+    /// Passes a slot that is out, with this block for the journal.
+    fn passes(&mut self, block: &Block) -> Option<()> {
+        let work = self.work().ok()?;
+        (work.append()? == block.bytes()).then_some(())
+    }
+
+    /// Takes the block of the turn, and no slot behind it that is out.
     fn takes(&mut self, block: &Block) -> Option<()> {
-        let taken = self.take(block.bytes()).ok()?;
-        taken.steps.last()?.moved.then_some(())
+        self.deliver(block.bytes()).ok()?;
+        while !self.work().ok()?.moved {}
+        Some(())
     }
 
     /// Sends a block with the writesets of this one. Tickets that no block has are withdrawn at once.

@@ -125,10 +125,20 @@ impl<C: Write, A: Write> StationRecorder<C, A> {
         Step::of(&self.recorder.step(&mut [0; BLOCK]))
     }
 
+    /// As [`Station::out`].
+    pub fn out(&mut self, replica: u32, slot: u32) -> Result<(), Refusal> {
+        self.recorder.out(replica, slot)
+    }
+
+    /// As [`Station::back`].
+    pub fn back(&mut self, replica: u32, slot: u32) -> Result<(), Refusal> {
+        self.recorder.back(replica, slot)
+    }
+
     /// As [`Station::take`]; it is recorded as its deliver and its works.
     pub fn take(&mut self, bytes: &[u8]) -> Result<Taken<Step>, Refusal> {
         self.deliver(bytes)?;
         let waits = |station: &Self| station.recorder.replica.waits();
-        Ok(works(self, waits, StationRecorder::work))
+        Ok(works(self, waits, StationRecorder::work, |step| step.moved))
     }
 }

@@ -4,11 +4,11 @@
 #include "same.h"
 
 enum call { MAKE, STATION, RESTART, BEGIN, READ, WRITE, ASK, WITHDRAW, REPORT, SEND, DELIVER, WORK,
-            LOAD, CALLS };
+            LOAD, OUT, BACK, CALLS };
 
 static const char *const names[CALLS] = {
     "make", "make_station", "restart", "begin", "read", "write", "ask", "withdraw", "report", "send",
-    "deliver", "work", "load"};
+    "deliver", "work", "load", "out", "back"};
 static unsigned given[CALLS][256];
 static uint8_t good[STEMLINE_BLOCK];
 static int32_t start[STEMLINE_ITEMS] = {7, -7};
@@ -44,6 +44,10 @@ static void alter(stemline_replica *r) {
     r->turn.applying = (uint8_t)(any() % 2 * any());
     r->group.replicas = (uint8_t)(any() % 2 ? 2 : number());
     r->group.own = (uint8_t)(any() % 4 ? any() % 4 : STEMLINE_NO_NUMBER);
+    for (int k = 0; k < STEMLINE_REPLICAS; k++) {
+        r->group.from[k] = number();
+        r->group.until[k] = any() % 2 ? 0 : any() % 2 ? STEMLINE_SLOTS : number();
+    }
     r->counts.tickets = number();
 }
 
@@ -87,16 +91,21 @@ static uint8_t restart(stemline_replica *r) {
     memcpy(journal, good, any() % 4 ? sizeof good : 0);
     memset(&from_zeros, 0, sizeof from_zeros);
     memcpy(&from_any, r, sizeof from_any);
-    stemline_restart_reply a = stemline_replica_restart(&from_zeros, 2, 0, start, journal, length, block);
-    stemline_restart_reply b = stemline_replica_restart(&from_any, 2, 0, start, journal, length, again);
+    stemline_notice notices[] = {{number(), number(), number()}, {any() % 2, 1, any() % 2}};
+    size_t count = any() % 3;
+    bool out = count > 0 && ((notices[0].replica == 0 && notices[0].slot == 0) || count > 1);
+    stemline_restart_reply a =
+        stemline_replica_restart(&from_zeros, 2, 0, start, journal, length, notices, count, block);
+    stemline_restart_reply b =
+        stemline_replica_restart(&from_any, 2, 0, start, journal, length, notices, count, again);
     hold(a.number == 0 && b.number == 0 && a.count == b.count, "restart: two answers");
     hold(memcmp(block, again, sizeof block) == 0, "restart: two blocks");
-    hold((a.count > 0) == (block[0] != 0), "restart: no block of the own ones");
+    hold(out || (a.count > 0) == (block[0] != 0), "restart: no block of the own ones");
     size_t used = STEMLINE_PLACES(2);
     memcpy(from_any.places + used, from_zeros.places + used, sizeof r->places - used);
     hold(same(&from_zeros, &from_any), "restart: what was there before is left");
     stemline_restart_reply said =
-        stemline_replica_restart(r, number(), number(), start, journal, length, again);
+        stemline_replica_restart(r, number(), number(), start, journal, length, notices, count, again);
     hold(said.number == 0 || memcmp(block, again, sizeof block) == 0, "restart: the block is changed");
     hold(said.number == 0 || said.count == 0, "restart: a count where it is refused");
     return said.number;
@@ -163,6 +172,8 @@ static uint8_t play(stemline_replica *r, enum call call) {
     case SEND: return send(r);
     case DELIVER: return deliver(r);
     case LOAD: return load(r);
+    case OUT: return stemline_replica_out(r, number(), number());
+    case BACK: return stemline_replica_back(r, number(), number());
     default: return work(r);
     }
 }

@@ -7,7 +7,7 @@
 /* The arrays that calls are lent. */
 enum part {
     TABLE, START, QUEUE, ITEMS, WRITES, SNAPSHOTS, VALUES, STAMPS, CLASSES, PLACES, OUTBOX, BLOCK, BYTES,
-    GIVEN, PARTS
+    GIVEN, NOTICES, PARTS
 };
 
 /* What calls are lent and given, in another order than a replica has it. Each array has room for an
@@ -26,7 +26,8 @@ typedef struct parts {
     /* of any length, and read only: it stays where it is */
     const uint8_t *journal;
     size_t journal_length;
-    uint32_t n, own, ticket, item;
+    const uint32_t *notices;
+    uint32_t n, own, ticket, item, replica, slot;
     int32_t value;
 } parts;
 
@@ -42,7 +43,7 @@ static struct {
     stemline_work_reply work;
 } said;
 
-/* ---- The thirteen calls over the parts, with the lengths as they are told */
+/* ---- The fifteen calls over the parts, with the lengths as they are told */
 
 static uint8_t call_make(void) {
     return stemline_make(
@@ -66,8 +67,16 @@ static uint8_t call_restart(void) {
         p.queue, length[QUEUE], p.items, length[ITEMS], p.writes, length[WRITES],
         p.snapshots, length[SNAPSHOTS], p.values, length[VALUES], p.stamps, length[STAMPS],
         p.classes, length[CLASSES], p.places, length[PLACES], p.outbox, length[OUTBOX], p.journal, p.journal_length,
-        p.block, length[BLOCK]);
+        p.notices, length[NOTICES], p.block, length[BLOCK]);
     return said.restart.number;
+}
+
+static uint8_t call_out(void) {
+    return stemline_out(&p.group, &p.turn, p.places, length[PLACES], p.replica, p.slot);
+}
+
+static uint8_t call_back(void) {
+    return stemline_back(&p.group, &p.turn, p.places, length[PLACES], p.replica, p.slot);
 }
 
 static uint8_t call_begin(void) {
@@ -132,7 +141,7 @@ static uint8_t call_load(void) {
 static int same_parts(const parts *a, const parts *b) {
     return SAME(outbox) && SAME(bytes) && SAME(block) && SAME(places) && SAME(items) && SAME(stamps)
         && SAME(queue) && SAME(values) && SAME(start) && SAME(snapshots) && SAME(writes) && SAME(table)
-        && SAME(classes) && SAME(given) && SAME(group) && same_counts(&a->counts, &b->counts) && SAME(turn.slot) && SAME(turn.sent)
+        && SAME(classes) && SAME(given) && same_group(&a->group, &b->group) && same_counts(&a->counts, &b->counts) && SAME(turn.slot) && SAME(turn.sent)
         && SAME(turn.applying);
 }
 
@@ -153,7 +162,7 @@ static void lend(const stemline_replica *r, uint32_t n) {
     static const size_t right[PARTS] = {
         STEMLINE_TABLE, STEMLINE_ITEMS, STEMLINE_QUEUE, STEMLINE_WRITTEN, STEMLINE_WRITTEN,
         STEMLINE_SNAPSHOTS, STEMLINE_ITEMS, STEMLINE_ITEMS, STEMLINE_ITEMS, 0, STEMLINE_BLOCK,
-        STEMLINE_BLOCK, STEMLINE_BLOCK, STEMLINE_ITEMS};
+        STEMLINE_BLOCK, STEMLINE_BLOCK, STEMLINE_ITEMS, 0};
     memcpy(length, right, sizeof length);
     length[PLACES] = stemline_lent_places(n);
     memset(&said, 0, sizeof said);
@@ -222,18 +231,48 @@ static uint8_t lent_make_station(stemline_replica *r, uint32_t n, const int32_t 
 
 static stemline_restart_reply lent_restart(
     stemline_replica *r, uint32_t n, uint32_t own, const int32_t *start,
-    const uint8_t *journal, size_t journal_length, uint8_t *block) {
+    const uint8_t *journal, size_t journal_length, const stemline_notice *notices, size_t count, uint8_t *block) {
     bool in_range = lend_made(r, n, own, start);
+    /* with a number more behind them, and one before, so that a wrong length stays within; copied, so that the
+     * end of what is lent is seen */
+    uint32_t *lent = (uint32_t *)malloc((3 * count + 3) * sizeof *lent);
+    hold(lent != NULL, "no memory");
+    memcpy(lent, notices, count * sizeof *notices);
+    p.notices = lent;
+    length[NOTICES] = 3 * count;
     p.journal = journal_length > 0 ? journal : p.bytes;
     p.journal_length = journal_length;
-    if (in_range) {
+    /* with no notices there is no shorter length */
+    if (in_range && count > 0) {
+        CALLED(restart, MADE, BLOCK, PLACES, NOTICES);
+    } else if (in_range) {
         CALLED(restart, MADE, BLOCK, PLACES);
     } else {
         CALLED(restart, MADE, BLOCK);
     }
+    free(lent);
+    p.notices = NULL;
     give_back(r);
     memcpy(block, p.block, STEMLINE_BLOCK);
     return said.restart;
+}
+
+static uint8_t lent_out(stemline_replica *r, uint32_t replica, uint32_t slot) {
+    lend(r, r->group.replicas);
+    p.replica = replica;
+    p.slot = slot;
+    uint8_t number = CALLED(out, PLACES);
+    give_back(r);
+    return number;
+}
+
+static uint8_t lent_back(stemline_replica *r, uint32_t replica, uint32_t slot) {
+    lend(r, r->group.replicas);
+    p.replica = replica;
+    p.slot = slot;
+    uint8_t number = CALLED(back, PLACES);
+    give_back(r);
+    return number;
 }
 
 static stemline_begin_reply lent_begin(stemline_replica *r) {
@@ -334,4 +373,6 @@ static uint8_t lent_load(stemline_replica *r, const uint8_t *classes, size_t cou
 #define stemline_replica_deliver lent_deliver
 #define stemline_replica_work lent_work
 #define stemline_replica_load lent_load
+#define stemline_replica_out lent_out
+#define stemline_replica_back lent_back
 #include "replay.c"

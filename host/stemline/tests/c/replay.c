@@ -6,7 +6,7 @@
  *     T k n own b
  *
  * L makes a replica whose item i starts with 10 * i - 600, as it is after so many slots and tickets, I such
- * a station; T restarts such a replica from the first b bytes of the journal.
+ * a station; T restarts such a replica from the first b bytes of the journal and the notices taken.
  *
  * It stops where a refused call has changed something, where is_turn is not what a send answers, where
  * a take is not a deliver with its works, and where a work's block is not the one that it leaves. */
@@ -17,10 +17,13 @@
 #define PLACES 8
 #define KEPT 64
 #define JOURNAL (4096 * STEMLINE_BLOCK)
+#define NOTICES 4096
 
 typedef struct journal {
     uint8_t bytes[JOURNAL];
     size_t length;
+    stemline_notice notices[NOTICES]; /* those taken */
+    size_t taken;
 } journal;
 
 static stemline_replica replicas[PLACES];
@@ -57,6 +60,13 @@ static void fill(int32_t start[STEMLINE_ITEMS], bool tests, int32_t value) {
     }
 }
 
+/* After a make. */
+static void begin_journal(journal *j, uint8_t number) {
+    if (number == 0) {
+        j->length = j->taken = 0;
+    }
+}
+
 /* make: with one value, or as the tests' replicas are */
 static uint8_t make(stemline_replica *r, journal *j, char letter, const char *rest) {
     uint32_t n, own, slots = 0, tickets = 0;
@@ -70,7 +80,7 @@ static uint8_t make(stemline_replica *r, journal *j, char letter, const char *re
     r->turn.slot += slots;
     r->counts.tickets += tickets;
     r->counts.withdrawn += tickets;
-    j->length = number == 0 ? 0 : j->length;
+    begin_journal(j, number);
     printf("%d", number);
     return number;
 }
@@ -87,7 +97,7 @@ static uint8_t make_station(stemline_replica *r, journal *j, char letter, const 
     r->turn.slot += slots;
     r->counts.tickets += tickets;
     r->counts.withdrawn += tickets;
-    j->length = number == 0 ? 0 : j->length;
+    begin_journal(j, number);
     printf("%d", number);
     return number;
 }
@@ -117,11 +127,14 @@ static uint8_t restart(stemline_replica *r, journal *j, char letter, const char 
     if (length > 0) {
         memcpy(lent, letter == 'Y' ? bytes : j->bytes, length);
     }
-    stemline_restart_reply reply = stemline_replica_restart(r, n, own, start, lent, length, block);
+    size_t count = letter == 'Y' ? 0 : j->taken;
+    stemline_restart_reply reply =
+        stemline_replica_restart(r, n, own, start, lent, length, j->notices, count, block);
     printf(reply.number ? "%d" : "%d %" PRIu32, reply.number, reply.count);
     if (reply.number == 0) {
         show(block);
         j->length = STEMLINE_BLOCK * (size_t)reply.count;
+        j->taken = count;
         hold(j->length <= length, "restart: more blocks than there are");
         if (letter == 'Y') {
             memcpy(j->bytes, bytes, j->length);
@@ -216,6 +229,19 @@ static uint8_t load(stemline_replica *r, const char *rest) {
     return number;
 }
 
+/* out, back */
+static uint8_t notice(stemline_replica *r, journal *j, char letter, const char *rest) {
+    stemline_notice n = {0, letter == 'O', 0};
+    hold(sscanf(rest, "%" SCNu32 " %" SCNu32, &n.replica, &n.slot) == 2, rest);
+    uint8_t number = n.out ? stemline_replica_out(r, n.replica, n.slot) : stemline_replica_back(r, n.replica, n.slot);
+    if (number == 0) {
+        hold(j->taken < NOTICES, "no room for a notice");
+        j->notices[j->taken++] = n;
+    }
+    printf("%d", number);
+    return number;
+}
+
 static uint8_t report(const stemline_replica *r) {
     stemline_report_reply reply = stemline_replica_report(r);
     const stemline_report_values *v = &reply.report;
@@ -256,6 +282,7 @@ static uint8_t play(stemline_replica *r, journal *j, char letter, const char *re
     case 'D': case 'F': case 'H': return deliver(r, letter, rest);
     case 'K': return work(r, j);
     case 'P': return load(r, rest);
+    case 'O': case 'U': return notice(r, j, letter, rest);
     default: return values(r);
     }
 }

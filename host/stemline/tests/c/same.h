@@ -15,8 +15,12 @@ static inline int same_counts(const stemline_counts *a, const stemline_counts *b
         && SAME(committed) && SAME(read_only) && SAME(aborted) && SAME(withdrawn);
 }
 
+static inline int same_group(const stemline_group *a, const stemline_group *b) {
+    return SAME(replicas) && SAME(own) && SAME(from) && SAME(until);
+}
+
 static inline int same(const stemline_replica *a, const stemline_replica *b) {
-    return SAME(table) && SAME(group) && SAME(turn.slot) && SAME(turn.sent) && SAME(turn.applying)
+    return SAME(table) && same_group(&a->group, &b->group) && SAME(turn.slot) && SAME(turn.sent) && SAME(turn.applying)
         && same_counts(&a->counts, &b->counts) && SAME(queue) && SAME(items) && SAME(writes)
         && SAME(snapshots) && SAME(values) && SAME(stamps) && SAME(classes) && SAME(places)
         && SAME(outbox);
@@ -63,14 +67,33 @@ static inline int same_work(const stemline_work_reply *a, const stemline_work_re
 
 typedef stemline_work_reply work_call(stemline_replica *r, uint8_t block[STEMLINE_BLOCK]);
 
-/* A work, by such a call. It leaves the lent block as it was, or the block of the turn in it, and says
- * which. */
+/* The next of a slot in a group of n. */
+static inline void put_next(uint8_t block[STEMLINE_BLOCK], uint32_t n, uint32_t slot) {
+    uint32_t sums[2] = {0, 0};
+    memset(block, 0, STEMLINE_BLOCK);
+    block[0] = 1, block[1] = (uint8_t)stemline_owner(slot, n), block[2] = (uint8_t)n;
+    for (int i = 0; i < 4; i++) {
+        block[4 + i] = (uint8_t)(slot >> 8 * i);
+    }
+    for (int i = 0; i < 504; i += 2) {
+        sums[0] += (uint32_t)(block[i] | block[i + 1] << 8);
+        sums[1] += sums[0];
+    }
+    for (int i = 0; i < 8; i++) {
+        block[504 + i] = (uint8_t)(sums[i / 4] >> 8 * (i % 4));
+    }
+}
+
+/* A work, by such a call. It leaves the lent block as it was, or the block of the turn in it, or the next of
+ * a slot that is out, and says which. */
 static inline stemline_work_reply hold_work(
     work_call *call, stemline_replica *r, uint8_t block[STEMLINE_BLOCK]) {
     static uint8_t before[STEMLINE_BLOCK], left[STEMLINE_BLOCK];
     size_t n = r->group.replicas;
     memcpy(before, block, sizeof before);
-    if (n >= 1 && n <= STEMLINE_REPLICAS) {
+    if (stemline_is_out(&r->group, r->turn.slot)) {
+        put_next(left, (uint32_t)n, r->turn.slot);
+    } else if (n >= 1 && n <= STEMLINE_REPLICAS) {
         memcpy(left, r->places + STEMLINE_PLACES(r->turn.slot % n), sizeof left);
     }
     stemline_work_reply work = call(r, block);
@@ -79,21 +102,23 @@ static inline stemline_work_reply hold_work(
     return work;
 }
 
-/* What a take is to give: what a deliver gives, and at most 36 works with the blocks to append. */
+/* What a take is to give: what a deliver gives, and as many works as a take has, with the blocks to append. */
 static inline void deliver_and_work(
     stemline_take_reply *due, stemline_replica *r, const uint8_t *bytes, size_t length) {
     uint8_t block[STEMLINE_BLOCK] = {0};
     memset(due, 0, sizeof *due);
     due->number = stemline_replica_deliver(r, bytes, length);
-    while (due->number == 0 && due->count < STEMLINE_STEPS) {
+    int left = 0;
+    while (due->number == 0 && due->count < STEMLINE_STEPS && left < STEMLINE_LEFT) {
         stemline_work_reply work = hold_work(stemline_replica_work, r, block);
         if (work.number != 0) {
             hold(work.number == STEMLINE_NOTHING_WAITS, "take: a work refused by another number than 21");
             break;
         }
         due->steps[due->count++] = work;
+        left += work.moved;
         if (work.append) {
-            hold(due->append_count < STEMLINE_REPLICAS, "take: too many blocks to append");
+            hold(due->append_count < STEMLINE_LEFT, "take: too many blocks to append");
             memcpy(due->append[due->append_count++], block, sizeof block);
         }
     }

@@ -6,7 +6,9 @@ use model::drive::{start_values, Peers, Subject, STYLES};
 use model::samples::{self, Random};
 use soak::runs::NUMBERS;
 use stemline::ffi::Txn;
-use stemline::{Memory, Refusal, Replica, Station, Taken, ITEMS, NO_NUMBER, STEPS};
+use stemline::{
+    owner, Memory, Refusal, Replica, Station, Taken, ITEMS, LEFT, NO_NUMBER, SLOTS, STEPS,
+};
 
 use crate::both::Both;
 use crate::lent::{refused, Lent};
@@ -17,7 +19,7 @@ const RUNS: u64 = 2_000;
 /// Calls at one altered memory, each on what the last one left.
 const CALLS: usize = 60;
 /// The calls, write twice: it has the most to look at.
-const CALLED: [&str; 14] = [
+const CALLED: [&str; 16] = [
     "make",
     "make_station",
     "restart",
@@ -32,6 +34,8 @@ const CALLED: [&str; 14] = [
     "deliver",
     "work",
     "load",
+    "out",
+    "back",
 ];
 
 /// A number with the limits of what a call compares it with.
@@ -95,7 +99,8 @@ fn reached(random: &mut Random, seed: u64) -> Lent {
     let mut both = Both::new(n, own, &start_values());
     let mut peers = Peers::new(n, own, both.report());
     for _ in 0..random.below(200) {
-        let call = peers.random_call(random, STYLES[seed as usize % 4]);
+        let style = STYLES[seed as usize % 4].with_notices(4);
+        let call = peers.random_call(random, style);
         let answer = both.call(&call);
         peers.feed(&call, &answer);
     }
@@ -106,7 +111,7 @@ fn reached(random: &mut Random, seed: u64) -> Lent {
 fn alter(random: &mut Random, memory: &mut Lent) {
     let replicas = memory.group.replicas;
     let counts = &mut memory.counts;
-    match random.below(19) {
+    match random.below(21) {
         0 => memory.table[random.below(6)] = row(random),
         1 => memory.table.fill_with(|| row(random)),
         2 => memory.table[random.below(6)].stage = small(random),
@@ -144,6 +149,19 @@ fn alter(random: &mut Random, memory: &mut Lent) {
         15 => memory.outbox = place(random, replicas).to_vec(),
         16 => memory.classes.fill_with(|| byte(random)),
         17 => memory.group.own = NO_NUMBER,
+        18 => {
+            let slot = memory.turn.slot;
+            let near = || slot.saturating_sub(2)..=slot.saturating_add(2);
+            let at = random.below(memory.group.from.len());
+            let any = number(random);
+            let picked = random.below(5);
+            memory.group.from[at] = near().nth(picked).unwrap_or(any);
+            memory.group.until[at] = random.pick(&[0, any, slot, SLOTS, SLOTS, u32::MAX]);
+        }
+        19 => {
+            fill_numbers(random, &mut memory.group.from);
+            fill_numbers(random, &mut memory.group.until);
+        }
         _ => memory.classes[random.below(ITEMS)] = byte(random),
     }
 }
@@ -167,6 +185,11 @@ fn give(random: &mut Random, memory: &mut Lent) {
         0 => memory.places.clone(),
         _ => journal(random, memory.n),
     };
+    let slot = memory.turn.slot;
+    memory.replica = random.below(8) as u32;
+    memory.slot = random.pick(&[slot, slot.saturating_add(1), slot.saturating_add(3), any]);
+    memory.notices.resize(random.pick(&[0, 3, 6, 30, 31]), 0);
+    memory.notices.fill_with(|| number(random));
 }
 
 /// A journal of a few blocks, with bytes of any kind among and behind them.
@@ -191,7 +214,7 @@ fn journal(random: &mut Random, n: u32) -> Vec<u8> {
 
 #[test]
 fn every_call_returns() {
-    let mut numbers = [0u32; 26];
+    let mut numbers = [0u32; 30];
     let seeds = Seeds::new(RUNS);
     seeds.each(|seed| {
         let mut random = Random::new(seed);
@@ -238,20 +261,31 @@ fn every_call_returns() {
             numbers[usize::from(answer.0)] += 1;
         }
     });
-    // Every number of the table is met here too, unless fewer runs are asked for, and no other is: there is
-    // no 22 any more, and no 24.
-    let met: Vec<usize> = (1..26).filter(|&number| numbers[number] > 0).collect();
-    assert!(numbers[22] == 0 && numbers[24] == 0, "{numbers:?}");
+    let met: Vec<usize> = (1..30).filter(|&number| numbers[number] > 0).collect();
+    // Every number of the table is met here too, unless fewer runs are asked for, and no other is.
+    let known = met.iter().all(|number| NUMBERS.contains(number));
+    assert!(known, "{numbers:?}");
     assert!(seeds.runs < RUNS || met == NUMBERS, "{numbers:?}");
 }
 
-/// A work that says so leaves the block of the turn in the lent one; any other leaves that as it was.
+/// A work that says so leaves the block of the turn in the lent one, or the next of a slot that is out; any
+/// other leaves that as it was.
 fn same_append(before: &Lent, after: &Lent, answer: &str) {
-    let place = match before.group.replicas {
+    let (group, slot) = (before.group, before.turn.slot);
+    let place = match group.replicas {
         0 => 0,
-        n => before.turn.slot as usize % usize::from(n),
+        n => slot as usize % usize::from(n),
     };
+    let is_out = group.is_out(slot);
     match answer.contains("append: true") {
+        true if is_out => {
+            let mut next = [0; BLOCK];
+            let sender = owner(slot, group.replicas.into()) as u8;
+            next[..4].copy_from_slice(&[block::NEXT, sender, group.replicas, 0]);
+            next[4..8].copy_from_slice(&slot.to_le_bytes());
+            block::put_check(&mut next);
+            assert!(after.block == next);
+        }
         true => assert!(after.block == before.places[BLOCK * place..][..BLOCK]),
         false => assert!(after.block == before.block),
     }
@@ -265,9 +299,13 @@ fn same_take(memory: &Lent) {
         .deliver(&memory.bytes)
         .map(|()| Taken { steps: Vec::new() });
     if let Ok(due) = &mut due {
-        while due.steps.len() < STEPS {
+        let mut left = 0;
+        while due.steps.len() < STEPS && left < LEFT {
             match calling.work() {
-                Ok(step) => due.steps.push(step),
+                Ok(step) => {
+                    left += usize::from(step.moved);
+                    due.steps.push(step);
+                }
                 // Behind a deliver that is accepted no work is refused by another number.
                 Err(refusal) => {
                     assert_eq!(refusal, Refusal::NothingWaits);

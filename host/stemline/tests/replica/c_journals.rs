@@ -1,6 +1,7 @@
 //! Journals in C. The example program goes on where it ended, leaves damaged files as they are, and takes its
 //! steps at the disk in the right order.
 
+mod notices;
 mod opens;
 mod outcomes;
 
@@ -23,27 +24,30 @@ struct Runs {
     files: [PathBuf; 2],
 }
 
+/// The journal's file with its steps at the disk by way of `steps.c`.
+fn told(journal: &str) -> String {
+    let (includes, code) = journal.split_once("#include \"journal_head.h\"").unwrap();
+    let told = ["fsync", "ftruncate", "pwrite"].map(|call| {
+        let told = format!("#define {call} told_{call}\n");
+        match call {
+            "fsync" => format!("{told}int told_fsync(int);\n"),
+            "ftruncate" => format!("{told}int told_ftruncate(int, off_t);\n"),
+            _ => format!("{told}ssize_t told_pwrite(int, const void *, size_t, off_t);\n"),
+        }
+    });
+    format!(
+        "{includes}#include \"journal_head.h\"\n{}{code}",
+        told.concat()
+    )
+}
+
 impl Runs {
     fn new(name: &str) -> Runs {
-        // The steps at the disk go by way of `steps.c`.
-        let (includes, code) = JOURNAL.split_once("#include \"journal_head.h\"").unwrap();
-        let told = ["fsync", "ftruncate", "pwrite"].map(|call| {
-            let told = format!("#define {call} told_{call}\n");
-            match call {
-                "fsync" => format!("{told}int told_fsync(int);\n"),
-                "ftruncate" => format!("{told}int told_ftruncate(int, off_t);\n"),
-                _ => format!("{told}ssize_t told_pwrite(int, const void *, size_t, off_t);\n"),
-            }
-        });
-        let journal = format!(
-            "{includes}#include \"journal_head.h\"\n{}{code}",
-            told.concat()
-        );
         let program = build(
             name,
             &[
                 ("durable.c", "cc", "-std=c99", EXAMPLE),
-                ("stemline_journal.c", "cc", "-std=c99", &journal),
+                ("stemline_journal.c", "cc", "-std=c99", &told(JOURNAL)),
                 ("steps.c", "cc", "-std=c99", STEPS),
             ],
         );

@@ -154,6 +154,12 @@ impl Powered for Noted {
         self.model.floor()
     }
 
+    fn ended(&mut self, call: &Call) {
+        let floor = self.model.floor;
+        let _ = self.call(call);
+        self.model.floor = floor;
+    }
+
     fn restart(&mut self, restart: &Restart) -> Result<Restarted, u8> {
         let answer = self.model.restart(restart);
         let (k, n, own) = (self.place, restart.n, restart.own);
@@ -227,18 +233,20 @@ fn random_lists() {
         play(
             &list,
             seed,
-            STYLES[seed as usize / 5 % 4],
+            STYLES[seed as usize / 5 % 4].with_notices([6, 0][seed as usize % 2]),
             (0, 0),
             &mut seen,
         );
         if seed.is_multiple_of(5) {
             let late = (SLOTS - 60, MAX_TICKET - 60);
-            play(&list, seed, Style::new(30, 40, 6), late, &mut seen);
+            let style = Style::new(30, 40, 6).with_notices(4);
+            play(&list, seed, style, late, &mut seen);
         }
         let list = list.take();
         compare(&program, &list.lines, &list.due);
     });
     let enough = seen.numbers(20) == NUMBERS && seen.restarts > 500 && seen.offered_again > 20;
+    let enough = enough && seen.notices > 1_000 && seen.passed_out > 1_000;
     assert!(seeds.runs < RUNS || enough, "{seen:?}");
 }
 
@@ -258,10 +266,12 @@ fn any_bytes() {
         ("ask", 3),
         ("withdraw", 3),
         ("report", 1),
-        ("send", 5),
-        ("deliver", 7),
+        ("send", 6),
+        ("deliver", 8),
         ("work", 3),
         ("load", 4),
+        ("out", 4),
+        ("back", 4),
     ];
     assert_eq!(lines.len(), least.len(), "{said}");
     for (line, (name, numbers)) in lines.into_iter().zip(least) {
@@ -300,7 +310,7 @@ fn refused_makes() {
                     hold(number == STEMLINE_OUT_OF_RANGE && same(&s.r, &before.r), "make_station");
                 }
                 stemline_restart_reply reply =
-                    stemline_replica_restart(&s.r, sizes[i], 6, start, NULL, 0, block);
+                    stemline_replica_restart(&s.r, sizes[i], 6, start, NULL, 0, NULL, 0, block);
                 hold(reply.number == STEMLINE_OUT_OF_RANGE && same(&s.r, &before.r), "restart");
                 hold(reply.count == 0 && block[0] == 7 && block[511] == 7, "restart: the block");
             }

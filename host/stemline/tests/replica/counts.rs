@@ -8,9 +8,12 @@ use crate::lent::{refused, Lent};
 
 /// The group's numbers and the counts by name, with the calls that look at each. An accepted make or restart
 /// sets them all.
-const COUNTS: [(&str, &str); 9] = [
-    ("replicas", "write send deliver work"),
-    ("own", "write send deliver work"),
+const COUNTS: [(&str, &str); 11] = [
+    ("replicas", "write send deliver work out back"),
+    ("own", "write send deliver work out"),
+    // Of replica 1; the sends are of replica 0.
+    ("from", "deliver work out back"),
+    ("until", "deliver work out back"),
     ("commits", "begin report work"),
     ("done", "write work"),
     ("tickets", "begin report"),
@@ -34,6 +37,8 @@ fn set(memory: &mut Lent, name: &str, at: usize, byte: u8) -> bool {
         return at == 0;
     }
     let number = match name {
+        "from" => &mut group.from[1],
+        "until" => &mut group.until[1],
         "commits" => &mut counts.commits,
         "tickets" => &mut counts.tickets,
         "committed" => &mut counts.committed,
@@ -91,7 +96,7 @@ fn every_byte_of_group_and_counts() {
 /// Any number of replicas, with as many places, which hold something.
 #[test]
 fn every_number_of_replicas() {
-    let mut numbers = [0; 26];
+    let mut numbers = [0; 30];
     for name in ["write", "send", "deliver", "work"] {
         for (state, _) in states(name) {
             for replicas in 0..=255 {

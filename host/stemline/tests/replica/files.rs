@@ -33,20 +33,19 @@ impl Drop for Room {
     }
 }
 
-/// A new group of `n` over files of the folder.
-fn group(room: &Room, n: u32, seed: u64) -> Group<Studio> {
-    let member = |own| {
-        let path = room.0.join(format!("{own}.journal"));
-        let _ = fs::remove_file(&path);
-        Studio::new(path, n, own)
-    };
-    Group::new((0..n).map(member).collect(), STYLES[seed as usize % 4])
+/// A new group of `n` over files of the folder, with so many calls of a hundred about notices.
+fn group(room: &Room, n: u32, seed: u64, notices: usize) -> Group<Studio> {
+    let member = |own| Studio::new(room.0.join(format!("{own}.journal")), n, own);
+    let style = STYLES[seed as usize % 4].with_notices(notices);
+    Group::new((0..n).map(member).collect(), style)
 }
 
 /// Lets all come to rest; then demand 3 holds, and all journals are the same.
 fn check(group: &mut Group<Studio>) {
+    (0..group.members.len()).for_each(|k| group.open(k));
     group.settle(1);
     assert_eq!(group.violations(), [""; 0]);
+    assert_eq!(group.observer.one_list(), Ok(()));
     assert!(group.observer.premise());
     for (k, member) in group.members.iter().enumerate() {
         assert_eq!(member.report(), group.tallies[k].report);
@@ -66,7 +65,7 @@ fn every_byte_of_the_last_three_blocks() {
             let seed = 2 * lost as u64 + u64::from(ended.is_some());
             let n = 4 + seed as u32 % 3;
             let mut random = Random::new(seed);
-            let mut group = group(&room, n, seed);
+            let mut group = group(&room, n, seed, 0);
             for _ in 0..60 {
                 group.random_call(&mut random);
             }
@@ -92,7 +91,8 @@ fn groups_over_files() {
     let seeds = Seeds::new(20);
     seeds.each(|seed| {
         let mut random = Random::new(seed);
-        let mut group = group(&room, 2 + seed as u32 % 5, seed);
+        let notices = [6, 0][seed as usize / 2 % 2];
+        let mut group = group(&room, 2 + seed as u32 % 5, seed, notices);
         for _ in 0..1_000 {
             match random.below(40) {
                 0 => group.random_cut(&mut random),
@@ -102,5 +102,6 @@ fn groups_over_files() {
         check(&mut group);
         seen.add(&group.seen);
     });
-    assert!(seeds.runs < 20 || seen.restarts > 300, "{seen:?}");
+    let enough = seen.restarts > 300 && seen.notices > 200 && seen.passed_out > 300;
+    assert!(seeds.runs < 20 || enough, "{seen:?}");
 }

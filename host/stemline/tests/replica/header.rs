@@ -18,6 +18,13 @@ const HEADERS: &str = concat!(
 );
 const FIRST: &str = include_str!("../../../examples/first.c");
 const PRINT_ROOM: &str = include_str!("../../../examples/print_room.c");
+const CLOSED: &str = include_str!("../../../examples/closed_studio.c");
+const CLOSED_SAYS: &str = "\
+all three: turn 4, item 5 is 3; turn 4, item 5 is 3; turn 4, item 5 is 3
+closed: turn 9, item 5 is 7; turn 9, item 5 is 7; turn 4, item 5 is 3
+back: turn 9, item 5 is 7; turn 9, item 5 is 7; turn 9, item 5 is 7
+all three: turn 12, item 5 is 11; turn 12, item 5 is 11; turn 12, item 5 is 11
+";
 const PRINT_ROOM_SAYS: &str = "\
 the last block, too early: the block's slot is too far above the turn (18)
 slot 0: accepted, item 5 is 40
@@ -58,7 +65,13 @@ fn structs_have_one_layout() {
     let (mut due, mut lines) = (String::new(), String::new());
     layout!(due, lines, "stemline_txn", Txn, ticket stage snapshot writes);
     layout!(due, lines, "stemline_turn", Turn, slot sent applying);
-    layout!(due, lines, "stemline_group", Group, replicas own);
+    layout!(due, lines, "stemline_group", Group, replicas own from until);
+    // As a restart is lent them: three numbers, one behind the other.
+    due.push_str("12 0 4 8\n");
+    lines.push_str(
+        "printf(\"%zu %zu %zu %zu\\n\", sizeof(stemline_notice), offsetof(stemline_notice, replica),\n\
+         offsetof(stemline_notice, out), offsetof(stemline_notice, slot));\n",
+    );
     layout!(due, lines, "stemline_counts", Counts,
         commits done tickets committed read_only aborted withdrawn);
     layout!(due, lines, "stemline_report_values", Report,
@@ -116,7 +129,7 @@ fn limits_have_one_name() {
     let rust = limits(include_str!("../../src/lib.rs"), "pub const ", &[':'], ';');
     assert_eq!(c, rust);
     assert!(
-        rust.len() == 11 && rust["ITEMS"] == ITEMS as u64,
+        rust.len() == 12 && rust["ITEMS"] == ITEMS as u64,
         "{rust:?}"
     );
 }
@@ -153,7 +166,7 @@ fn headers_of_another_version() {
     for call in [
         "stemline_replica_make(&r, 2, 0, start)",
         "stemline_replica_make_station(&r, 2, start)",
-        "stemline_replica_restart(&r, 2, 0, start, NULL, 0, block).number",
+        "stemline_replica_restart(&r, 2, 0, start, NULL, 0, NULL, 0, block).number",
         "stemline_linked_version()[0]",
     ] {
         let lines = format!(
@@ -180,7 +193,7 @@ fn numbers_have_one_name() {
     }
     let cases = cases!(WrongLength OutOfRange NotOpen NotActive AllOpen TicketsSpent Applying Locked Stale
         WritesetFull NotOurTurn AlreadySent SlotsSpent WrongCheck WrongForm WrongGroup PastSlot FarSlot
-        NotSent SlotTaken NothingWaits LoadWhileApplying StationOnlyReads);
+        NotSent SlotTaken NothingWaits LoadWhileApplying StationOnlyReads NoticeRefused SlotOut);
     let (mut due, mut lines) = (String::new(), String::new());
     for (case, refusal) in cases {
         let mut name = String::new();
@@ -238,7 +251,7 @@ int main(void) {
 }
 "#;
 
-/// The headers with the first program and the one with a station, and that of the calls alone, without a
+/// The headers with the first program, the one with a station and the one with a closed studio, and that of the calls alone, without a
 /// warning, in each language that they are for.
 #[test]
 fn every_language() {
@@ -249,6 +262,7 @@ fn every_language() {
     let programs = [
         ("first", FIRST, "the write: accepted\nitem 5: 40 and 40\n"),
         ("print-room", PRINT_ROOM, PRINT_ROOM_SAYS),
+        ("closed-studio", CLOSED, CLOSED_SAYS),
         ("lent-alone", LENT, "1 3\n1 15\n9 2: 5 = -84\n"),
     ];
     for (compiler, extension, standard) in languages {

@@ -9,13 +9,14 @@ use std::sync::Once;
 
 use crate::c::{printed, say};
 
-const FILES: [&str; 11] = [
+const FILES: [&str; 12] = [
     "include/stemline.h",
     "include/stemline_calls.h",
     "include/stemline_journal.h",
     "share/stemline/stemline_journal.c",
     "share/stemline/journal_head.h",
     "share/stemline/journal_disk.h",
+    "share/stemline/journal_notices.h",
     "lib/libstemline.a",
     "lib/pkgconfig/stemline.pc",
     "share/man/man1/replay.1",

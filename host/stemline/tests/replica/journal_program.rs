@@ -12,7 +12,7 @@ use std::sync::atomic::{AtomicU32, Ordering};
 use model::block::{put_check, BLOCK};
 use model::drive::{start_values, STYLES};
 use model::samples::{block_of, damage, Random};
-use stemline::{Durable, Replica, HEAD};
+use stemline::{notices_path, Durable, Replica, HEAD};
 
 use crate::looks::{digits, read_through, sizes};
 use crate::restarts;
@@ -99,6 +99,44 @@ fn heads() {
     head[40] ^= 1;
     let damaged = "is not to be taken up: its head is damaged: the check does not match";
     prints(&at(&head), &[], &[], damaged, 1);
+}
+
+/// The notices beside a journal, the slots that they put out, and what is said where they are lost.
+#[test]
+fn notices() {
+    let path = Path::new(env!("CARGO_TARGET_TMPDIR")).join("journal-notices");
+    let beside = notices_path(&path);
+    let _ = (fs::remove_file(&path), fs::remove_file(&beside));
+    let (mut replica, _) = Durable::open(&path, "grotesque", 2, 1, &start_values()).unwrap();
+    replica.out(0, 0).unwrap();
+    replica.work().unwrap();
+    let block = replica.send().unwrap();
+    replica.take(&block).unwrap();
+    replica.back(0, 3).unwrap();
+    drop(replica);
+    let first = "replica 1 of 2 of the group \"grotesque\", version 2, start 1c1d552adf88173d; \
+        copies of slots 0 to 1 and 2 to 2";
+    let lines = [
+        "notice: Out 0 from 0",
+        "notice: Back 0 at 3",
+        "slot 0 of replica 0 of 2: nothing, out",
+        "slot 1 of replica 1 of 2: nothing",
+        "slot 2 of replica 0 of 2: nothing, out",
+    ];
+    let last = "ends after 3 blocks, at byte 13824";
+    prints(&path, &[&format!("{first}; 2 notices")], &lines, last, 0);
+    let lost = fs::read(&beside).unwrap();
+    fs::write(&beside, &lost[..lost.len() - 24]).unwrap();
+    let words = format!(
+        "{first}; its notices are lost: 2 were taken, and {} has 1",
+        beside.display()
+    );
+    let blocks = [
+        "slot 0 of replica 0 of 2: nothing",
+        "slot 1 of replica 1 of 2: nothing",
+        "slot 2 of replica 0 of 2: nothing",
+    ];
+    prints(&path, &[&words], &blocks, last, 1);
 }
 
 /// The copies of a head: which slots they have, and that the blocks end before them.
@@ -188,7 +226,7 @@ fn values() {
         let n = sizes(&bytes)[0];
         let path = file("journal-values", &[&head(n), &bytes[..]].concat());
         let (said, complaint, status) = run(&[OsStr::new("values"), path.as_os_str()]);
-        let (replica, restarted) = Replica::restart(n, 0, &start_values(), &bytes).unwrap();
+        let (replica, restarted) = Replica::restart(n, 0, &start_values(), &bytes, &[]).unwrap();
         let lines = replica.values().iter().enumerate();
         let due: String = lines
             .map(|(item, value)| format!("{item} {value}\n"))
@@ -222,7 +260,7 @@ fn any_journal() {
         let (good, _, _) = read_through(&bytes);
         let due: Vec<String> = good.iter().map(|block| block.to_string()).collect();
         assert_eq!(lines[1..lines.len() - 1], due);
-        let restarted = Replica::restart(sizes[0], 0, &start_values(), &bytes);
+        let restarted = Replica::restart(sizes[0], 0, &start_values(), &bytes, &[]);
         assert_eq!(due.len(), restarted.unwrap().1.blocks as usize);
         let (last, _, status) = run(&[OsStr::new("check"), path.as_os_str()]);
         assert_eq!(last, format!("{}\n{}\n", lines[0], lines[lines.len() - 1]));

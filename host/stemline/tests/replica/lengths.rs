@@ -65,8 +65,9 @@ fn resize(lent: &mut Lent, part: &str, length: usize) {
     }
 }
 
-/// The calls and the parts that each is lent. A journal has no wrong length.
-pub const CALLS: [(&str, &str); 13] = [
+/// The calls and the parts that each is lent. A journal has no wrong length; that of notices is wrong where it
+/// is no multiple of 3.
+pub const CALLS: [(&str, &str); 15] = [
     (
         "make",
         "table queue items writes snapshots values stamps classes places outbox start",
@@ -89,16 +90,22 @@ pub const CALLS: [(&str, &str); 13] = [
     ("deliver", "places outbox bytes"),
     ("work", "table queue items values stamps places block"),
     ("load", "classes given"),
+    ("out", "places"),
+    ("back", "places"),
 ];
 
 /// The calls that fill the parts, whatever they held.
 pub const FILLING: [&str; 3] = ["make", "make_station", "restart"];
 
 /// A replica 0 of 2 at which the call is accepted; and one at which it is refused, by the number. For
-/// a work also one at which it leaves the slot of another, for a write and a load those at which a block
-/// of another is applied in part. Last a station of 2 with a block of another applied in part.
+/// a work also one at which it leaves the slot of another, and an own one that is out, for a write and a load
+/// those at which a block of another is applied in part. Last a station of 2 with a block of another applied
+/// in part.
 pub fn states(name: &str) -> Vec<(Lent, u8)> {
     let mut replica = Replica::new(2, 0, &start_values()).unwrap();
+    if name == "back" {
+        replica.out(1, 3).unwrap();
+    }
     let ticket = replica.begin().unwrap();
     replica.write(ticket, 5, 40).unwrap();
     let bytes = block_of(2, 1, &[(3, &[(9, 1)])]);
@@ -110,6 +117,9 @@ pub fn states(name: &str) -> Vec<(Lent, u8)> {
         ticket,
         item: 5,
         value: -7,
+        replica: 1,
+        slot: 5,
+        notices: vec![1, 1, 7],
         ..Lent::of(replica.memory())
     };
     let mut sent = replica.clone();
@@ -141,6 +151,14 @@ pub fn states(name: &str) -> Vec<(Lent, u8)> {
         "send" => 12,
         "deliver" => 14,
         "work" => 21,
+        "out" => {
+            bad.replica = 2;
+            2
+        }
+        "back" => {
+            bad.slot = 3;
+            28
+        }
         "load" => {
             bad.given[127] = 9;
             2
@@ -153,6 +171,9 @@ pub fn states(name: &str) -> Vec<(Lent, u8)> {
         back.work().unwrap();
         back.deliver(&bytes).unwrap();
         states.push((lent(&back), 0));
+        let mut out = Replica::new(2, 0, &start_values()).unwrap();
+        out.out(0, 0).unwrap();
+        states.push((lent(&out), 0));
     }
     if name == "write" || name == "load" {
         let applying = applying();
@@ -171,7 +192,9 @@ pub fn states(name: &str) -> Vec<(Lent, u8)> {
         journal,
         ticket,
         item: 6,
-        ..Lent::of(station().memory())
+        replica: 1,
+        slot: 5,
+        ..Lent::of(station(name == "back").memory())
     };
     let number = match name {
         "write" | "send" => 25,
@@ -182,9 +205,13 @@ pub fn states(name: &str) -> Vec<(Lent, u8)> {
     states
 }
 
-/// A station of 2 with one transaction, at slot 0 of which one of two writesets is applied.
-fn station() -> Station {
+/// A station of 2 with one transaction, at slot 0 of which one of two writesets is applied; with replica 1 out
+/// from slot 3 on, or not.
+fn station(out: bool) -> Station {
     let mut station = Station::new(2, &start_values()).unwrap();
+    if out {
+        station.out(1, 3).unwrap();
+    }
     station.begin().unwrap();
     let records: [(u32, &[(u8, i32)]); 2] = [(1, &[(5, 1)]), (2, &[(9, 1)])];
     station.deliver(&block_of(2, 0, &records)).unwrap();
@@ -244,6 +271,28 @@ fn one_wrong_length() {
                 let right = length(&good, part);
                 for length in [0, 1, right - 1, right + 1, 2 * right, right + 512] {
                     check(name, lent, &good, number, &[(part, length)]);
+                }
+            }
+        }
+    }
+}
+
+/// Notices that are not three numbers each.
+#[test]
+fn notices_of_three() {
+    for (good, number) in states("restart") {
+        for length in 0..=9 {
+            let mut state = Lent {
+                notices: vec![0; length],
+                ..good.clone()
+            };
+            let before = state.clone();
+            let answer = state.call("restart");
+            match length % 3 {
+                0 => assert_eq!(answer.0, number, "{length}"),
+                _ => {
+                    assert_eq!(answer, refused("restart", 1), "{length}");
+                    assert!(state == before, "{length}: something is changed");
                 }
             }
         }

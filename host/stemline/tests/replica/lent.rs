@@ -28,6 +28,8 @@ pub struct Lent {
     pub bytes: Vec<u8>,
     /// What a restart gets.
     pub journal: Vec<u8>,
+    /// The notices that a restart gets, three numbers each.
+    pub notices: Vec<u32>,
     /// What a load gets.
     pub given: Vec<u8>,
     pub n: u32,
@@ -35,6 +37,9 @@ pub struct Lent {
     pub ticket: u32,
     pub item: u32,
     pub value: i32,
+    /// What a notice is about, and from where on.
+    pub replica: u32,
+    pub slot: u32,
 }
 
 impl Lent {
@@ -57,12 +62,15 @@ impl Lent {
             block: vec![0xa5; BLOCK],
             bytes: vec![0; BLOCK],
             journal: Vec::new(),
+            notices: Vec::new(),
             given: vec![1; ITEMS],
             n: 2,
             own: 0,
             ticket: 0,
             item: 0,
             value: 0,
+            replica: 0,
+            slot: 0,
         }
     }
 
@@ -150,6 +158,7 @@ impl Lent {
                     &mut l.places,
                     &mut l.outbox,
                     &l.journal,
+                    &l.notices,
                     &mut l.block
                 ))
             }
@@ -221,6 +230,8 @@ impl Lent {
                 ))
             }
             "load" => ffi::load(&l.turn, &mut l.classes, &l.given),
+            "out" => ffi::out(&mut l.group, &l.turn, &l.places, l.replica, l.slot),
+            "back" => ffi::back(&mut l.group, &l.turn, &l.places, l.replica, l.slot),
             _ => panic!("no call {name}"),
         };
         (number, format!("{number}"))

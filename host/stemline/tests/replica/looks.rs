@@ -283,7 +283,7 @@ fn journals_are_read_as_a_restart_reads_them() {
         let (good, why, left) = read_through(&journal);
         for n in sizes(&journal) {
             let own = random.below(n as usize) as u32;
-            let restarted = Replica::restart(n, own, &start_values(), &journal);
+            let restarted = Replica::restart(n, own, &start_values(), &journal, &[]);
             assert_eq!(good.len(), restarted.unwrap().1.blocks as usize);
             assert_eq!(why, stop(n, &journal, good.len()));
         }

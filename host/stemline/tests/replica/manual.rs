@@ -1,6 +1,6 @@
 //! The manual page of `replay` says what the program does.
 
-use model::replay::{run, JOURNAL, KEPT, MAX_BYTES, MAX_JOURNAL, MAX_TABLE, PLACES};
+use model::replay::{run, JOURNAL, KEPT, MAX_BYTES, MAX_JOURNAL, MAX_TABLE, NOTICES, PLACES};
 use stemline::Refusal;
 
 const PAGE: &str = include_str!("../../../../docs/replay.1");
@@ -30,14 +30,14 @@ fn every_call() {
         .filter_map(|(_, line)| line.strip_prefix(".B "))
         .collect();
     assert_eq!(entries, calls);
-    assert_eq!(calls.len(), 18);
+    assert_eq!(calls.len(), 20);
 }
 
 /// Each number with its words, and the page has no others.
 #[test]
 fn every_number() {
-    // There is no 22 any more, and no 24.
-    let numbers = (1..=21).chain([23, 25]);
+    // There is no 22 any more, and no 24; 26 and 27 are the program `week`'s.
+    let numbers = (1..=21).chain([23, 25, 28, 29]);
     let due: Vec<String> = numbers
         .map(|number| {
             let words = Refusal::from_number(number).unwrap().words();
@@ -60,6 +60,7 @@ fn every_limit() {
         ("Places: ", PLACES),
         ("the last ", KEPT),
         ("Blocks of a journal: ", JOURNAL),
+        ("\n.BR Z :\n", NOTICES),
         ("at most ", MAX_BYTES),
         ("\n.B Y\n", MAX_JOURNAL),
         ("\n.B P\n", MAX_TABLE),

@@ -76,7 +76,7 @@ fn any_number_but_0_is_on() {
     let seeds = Seeds::new(RUNS);
     seeds.each(|seed| {
         let n = 2 + seed as u32 % 5;
-        let style = STYLES[seed as usize / 5 % 4];
+        let style = STYLES[seed as usize / 5 % 4].with_notices([0, 6][seed as usize % 2]);
         let mut random = Random::new(seed);
         let replica = |own| Marked::new(Both::new(n, own, &start_values()), seed);
         let mut group = Group::new((0..n).map(replica).collect(), style);

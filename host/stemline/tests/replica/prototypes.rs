@@ -1,15 +1,10 @@
-//! The thirteen calls and the three functions that read a block, with their parameters, in order, as the crates
+//! The fifteen calls and the three functions that read a block, with their parameters, in order, as the crates
 //! of the engine export them; the C header and the Rust crate declare the same. A compiler sees types alone, of
 //! which several parameters have the same.
 
-const ENGINE: &str = concat!(
-    include_str!("../../../../crates/replica_make/src/lib.rt"),
-    include_str!("../../../../crates/replica_station/src/lib.rt"),
-    include_str!("../../../../crates/replica_client/src/lib.rt"),
-    include_str!("../../../../crates/replica_write/src/lib.rt"),
-    include_str!("../../../../crates/replica_turn/src/lib.rt"),
-    include_str!("../../../../crates/replica_block/src/lib.rt"),
-);
+use std::fs;
+use std::path::Path;
+
 const HEADER: &str = include_str!("../../../include/stemline_calls.h");
 const RUST: &str = include_str!("../../src/ffi.rs");
 
@@ -92,9 +87,19 @@ fn sorted(mut all: Vec<Function>) -> Vec<Function> {
     all
 }
 
+/// The source of the crates that export functions: those whose names begin with `replica_`.
+fn source() -> String {
+    let crates = Path::new(env!("CARGO_MANIFEST_DIR")).join("../../crates");
+    let crates = fs::read_dir(crates).unwrap().map(|entry| entry.unwrap());
+    let exports =
+        crates.filter(|entry| entry.file_name().to_string_lossy().starts_with("replica_"));
+    let source = |entry: fs::DirEntry| fs::read_to_string(entry.path().join("src/lib.rt")).unwrap();
+    exports.map(source).collect()
+}
+
 fn engine() -> Vec<Function> {
-    let found = functions(ENGINE, "pub extern \"C\" fn ", &['\n', '{']);
-    assert_eq!(found.len(), 13 + 3);
+    let found = functions(&source(), "pub extern \"C\" fn ", &['\n', '{']);
+    assert_eq!(found.len(), 15 + 3);
     sorted(found)
 }
 

@@ -14,9 +14,9 @@ use model::replica::ITEMS;
 use model::samples::{block_of, Random};
 use model::trace::{Answer, Call};
 use soak::played;
-use stemline::{Asked, Recorder, Refusal, Replica};
+use stemline::{Asked, Notice, Recorder, Refusal, Replica};
 
-use crate::both::{play, report, worked};
+use crate::both::{play, report, told, worked};
 use crate::seeds::Seeds;
 
 type Lists = Recorder<Vec<u8>, Vec<u8>>;
@@ -30,7 +30,7 @@ fn drive<C: Write, A: Write>(
 ) {
     let mut plain = recorder.replica().clone();
     let mut peers = Peers::new(n, own, report(plain.report()));
-    let style = STYLES[random.below(4)];
+    let style = STYLES[random.below(4)].with_notices(random.pick(&[0, 4]));
     for _ in 0..calls {
         let call = peers.random_call(random, style);
         let (mut appended, mut due_appended) = (Vec::new(), Vec::new());
@@ -108,18 +108,43 @@ fn the_model_plays_the_same() {
 
 /// What a member of a group of `n` has on its disk after so many calls and some cuts, maybe cut itself.
 fn journal(n: u32, own: u32, calls: usize, random: &mut Random) -> Vec<u8> {
+    noticed(n, own, calls, 0, random).0
+}
+
+/// The same, and the notices taken, of which so many calls of a hundred are about.
+fn noticed(
+    n: u32,
+    own: u32,
+    calls: usize,
+    notices: usize,
+    random: &mut Random,
+) -> (Vec<u8>, Vec<Notice>) {
     let members = (0..n).map(|own| Machine::make(n, Some(own), &start_values()).unwrap());
-    let mut group = Group::new(members.collect(), STYLES[random.below(4)]);
+    let style = STYLES[random.below(4)].with_notices(notices);
+    let mut group = Group::new(members.collect(), style);
     for _ in 0..calls {
         match random.below(60) {
             0 => group.random_cut(random),
             _ => group.random_call(random),
         }
     }
+    (0..n as usize).for_each(|k| group.open(k));
     group.settle(1);
-    let disk = group.members[own as usize].disk();
-    let cut = random.pick(&[0, 0, 1, 511, 512, 700]).min(disk.len());
-    disk[..disk.len() - cut].to_vec()
+    let (disk, floor) = (
+        group.members[own as usize].disk(),
+        group.members[own as usize].floor(),
+    );
+    let most = if notices > 0 {
+        disk.len() - floor
+    } else {
+        disk.len()
+    };
+    let cut = random.pick(&[0, 0, 1, 511, 512, 700]).min(most);
+    let taken = group.observer.notices(own as usize);
+    (
+        disk[..disk.len() - cut].to_vec(),
+        taken.iter().map(told).collect(),
+    )
 }
 
 /// A restart from a journal of one line, one that the program keeps, and a longer one.
@@ -135,9 +160,9 @@ fn restarts() {
         let calls = random.pick(&[0, 10, 300, 20_000]);
         let journal = journal(n, own, calls, &mut random);
         let lists = (Vec::new(), Vec::new());
-        let made = Recorder::restart(n, own, &start_values(), &journal, lists.0, lists.1);
+        let made = Recorder::restart(n, own, &start_values(), &journal, &[], lists.0, lists.1);
         let (mut recorder, restarted) = made.unwrap();
-        let plain = Replica::restart(n, own, &start_values(), &journal).unwrap();
+        let plain = Replica::restart(n, own, &start_values(), &journal, &[]).unwrap();
         assert!((recorder.replica(), &restarted) == (&plain.0, &plain.1));
         drive(&mut recorder, (n, own), 500, &mut random);
         assert_eq!(recorder.stopped(), None);
@@ -162,6 +187,57 @@ fn restarts() {
     );
 }
 
+/// A restart with notices is written by calls: with as many as the program keeps it ends in a restart, with more it
+/// goes on as it is.
+#[test]
+fn restarts_with_notices() {
+    // Those with a restart in the list, those without, and own slots passed as out.
+    let mut met = [0; 3];
+    let seeds = Seeds::new(60);
+    seeds.each(|seed| {
+        let mut random = Random::new(seed);
+        let n = 2 + seed as u32 % 5;
+        let own = random.below(n as usize) as u32;
+        let calls = random.pick(&[30, 300, 2_000, 20_000]);
+        let (journal, notices) = noticed(n, own, calls, 6, &mut random);
+        let lists = (Vec::new(), Vec::new());
+        let start = &start_values();
+        let made = Recorder::restart(n, own, start, &journal, &notices, lists.0, lists.1);
+        let (mut recorder, restarted) = made.unwrap();
+        let plain = Replica::restart(n, own, start, &journal, &notices).unwrap();
+        assert!((recorder.replica(), &restarted) == (&plain.0, &plain.1));
+        drive(&mut recorder, (n, own), 500, &mut random);
+        assert_eq!(recorder.stopped(), None);
+        let (calls, answers) = text(recorder);
+        let kept = notices.len() <= 32 && restarted.blocks <= 128;
+        if !notices.is_empty() {
+            met[usize::from(!kept)] += 1;
+            let restart = format!("Z {own} {} ", restarted.blocks as usize * BLOCK);
+            assert_eq!(calls.contains(&restart), kept);
+        }
+        let own_out = |slot: &u32| slot % n == own && Notice::is_out(&notices, n, *slot);
+        met[2] += (0..restarted.blocks).filter(own_out).count();
+        assert_eq!(differs(&calls, &answers), None);
+    });
+    assert!(
+        seeds.runs < 60 || met.iter().all(|&count| count >= 5),
+        "{met:?}"
+    );
+}
+
+/// A notice that no replica takes ends the list, in words.
+#[test]
+fn notices_that_no_replica_took() {
+    let back = Notice::Back {
+        replica: 1,
+        slot: 3,
+    };
+    let made = Recorder::restart(2, 0, &[0; ITEMS], &[], &[back], Vec::new(), Vec::new());
+    let (recorder, _) = made.unwrap();
+    let words = "the notice Back 1 at 3 is none that a replica takes, so that no list says it";
+    assert_eq!(recorder.stopped(), Some(words));
+}
+
 /// Own blocks that no replica sends: the restart is as ever, and the list ends, in words.
 #[test]
 fn a_journal_that_no_replica_wrote() {
@@ -169,7 +245,7 @@ fn a_journal_that_no_replica_wrote() {
     let blocks = (0..6).map(|slot| block_of(2, slot, if slot % 2 == 0 { twice } else { &[] }));
     let journal: Vec<u8> = blocks.flatten().collect();
     let values = &start_values();
-    let made = Recorder::restart(2, 0, values, &journal, Vec::new(), Vec::new());
+    let made = Recorder::restart(2, 0, values, &journal, &[], Vec::new(), Vec::new());
     let (mut recorder, restarted) = made.unwrap();
     assert_eq!(restarted.blocks, 6);
     let words = "block 2 of the journal is none that a replica writes, so that no list says it";
@@ -188,7 +264,7 @@ fn a_journal_with_few_of_its_tickets() {
         let blocks = (0..5).map(|slot| block_of(2, slot, if slot == 2 { own } else { &[] }));
         let journal: Vec<u8> = blocks.flatten().collect();
         let values = &start_values();
-        let made = Recorder::restart(2, 0, values, &journal, Vec::new(), Vec::new());
+        let made = Recorder::restart(2, 0, values, &journal, &[], Vec::new(), Vec::new());
         let (recorder, restarted) = made.unwrap();
         assert_eq!(
             (restarted.blocks, recorder.replica().report().tickets),
@@ -242,7 +318,7 @@ fn refused_makes() {
     for (n, own) in [(1, 0), (7, 0), (2, 2), (2, u32::MAX)] {
         let made = Recorder::new(n, own, values, &mut calls, &mut answers);
         assert_eq!(made.err(), Some(Refusal::OutOfRange));
-        let made = Recorder::restart(n, own, values, &[0; 3_000], &mut calls, &mut answers);
+        let made = Recorder::restart(n, own, values, &[0; 3_000], &[], &mut calls, &mut answers);
         assert_eq!(made.err(), Some(Refusal::OutOfRange));
     }
     assert!(calls.is_empty() && answers.is_empty());

@@ -2,12 +2,13 @@
 
 use model::block::{self, Message, BLOCK};
 use model::drive::{start_values, Group, Peers, Powered, Seen, Style, Subject, STYLES};
+use model::notice::{Kind, Notice};
 use model::samples::{self, block_of, break_form, damage, Random};
 use model::trace::Restart;
 use soak::runs;
 use stemline::Replica;
 
-use crate::both::Both;
+use crate::both::{told, Both};
 use crate::lent::{refused, Lent};
 use crate::seeds::Seeds;
 
@@ -21,7 +22,8 @@ fn groups_that_lose_power() {
     if seeds.runs >= RUNS {
         assert!(seen.restarts > 5_000, "{seen:?}");
         assert!(seen.sent_by_restart > 50, "{seen:?}");
-        assert!(seen.commits > 8_000 && seen.aborted > 800, "{seen:?}");
+        assert!(seen.commits > 6_000 && seen.aborted > 400, "{seen:?}");
+        assert!(seen.notices > 5_000 && seen.passed_out > 8_000, "{seen:?}");
     }
 }
 
@@ -89,6 +91,27 @@ pub fn journal(random: &mut Random, n: u32, style: Style) -> Vec<u8> {
     journal
 }
 
+/// An outage of some replicas, over or not, wherever the journal ends: with one for each, what is out by all
+/// notices is out by the last.
+fn notices(random: &mut Random, n: u32) -> Vec<Notice> {
+    let mut notices = Vec::new();
+    for k in 0..n {
+        let from = random.below(24) as u32;
+        if random.below(3) == 0 {
+            notices.push(Notice::out(k, from));
+            let back = Notice::back(k, from + 1 + random.below(12) as u32);
+            notices.extend(random.pick(&[None, Some(back)]));
+        }
+    }
+    notices
+}
+
+/// The three numbers of a notice.
+fn numbers(notice: &Notice) -> [u32; 3] {
+    let out = u32::from(notice.kind == Kind::Out);
+    [notice.about, out, notice.slot]
+}
+
 /// The same restart over parts that hold any content: it leaves and gives the same.
 fn over_used_parts(random: &mut Random, restart: &Restart, both: &Both) {
     let mut used = Lent::of(both.library.memory());
@@ -105,11 +128,13 @@ fn over_used_parts(random: &mut Random, restart: &Restart, both: &Both) {
         own: restart.own,
         start: restart.values.clone(),
         journal: restart.journal.clone(),
+        notices: restart.notices.iter().flat_map(numbers).collect(),
         ..used
     };
     let answer = used.call("restart");
     let values = &start_values();
-    let given = Replica::restart(restart.n, restart.own, values, &restart.journal);
+    let notices: Vec<_> = restart.notices.iter().map(told).collect();
+    let given = Replica::restart(restart.n, restart.own, values, &restart.journal, &notices);
     let (fresh, restarted) = given.unwrap();
     let due = format!("RestartReply {{ number: 0, count: {} }}", restarted.blocks);
     assert_eq!(answer, (0, due));
@@ -120,8 +145,8 @@ fn over_used_parts(random: &mut Random, restart: &Restart, both: &Both) {
 /// Any journal: library and model take up the same, and go on alike.
 #[test]
 fn any_journal() {
-    // How many gave no block back, one, and stopped before the journal's end.
-    let mut met = [0u32; 3];
+    // How many gave no block back, one, stopped before the journal's end, and went on at a slot that is out.
+    let mut met = [0u32; 4];
     let seeds = Seeds::new(600);
     seeds.each(|seed| {
         let mut random = Random::new(seed);
@@ -132,6 +157,7 @@ fn any_journal() {
             own: random.below(n as usize) as u32,
             values: start_values().to_vec(),
             journal: journal(&mut random, n, style),
+            notices: notices(&mut random, n),
         };
         let mut both = Both::new(n, 0, &start_values());
         let restarted = both.restart(&restart).unwrap();
@@ -139,6 +165,7 @@ fn any_journal() {
         met[usize::from(restarted.gave_back())] += 1;
         let whole = restart.journal.len() == BLOCK * restarted.count as usize;
         met[2] += u32::from(!whole);
+        met[3] += u32::from(both.model.out_next().is_some());
         let mut peers = Peers::new(n, restart.own, both.report());
         for _ in 0..200 {
             let call = peers.random_call(&mut random, style);
@@ -146,7 +173,7 @@ fn any_journal() {
             peers.feed(&call, &answer);
         }
     });
-    let enough = met.iter().all(|&count| count >= 100);
+    let enough = met[..3].iter().all(|&count| count >= 100) && met[3] >= 15;
     assert!(seeds.runs < 600 || enough, "{met:?}");
 }
 
@@ -164,6 +191,7 @@ fn every_length() {
                 own,
                 values: start_values().to_vec(),
                 journal: journal[..length].to_vec(),
+                notices: Vec::new(),
             };
             let mut both = Both::new(3, 0, &start_values());
             let count = both.restart(&restart).unwrap().count as usize;
@@ -191,7 +219,7 @@ fn refused_restarts() {
             };
             let mut after = before.clone();
             let answer = after.call("restart");
-            let crate_says = Replica::restart(n, own_number, &start_values(), &own);
+            let crate_says = Replica::restart(n, own_number, &start_values(), &own, &[]);
             if (2..=6).contains(&n) && own_number < n {
                 assert!(crate_says.is_ok());
             } else {
@@ -223,6 +251,7 @@ fn more_own_writesets_than_tickets() {
         own: 0,
         values: start_values().to_vec(),
         journal: blocks.concat(),
+        notices: Vec::new(),
     };
     let restarted = both.restart(&restart).unwrap();
     assert_eq!((restarted.count, *restarted.block), (3, blocks[2]));

@@ -134,7 +134,8 @@ fn library() {
         let (out, err, status) = said(run(&not, "library"));
         assert_eq!((&out[..], status), ("", Some(1)), "{when}");
         let lines: Vec<&str> = err.lines().collect();
-        assert!(lines.len() <= 7 && err.starts_with("rt: memory"), "{err}");
+        // One for each crate that exports functions, and the last.
+        assert!(lines.len() <= 8 && err.starts_with("rt: memory"), "{err}");
         assert!(err.ends_with(&what), "{err}");
     }
 }

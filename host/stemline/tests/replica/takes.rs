@@ -4,7 +4,7 @@ use model::drive::{start_values, Group, Peers, Powered, Subject, STYLES};
 use model::replica::{self as second, Report, ITEMS};
 use model::samples::{block_of, Random};
 use model::trace::{Answer, Call};
-use stemline::{Recorder, Refusal, Replica, StationRecorder, Work, REPLICAS, STEPS};
+use stemline::{Recorder, Refusal, Replica, StationRecorder, Work, LEFT, REPLICAS, STEPS};
 
 use crate::both::{stepped, worked, Both};
 use crate::seeds::Seeds;
@@ -76,17 +76,19 @@ impl Taking {
     }
 }
 
+/// As many as a take has: a member that lacks a Back may have all others out, and works come to no end.
 fn works(both: &mut Both) -> Vec<second::Work> {
-    let mut steps = Vec::new();
-    loop {
+    let mut steps: Vec<second::Work> = Vec::new();
+    while steps.len() < STEPS && steps.iter().filter(|step| step.moved).count() < LEFT {
         match both.call(&Call::Work) {
             Ok(Answer::Work(step)) => steps.push(step),
             answer => {
                 assert_eq!(answer, Err(21));
-                return steps;
+                break;
             }
         }
     }
+    steps
 }
 
 impl Subject for Taking {
@@ -115,6 +117,7 @@ fn a_take_is_a_deliver_and_its_works() {
         let style = STYLES[seed as usize / 5 % 4];
         let mut random = Random::new(seed);
         let replica = |own| Taking::new(Both::new(n, own, &start_values()));
+        let style = style.with_notices([0, 8][seed as usize % 2]);
         let mut group = Group::new((0..n).map(replica).collect(), style);
         group.add_station(Taking::new(Both::station(n, &start_values())));
         let mut single = replica(0);
@@ -133,8 +136,8 @@ fn a_take_is_a_deliver_and_its_works() {
     assert!(seeds.runs < RUNS || enough, "{met:?}");
 }
 
-/// Replica 0 of 6, at its turn, with six transactions sent and the full blocks of all others waiting;
-/// and its own block, with which it has all to do that a replica can have.
+/// Replica 0 of 6, at its turn, with six transactions sent and the full blocks of all others waiting, behind
+/// which all but the last are out; and its own block, with which it has all to do that a replica can have.
 fn all_waiting() -> (Replica, [u8; 512]) {
     let mut replica = Replica::new(REPLICAS as u32, 0, &start_values()).unwrap();
     for item in 0..6 {
@@ -154,6 +157,9 @@ fn all_waiting() -> (Replica, [u8; 512]) {
         let taken = replica.take(&block_of(6, slot, &records)).unwrap();
         assert!(taken.steps.is_empty());
     }
+    for k in 0..5 {
+        replica.out(k, 6 + k).unwrap();
+    }
     (replica, own)
 }
 
@@ -169,9 +175,22 @@ fn the_most_steps() {
     assert!(replica == before, "changed by a refused take");
     let taken = replica.take(&own).unwrap();
     assert_eq!(taken.steps.len(), STEPS);
-    assert_eq!(replica.report().turn, 6);
+    assert_eq!(replica.report().turn as usize, LEFT);
     assert_eq!(replica.work(), Err(Refusal::NothingWaits));
     assert_eq!(replica.take(&own), Err(Refusal::PastSlot));
+}
+
+/// Where all are out there is no end of slots to pass: a take leaves some, and the rest goes on waiting.
+#[test]
+fn all_are_out() {
+    let mut replica = Replica::new(2, 0, &start_values()).unwrap();
+    let own = replica.send().unwrap();
+    replica.out(1, 1).unwrap();
+    replica.out(0, 2).unwrap();
+    assert_eq!(replica.take(&own).unwrap().steps.len(), LEFT);
+    assert_eq!(replica.report().turn as usize, LEFT);
+    assert!(replica.waits() && !replica.is_turn());
+    assert_eq!(replica.work().map(|work| work.sender), Ok(1));
 }
 
 /// A take asks for no work that has nothing to do: of a block at its turn one work is recorded, of an early one

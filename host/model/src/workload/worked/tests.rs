@@ -2,14 +2,15 @@
 
 use super::*;
 use crate::replay::Replay;
-use crate::workload::{classes, restarts, staleness, stations};
+use crate::workload::{classes, notices, restarts, staleness, stations};
 
 /// All of them.
 fn lists() -> impl Iterator<Item = (&'static str, &'static str)> {
     let (first, second) = (restarts::worked::LISTS, classes::worked::LISTS);
     let lists = first.into_iter().chain(second);
     let lists = lists.chain(stations::worked::LISTS);
-    lists.chain(staleness::LISTS)
+    let lists = lists.chain(staleness::LISTS);
+    lists.chain(notices::worked::LISTS)
 }
 
 /// Whether an answer is of a pattern.

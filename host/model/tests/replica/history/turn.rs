@@ -14,6 +14,9 @@ impl Historical {
         if turn % self.n != own {
             return Err(11);
         }
+        if self.is_out(turn) {
+            return Err(29);
+        }
         if self.present_block().is_some() {
             return Err(12);
         }
@@ -51,6 +54,9 @@ impl Historical {
         if message.slot < turn {
             return Err(17);
         }
+        if self.is_out(message.slot) {
+            return Err(29);
+        }
         if message.slot >= turn + self.n {
             return Err(18);
         }
@@ -70,6 +76,16 @@ impl Historical {
     }
 
     pub(super) fn work(&mut self) -> Result<Work, u8> {
+        if self.is_out(self.turn()) {
+            let work = Work {
+                sender: (self.turn() % self.n) as u8,
+                ticket: 0,
+                moved: true,
+                aborted: Vec::new(),
+            };
+            self.works.push(work.clone());
+            return Ok(work);
+        }
         let message = self.waiting().ok_or(21)?.clone();
         let mut work = Work {
             sender: message.sender,

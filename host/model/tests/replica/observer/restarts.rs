@@ -9,7 +9,7 @@ use super::*;
 impl Script {
     /// A restart from a journal that gives a block back, or none; its replica then has so many blocks
     /// and writesets, and these values.
-    fn restart(
+    pub fn restart(
         &mut self,
         k: usize,
         journal: &[[u8; BLOCK]],
@@ -21,8 +21,12 @@ impl Script {
             count: journal.len() as u32,
             block: Box::new(back.unwrap_or([0; BLOCK])),
         });
-        self.observer
-            .feed_restart(k, &lent(k, journal.concat()), &answer);
+        let restart = Restart {
+            n: self.n,
+            notices: self.observer.notices(k).to_vec(),
+            ..lent(k, journal.concat())
+        };
+        self.observer.feed_restart(k, &restart, &answer);
         self.reports[k].turn = journal.len() as u32;
         self.reports[k].commits = commits;
         self.values[k] = start_values();
@@ -31,7 +35,7 @@ impl Script {
         }
     }
 
-    fn deliver(&mut self, k: usize, block: [u8; BLOCK]) {
+    pub fn deliver(&mut self, k: usize, block: [u8; BLOCK]) {
         let bytes = block.to_vec();
         let call = Call::Deliver { bytes };
         self.observer.feed(k, &call, &Ok(Answer::Done));
@@ -39,12 +43,13 @@ impl Script {
 }
 
 /// What a restart of replica k of 2 is lent.
-fn lent(k: usize, journal: Vec<u8>) -> Restart {
+pub fn lent(k: usize, journal: Vec<u8>) -> Restart {
     Restart {
         n: 2,
         own: k as u32,
         values: start_values().to_vec(),
         journal,
+        notices: Vec::new(),
     }
 }
 

@@ -3,63 +3,103 @@
 //! of it or of its copy is changed at once.
 
 use super::*;
-use crate::disk::Step;
+use crate::disk::{Step, What};
+
+/// A journal, and the notices beside it, once there are any.
+#[derive(Clone, Default)]
+pub(super) struct Files {
+    pub journal: Vec<u8>,
+    pub notices: Option<Vec<u8>>,
+}
+
+impl Files {
+    /// Puts them into a room.
+    pub fn put(&self, room: &Room) {
+        fs::write(room.journal(), &self.journal).unwrap();
+        match &self.notices {
+            Some(notices) => fs::write(room.notices(), notices).unwrap(),
+            None => drop(fs::remove_file(room.notices())),
+        }
+    }
+
+    /// Those of a room.
+    pub fn of(room: &Room) -> Files {
+        Files {
+            journal: fs::read(room.journal()).unwrap(),
+            notices: fs::read(room.notices()).ok(),
+        }
+    }
+
+    /// What is there of a step.
+    fn take(&mut self, what: What, step: &Step, part: Part) {
+        let file = match what {
+            What::Journal => &mut self.journal,
+            What::Notices => self.notices.get_or_insert_default(),
+        };
+        match (step, part) {
+            (_, Part::None) => {}
+            (Step::Cut(length), _) => file.resize(*length as usize, 0),
+            (Step::Write(at, bytes), part) => {
+                let (at, end) = (*at as usize, *at as usize + bytes.len());
+                let there = match part {
+                    Part::Front(count) => 0..count.min(bytes.len()),
+                    Part::Back(count) => count.min(bytes.len())..bytes.len(),
+                    Part::Length => 0..0,
+                    _ => 0..bytes.len(),
+                };
+                let grown = match part {
+                    Part::Front(_) => at + there.end,
+                    _ => end,
+                };
+                file.resize(file.len().max(grown), 0);
+                file[at..][there.clone()].copy_from_slice(&bytes[there]);
+            }
+            _ => {}
+        }
+    }
+}
 
 /// What a disk has for sure, and the steps since.
-#[derive(Default)]
-struct Simulated {
-    sure: Vec<u8>,
-    since: Vec<Step>,
+#[derive(Clone, Default)]
+pub(super) struct Simulated {
+    pub sure: Files,
+    pub since: Vec<(What, Step)>,
 }
 
 impl Simulated {
-    /// Takes in the steps of the journal, and gives the disk as it was before each.
-    fn steps(&mut self) -> Vec<Simulated> {
+    /// Takes in the steps of the journal and the notices, and gives the disk as it was before each.
+    pub fn steps(&mut self) -> Vec<Simulated> {
         let mut before = Vec::new();
-        for step in told::taken() {
-            before.push(Simulated {
-                sure: self.sure.clone(),
-                since: self.since.clone(),
-            });
+        for (what, step) in told::taken() {
+            before.push(self.clone());
             match step {
+                // Of this file alone.
                 Step::Sync => {
-                    let all = vec![Part::All; self.since.len()];
-                    self.sure = self.left(&all);
-                    self.since.clear();
+                    let since = std::mem::take(&mut self.since);
+                    for (of, step) in since {
+                        match of == what {
+                            true => self.sure.take(of, &step, Part::All),
+                            false => self.since.push((of, step)),
+                        }
+                    }
+                }
+                Step::Folder(_) if what == What::Notices => {
+                    self.sure.notices.get_or_insert_default();
                 }
                 Step::Folder(_) => {}
-                step => self.since.push(step),
+                step => self.since.push((what, step)),
             }
         }
         before
     }
 
-    /// The file that a cut leaves of which these parts of the steps since the last sync are there.
-    fn left(&self, parts: &[Part]) -> Vec<u8> {
-        let mut file = self.sure.clone();
-        for (step, part) in self.since.iter().zip(parts) {
-            match (step, part) {
-                (_, Part::None) => {}
-                (Step::Cut(length), _) => file.resize(*length as usize, 0),
-                (Step::Write(at, bytes), part) => {
-                    let (at, end) = (*at as usize, *at as usize + bytes.len());
-                    let there = match *part {
-                        Part::Front(count) => 0..count.min(bytes.len()),
-                        Part::Back(count) => count.min(bytes.len())..bytes.len(),
-                        Part::Length => 0..0,
-                        _ => 0..bytes.len(),
-                    };
-                    let grown = match part {
-                        Part::Front(_) => at + there.end,
-                        _ => end,
-                    };
-                    file.resize(file.len().max(grown), 0);
-                    file[at..][there.clone()].copy_from_slice(&bytes[there]);
-                }
-                _ => {}
-            }
+    /// The files that a cut leaves of which these parts of the steps since the last sync are there.
+    pub fn left(&self, parts: &[Part]) -> Files {
+        let mut files = self.sure.clone();
+        for ((what, step), part) in self.since.iter().zip(parts) {
+            files.take(*what, step, *part);
         }
-        file
+        files
     }
 
     /// The bytes of the largest write since.
@@ -68,13 +108,14 @@ impl Simulated {
             Step::Write(_, bytes) => bytes.len(),
             _ => 0,
         };
-        self.since.iter().map(bytes).max().unwrap_or(0)
+        let steps = self.since.iter().map(|(_, step)| step);
+        steps.map(bytes).max().unwrap_or(0)
     }
 }
 
 /// What of a step is there.
 #[derive(Clone, Copy, Debug, PartialEq)]
-enum Part {
+pub(super) enum Part {
     None,
     All,
     /// The first so many bytes, or all but these.
@@ -86,7 +127,7 @@ enum Part {
 
 /// What a cut at this disk may leave: any of the steps whole, the others not or as zeros; each torn at every
 /// `each`th byte from both sides, with all or none of the others.
-fn cuts(disk: &Simulated, each: usize) -> Vec<Vec<Part>> {
+pub(super) fn cuts(disk: &Simulated, each: usize) -> Vec<Vec<Part>> {
     let count = disk.since.len();
     let mut cuts = Vec::new();
     for whole in 0..1_u32 << count {
@@ -114,8 +155,8 @@ fn cuts(disk: &Simulated, each: usize) -> Vec<Vec<Part>> {
 
 /// Opens what a cut left: all blocks up to the own one given last are there, and what else is there is what
 /// was appended. Gives the steps of the open.
-fn opens(room: &Room, (n, own): (u32, u32), file: &[u8], blocks: &[[u8; BLOCK]], given: u32) {
-    fs::write(room.journal(), file).unwrap();
+fn opens(room: &Room, (n, own): (u32, u32), files: &Files, blocks: &[[u8; BLOCK]], given: u32) {
+    files.put(room);
     let (replica, reopened) = open(room, n, own).unwrap();
     let taken = reopened.blocks;
     assert!(taken >= given, "{taken} of {given} blocks");
@@ -146,7 +187,7 @@ fn check(
                 let copy = 4_096 * (1 + slot / group.0 % 2) as usize + byte;
                 for place in [block, copy] {
                     let mut rotten = sure.clone();
-                    rotten[place] ^= 1 << (at % 8);
+                    rotten.journal[place] ^= 1 << (at % 8);
                     opens(room, group, &rotten, blocks, given);
                     opened += 1;
                 }
@@ -222,7 +263,7 @@ fn behind_a_failed_sync() {
     let room = Room::new("unsynced");
     let (mut replica, _) = open(&room, 2, 0).unwrap();
     let blocks = fill(&mut replica, 4);
-    let sure = fs::read(room.journal()).unwrap();
+    let sure = Files::of(&room);
     told::taken();
     let ticket = replica.begin().unwrap();
     replica.write(ticket, 5, 40).unwrap();
@@ -231,14 +272,14 @@ fn behind_a_failed_sync() {
     replica.send().unwrap_err();
     drop(replica);
     let since = told::taken();
-    let since = since.into_iter().filter(|step| *step != Step::Sync);
+    let since = since.into_iter().filter(|(_, step)| *step != Step::Sync);
     let disk = Simulated {
         sure,
         since: since.collect(),
     };
     let mut met = [0, 0];
     for parts in cuts(&disk, 13) {
-        fs::write(room.journal(), disk.left(&parts)).unwrap();
+        disk.left(&parts).put(&room);
         let (mut replica, reopened) = open(&room, 2, 0).unwrap();
         // Slot 3 is another's, and may be gone.
         assert!((3..=5).contains(&reopened.blocks));

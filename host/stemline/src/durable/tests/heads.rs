@@ -67,9 +67,9 @@ fn no_journal() {
     let (replica, _) = open(&room, 2, 0).unwrap();
     drop(replica);
     let mut later = fs::read(room.journal()).unwrap();
-    later[16] = 2;
+    later[16] = 3;
     fs::write(room.journal(), &later).unwrap();
-    let words = "it is of version 2, and this program knows version 1";
+    let words = "it is of version 3, and this program knows the versions 1 and 2";
     refused(&room, GROUP, 2, 0, &[0; ITEMS], words);
 }
 

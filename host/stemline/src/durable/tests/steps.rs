@@ -97,7 +97,7 @@ fn an_open_makes_durable() {
             // What is appended goes behind it.
             replica.journal.append(&blocks[0]).unwrap();
             drop(replica);
-            assert!(fs::read(room.journal()).unwrap() == [&good[..], &blocks[0]].concat());
+            assert!(blocks_of(&room) == [&good[HEAD..], &blocks[0]].concat());
         }
     }
 }

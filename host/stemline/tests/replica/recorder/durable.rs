@@ -1,6 +1,6 @@
 //! Recorded replicas with journals in files.
 
-use stemline::{Durable, Replica};
+use stemline::{notices_path, Durable, Replica};
 
 use super::*;
 use crate::files::Room;
@@ -9,7 +9,9 @@ use crate::files::Room;
 /// a replica that is not recorded.
 #[test]
 fn recorded_over_opens() {
-    Seeds::new(12).each(|seed| {
+    let seeds = Seeds::new(12);
+    let mut noticed = 0;
+    seeds.each(|seed| {
         let room = Room::new("recorded");
         let paths = ["a", "b"].map(|name| room.0.join(name));
         let mut random = Random::new(seed);
@@ -26,7 +28,25 @@ fn recorded_over_opens() {
                 let ticket = recorded.report().tickets;
                 let ticket = ticket.saturating_sub(random.below(4) as u32);
                 let item = random.below(9) as u32;
-                match random.below(12) {
+                let turn = recorded.report().turn;
+                match random.below(14) {
+                    12 => {
+                        let (about, slot) = (random.below(3) as u32, turn + random.below(4) as u32);
+                        let out = random.below(2) == 0;
+                        let taken = match out {
+                            true => (recorded.out(about, slot).ok(), plain.out(about, slot).ok()),
+                            false => (
+                                recorded.back(about, slot).ok(),
+                                plain.back(about, slot).ok(),
+                            ),
+                        };
+                        assert_eq!(taken.0, taken.1);
+                        let _ = match out {
+                            true => peer.out(about, slot),
+                            false => peer.back(about, slot),
+                        };
+                    }
+                    13 => assert_eq!(recorded.work().ok(), plain.work().ok()),
                     0..2 => assert_eq!(recorded.begin().ok(), plain.begin().ok()),
                     2..5 => assert_eq!(
                         recorded.write(ticket, item, 7).ok(),
@@ -74,6 +94,12 @@ fn recorded_over_opens() {
             assert_eq!(differs(&calls, &answers), None);
             let files = paths.each_ref().map(|path| std::fs::read(path).unwrap());
             assert!(files[0] == files[1]);
+            let notices = paths
+                .each_ref()
+                .map(|path| std::fs::read(notices_path(path)).ok());
+            assert!(notices[0] == notices[1]);
+            noticed += u32::from(notices[0].is_some());
         }
     });
+    assert!(seeds.runs < 12 || noticed > 10, "{noticed}");
 }

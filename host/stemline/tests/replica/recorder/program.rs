@@ -37,7 +37,7 @@ fn long_list(random: &mut Random) -> (String, String) {
             Some(calls) => {
                 let journal = journal(3, 2, calls, random);
                 let values = start_values();
-                let made = Recorder::restart(3, 2, &values, &journal, calls_out, answers_out);
+                let made = Recorder::restart(3, 2, &values, &journal, &[], calls_out, answers_out);
                 made.unwrap().0
             }
         };
@@ -68,7 +68,7 @@ fn told(test: &str, calls: &str, answers: &str) -> (Option<i32>, String) {
 
 #[test]
 fn the_proved_program_plays_the_same() {
-    let (calls, answers) = long_list(&mut Random::new(1));
+    let (calls, answers) = long_list(&mut Random::new(2));
     let lines = calls.lines().count();
     assert!(lines > 6_000, "{lines}");
     // A make, a restart of each kind, a station.

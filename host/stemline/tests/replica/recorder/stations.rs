@@ -25,7 +25,7 @@ pub fn drive<C: Write, A: Write>(
 ) -> usize {
     let mut plain = Station::from_memory(recorder.memory().clone()).unwrap();
     let mut peers = Peers::of_station(n, report(plain.report()));
-    let style = STYLES[random.below(4)];
+    let style = STYLES[random.below(4)].with_notices(random.pick(&[0, 4]));
     let mut made = 2;
     for _ in 0..calls {
         let call = peers.random_call(random, style);
