@@ -121,7 +121,7 @@ journals n start setting cs f p k h = record {
     I = inv-after n start setting cs f p cs [] (sym (append-nil cs))
 
     known : (m : Message ℤ) → Mem m B → Mem m D
-    known m q = I .inv .sheet .same .each m q
+    known m q = I .inv .listed .same .each m q
 
     R : (length (G .disks k .journal) ≡ 512 * blocksAt (G .memories k .turn)) × (length (blocksIn n (G .disks k .journal)) ≡ blocksAt (G .memories k .turn))
         × ((i : ℕ) → i < blocksAt (G .memories k .turn) → Of n start (p .lists) (p .one .ofIts) B D known i (messageAt n (G .disks k .journal) i))

@@ -18,7 +18,7 @@ use Rattle.protocol.proofs.ListLaws.{keep-mem}
 use Rattle.protocol.proofs.Tracking.{within, holds-below}
 use Rattle.protocol.proofs.Invariant.{SystemInv}
 use Rattle.protocol.proofs.SequenceLaws.{sequence-mono}
-use Rattle.protocol.proofs.ClaimLaws.{sheet-sequence, first-sequence}
+use Rattle.protocol.proofs.ClaimLaws.{handouts-sequence, first-sequence}
 
 module _ {X : Type 0} (S : Setup X) (out : ℕ → Bool) where
   -- what is kept of rising slots rises, from s on
@@ -66,13 +66,13 @@ module _ {X : Type 0} (S : Setup X) (out : ℕ → Bool) where
 
   pub agreed : (w : System X) → SystemInv S out w → Agreed S w
   agreed w I = record {
-    rising = rw (I .sheet .ofLog) (rises (λ h. not (out (h .slot))) (I .log) 0 (λ i h. I .whole .inOrder .slot i h ∙ (let e : i ≡ 0 + i = omega arith in e)) .1);
-    messages = I .sheet .same;
+    rising = rw (I .listed .ofLog) (rises (λ h. not (out (h .slot))) (I .log) 0 (λ i h. I .whole .inOrder .slot i h ∙ (let e : i ≡ 0 + i = omega arith in e)) .1);
+    messages = I .listed .same;
     agree = λ k. let M = I .each k in let T = M .track in record {
       commits = rw seq (T .logged);
       within = rw seq (within S out (I .log) (w .observed k .commits) k (w .replicas k .cursor) (w .replicas k .store) (w .replicas k .blocks) T);
       below = λ h m. holds-below S out (I .log) (w .observed k .commits) k (w .replicas k .cursor) (w .replicas k .store) (w .replicas k .blocks) T (I .whole .inOrder) h
-          (keep-mem (λ h. not (out (h .slot))) (I .log) h (subst (Mem h) (I .sheet .ofLog) m) .0);
+          (keep-mem (λ h. not (out (h .slot))) (I .log) h (subst (Mem h) (I .listed .ofLog) m) .0);
       reached = λ i h l. reached k i h l;
       values = rw seq (T .values);
       stamps = rw seq (M .stamps);
@@ -81,13 +81,13 @@ module _ {X : Type 0} (S : Setup X) (out : ℕ → Bool) where
   }
     where
       seq : sequence (w .handouts) ≡ sequence (I .log)
-      seq = sheet-sequence S out (w .handouts) (I .log) (w .messages) (I .sheet) (I .whole .inOrder)
+      seq = handouts-sequence S out (w .handouts) (I .log) (w .messages) (I .listed) (I .whole .inOrder)
 
       reached : (k i : ℕ) → i < length (w .handouts) → getD (w .handouts) i noHandout .slot < w .replicas k .cursor .turn → length (sequence (take (suc i) (w .handouts))) ≤ w .replicas k .store .commits
       reached k i h l =
-          let a = kept-at (λ h. not (out (h .slot))) (I .log) i (rw (← I .sheet .ofLog) h) in
-          let s : getD (w .handouts) i noHandout .slot ≡ a .0 = ap (λ (D : List (Handout X)). getD D i noHandout .slot) (I .sheet .ofLog) ∙ ap (λ (x : Handout X). x .slot) (a .1 .1) ∙ I .whole .inOrder .slot (a .0) (a .1 .0) in
-          let q : sequence (take (suc i) (w .handouts)) ≡ sequence (take (suc (a .0)) (I .log)) = ap (λ (D : List (Handout X)). sequence (take (suc i) D)) (I .sheet .ofLog) ∙ ap sequence (a .1 .2)
+          let a = kept-at (λ h. not (out (h .slot))) (I .log) i (rw (← I .listed .ofLog) h) in
+          let s : getD (w .handouts) i noHandout .slot ≡ a .0 = ap (λ (D : List (Handout X)). getD D i noHandout .slot) (I .listed .ofLog) ∙ ap (λ (x : Handout X). x .slot) (a .1 .1) ∙ I .whole .inOrder .slot (a .0) (a .1 .0) in
+          let q : sequence (take (suc i) (w .handouts)) ≡ sequence (take (suc (a .0)) (I .log)) = ap (λ (D : List (Handout X)). sequence (take (suc i) D)) (I .listed .ofLog) ∙ ap sequence (a .1 .2)
           ∙ first-sequence S out (I .log) (I .whole .inOrder) (suc (a .0)) in
           let n = ap length q in
           let m = sequence-mono (I .log) (suc (a .0)) (w .replicas k .cursor .turn) (omega arith) in

@@ -249,7 +249,7 @@ module _ {X : Type 0} (S : Setup X) (M : Machine S) where
     fresh-inv = let I = inv-fresh S (outOf S l) in record {
       inv = record {
         log = I .log;
-        sheet = I .sheet;
+        listed = I .listed;
         whole = I .whole;
         each = λ k. replica-alike S (outOf S l) (I .log) _ k (made S k) (view k (make k)) (made-alike k) (I .each k);
         journals = λ k. rw (made-alike k .cursor) (I .journals k);

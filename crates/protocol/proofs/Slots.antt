@@ -16,7 +16,7 @@ use Rattle.protocol.specs.System.{System}
 use Rattle.protocol.proofs.ListLaws.{bool-by, mem-keep, mem-map, mem-getD, getD-map-in}
 use Rattle.protocol.proofs.SequenceLaws.{mem-at}
 use Rattle.protocol.proofs.Invariant.{SystemInv}
-use Rattle.protocol.proofs.ClaimLaws.{sheet-sequence}
+use Rattle.protocol.proofs.ClaimLaws.{handouts-sequence}
 
 module _ {X : Type 0} (S : Setup X) (out : ℕ → Bool) where
   -- slot s in a group's messages B: it is out and m is its *next*, or it is not and m was handed out for it
@@ -27,7 +27,7 @@ module _ {X : Type 0} (S : Setup X) (out : ℕ → Bool) where
   module _ (w : System X) (I : SystemInv S out w) where
     -- no ticket of a replica is handed out twice
     pub handed-once : List·Nodup (map idOf (sequence (w .handouts)))
-    handed-once = subst (λ (F : List (Placed X)). List·Nodup (map idOf F)) (sym (sheet-sequence S out (w .handouts) (I .log) (w .messages) (I .sheet) (I .whole .inOrder))) (I .whole .once)
+    handed-once = subst (λ (F : List (Placed X)). List·Nodup (map idOf F)) (sym (handouts-sequence S out (w .handouts) (I .log) (w .messages) (I .listed) (I .whole .inOrder))) (I .whole .once)
 
     -- the log's message of a slot
     abbrev logged : ℕ → Message X
@@ -44,7 +44,7 @@ module _ {X : Type 0} (S : Setup X) (out : ℕ → Bool) where
 
     -- the log's message of a slot that is not out was handed out
     pub slot-handed : (s : ℕ) → s < length (I .log) → out s ≡ false → Mem (handoutMessage (getD (I .log) s noHandout)) (w .messages)
-    slot-handed s h e = I .sheet .same .all (logged s) (mem-map handoutMessage (w .handouts) (getD (I .log) s noHandout) (subst (Mem (getD (I .log) s noHandout)) (sym (I .sheet .ofLog))
+    slot-handed s h e = I .listed .same .all (logged s) (mem-map handoutMessage (w .handouts) (getD (I .log) s noHandout) (subst (Mem (getD (I .log) s noHandout)) (sym (I .listed .ofLog))
         (mem-keep (λ (x : Handout X). not (out (x .slot))) (I .log) (getD (I .log) s noHandout) (mem-getD noHandout (I .log) s h) (rw (I .whole .inOrder .slot s h, e)))))
 
     -- each slot of the log
