@@ -20,6 +20,7 @@ def shared(elem):
 FIELDS = {
     "Begun": ["reply", "counts", "row"], "Asked": ["reply", "counts", "row"], "Changed": ["number", "counts", "row"],
     "Made": ["number", "group", "turn", "counts"], "Restarted": ["reply", "group", "turn", "counts"], "Sent": ["number", "turn", "rows"], "Worked": ["reply", "turn", "counts", "ended"],
+    "Noticed": ["number", "group"],
 }
 # the fields of the counts, and of the replies, that a walk reads
 COUNT = {"tickets": 2, "read_only": 4, "aborted": 5, "withdrawn": 6}
@@ -42,7 +43,7 @@ class Call:
     @property
     def exported_by(self):
         """The crate that exports it."""
-        return {"make": "replica_make", "restart": "replica_make", "station": "replica_station", "write": "replica_write", "load": "replica_write", "send": "replica_turn", "deliver": "replica_turn", "work": "replica_turn"}.get(self.name, "replica_client")
+        return {"make": "replica_make", "restart": "replica_make", "station": "replica_station", "write": "replica_write", "load": "replica_write", "send": "replica_turn", "deliver": "replica_turn", "work": "replica_turn", "out": "replica_notice", "back": "replica_notice"}.get(self.name, "replica_client")
 
     @property
     def exported(self):
@@ -211,8 +212,8 @@ CALLS = {
             "restart", "call_restart.restart", "Restarted", "RestartReply",
             [("table", TABLE_MUT), ("group", GROUP_MUT), ("turn", TURN_MUT), ("counts", COUNTS_MUT), ("size", U32), ("me", U32), ("start", shared("i32")), ("queue", mut("u32")),
              ("items", mut("u8")), ("writes", mut("i32")), ("snapshots", mut("i32")), ("values", mut("i32")), ("stamps", mut("u32")),
-             ("classes", mut("u8")), ("places", mut("u8")), ("outbox", mut("u8")), ("journal", shared("u8")), ("block", mut("u8"))],
-            "no_restart", "allParts {g} {h} {c} {t} " + ALL, "restartStep {m} size me start journal block", "", "allParts {g} {h} {c} {t} " + LATER, "restartReply",
+             ("classes", mut("u8")), ("places", mut("u8")), ("outbox", mut("u8")), ("journal", shared("u8")), ("notices", shared("u32")), ("block", mut("u8"))],
+            "no_restart", "allParts {g} {h} {c} {t} " + ALL, "restartLent {m} size me start journal notices block", "", "allParts {g} {h} {c} {t} " + LATER, "restartReply",
         ),
         Call(
             "begin", "call_client.begin", "Begun", "BeginReply",
@@ -255,6 +256,8 @@ CALLS = {
             [("group", GROUP), ("turn", TURN), ("places", mut("u8")), ("outbox", shared("u8")), ("bytes", shared("u8"))],
         ),
         Call("load", "call_classes.load_classes", "u8", "u8", [("turn", TURN), ("classes", mut("u8")), ("given", shared("u8"))]),
+        Call("out", "call_notice.take_out", "Noticed", "u8", [("group", GROUP_MUT), ("turn", TURN), ("places", shared("u8")), ("replica", U32), ("slot", U32)]),
+        Call("back", "call_notice.take_back", "Noticed", "u8", [("group", GROUP_MUT), ("turn", TURN), ("places", shared("u8")), ("replica", U32), ("slot", U32)]),
         Call(
             "work", "call_work.work", "Worked", "WorkReply",
             [("table", TABLE_MUT), ("group", GROUP), ("turn", TURN_MUT), ("counts", COUNTS_MUT), ("queue", mut("u32")), ("items", shared("u8")), ("values", mut("i32")),

@@ -162,12 +162,28 @@ BESIDE = {
     "write": "(6 ≤ at → r .row ≡ t)",
     "make": "(r .group ≡ ifMade (r .number) (groupOf size me) (groupOf 0 0)) × (r .turn ≡ turnZero) × (r .counts ≡ countsZero)",
     "station": "(r .group ≡ ifMade (r .number) (groupOf size noNumber) (groupOf 0 0)) × (r .turn ≡ turnZero) × (r .counts ≡ countsZero)",
-    "restart": "(r .group ≡ ifMade (r .reply .number) (groupOf size me) (groupOf 0 0)) × (r .turn ≡ ifMade (r .reply .number) (restartedMemory size me start (blocksIn size journal) .turn) turnZero)"
-               " × (r .counts ≡ ifMade (r .reply .number) (restartedMemory size me start (blocksIn size journal) .counts) countsZero)",
+    "restart": "(r .group ≡ ifMade (r .reply .number) (withNotices (groupOf size me) (noticesIn notices)) (groupOf 0 0))"
+               " × (r .turn ≡ ifMade (r .reply .number) (restartedMemory size me start (noticesIn notices) (blocksIn size journal) .turn) turnZero)"
+               " × (r .counts ≡ ifMade (r .reply .number) (restartedMemory size me start (noticesIn notices) (blocksIn size journal) .counts) countsZero)",
 }
+
+
+
+def of_notice(name, out):
+    """What a notice says, lent (`Did`) and by value (`On`)."""
+    step = f"noticeStep (noticeParts m group turn places) (record {{ about = replica; out = {out}; slot = slot }})"
+    return f"""abbrev pub {name}Did : Group → Turn → List ℕ → ℕ → ℕ → ℕ → Group → Type 0
+{name}Did group turn places replica slot r group′ = (m : Memory) → Gives number ({step}) r (noticeParts m group′ turn places)
+
+abbrev pub {name}On : Group → Turn → List ℕ → ℕ → ℕ → Noticed → Type 0
+{name}On group turn places replica slot r = {name}Did group turn places replica slot (r .number) (r .group)
+"""
+
 
 # what a call that is lent no table says
 TABLELESS = {
+    "out": of_notice("Out", "true"),
+    "back": of_notice("Back", "false"),
     "deliver": """abbrev pub DeliverOn : Group → Turn → List ℕ → List ℕ → List ℕ → ℕ → List ℕ → Type 0
 DeliverOn group turn places outbox bytes r places′ = (m : Memory) → Gives number (deliverStep (deliverParts m group turn places outbox) bytes) r (deliverParts m group turn places′ outbox)
 """,
@@ -181,19 +197,22 @@ SAYS = "-- What each call says by value (`On`), what it says of the lent parts (
 
 # the modules that the facts may use, and what of each; a file uses what it names
 MODULES = [
+    ("Rattle.memory.specs.Notices", "withNotices"),
     ("Rattle.memory.specs.Rows", "closed, endRows, rowOf, rowAt"),
     ("Rattle.engine.specs.Make", "turnZero, countsZero, makeStep"),
     ("Rattle.engine.specs.Station", "stationStep"),
     ("Rattle.engine.specs.Answers", "unlessStation"),
-    ("Rattle.engine.specs.Restart", "blocksIn, restartedMemory, restartStep"),
+    ("Rattle.engine.specs.Restart", "blocksIn, restartedMemory"),
     ("Rattle.engine.specs.Client", "beginRow, beginStep, readRow, readStep, writeRow, writeStep, askRow, askStep, withdrawRow, withdrawStep, reportStep"),
     ("Rattle.engine.specs.Moves", "sendStep, deliverStep, workStep"),
     ("Rattle.engine.specs.Classes", "loadStep"),
-    ("Rattle.call_reply.specs.Parts", "allParts, beginParts, readParts, writeParts, askParts, withdrawParts, reportParts, sendParts, deliverParts, workParts, loadParts"),
+    ("Rattle.engine.specs.Notices", "noticeStep"),
+    ("Rattle.call_reply.specs.Parts", "allParts, beginParts, readParts, writeParts, askParts, withdrawParts, reportParts, sendParts, deliverParts, workParts, loadParts, noticeParts"),
     ("Rattle.call_reply.specs.Replies", "noReport, number, beginReply, readReply, askReply, reportReply, workReply, restartReply, Gives, GivesWith"),
     *((f"Rattle.call_reply.specs.declared.{t}", t) for t in
-      ["BeginReply", "ReadReply", "AskReply", "ReportReply", "WorkReply", "RestartReply", "Changed", "Begun", "Asked", "Made", "Restarted", "Sent", "Worked"]),
+      ["BeginReply", "ReadReply", "AskReply", "ReportReply", "WorkReply", "RestartReply", "Changed", "Begun", "Asked", "Made", "Restarted", "Sent", "Worked", "Noticed"]),
     ("Rattle.call_reply.specs.Called", "called, withBlock"),
+    ("Rattle.call_reply.specs.Notices", "noticesIn, restartLent"),
     ("Rattle.call_make.specs.Made", "ifMade"),
     ("Rattle.call_work.specs.Works", "endedMarks"),
     ("Rattle.host_table.specs.Table", "loaded"),
@@ -201,7 +220,7 @@ MODULES = [
     ("Rattle.host_table.proofs.TableLaws", "loaded-six"),
 ]
 PLAIN = [
-    ("Prim.Native.Nat", "ℕ, _≤_"), ("mathlib.Core.Path", "_≡_, refl"), ("mathlib.Core.Bool", "false"), ("mathlib.Core.List", "List"), ("borrow.Author.Tests", "eq-eqb, ne-eqb"), ("lib.IntN", "ℤ, pos"),
+    ("Prim.Native.Nat", "ℕ, _≤_"), ("mathlib.Core.Path", "_≡_, refl"), ("mathlib.Core.Bool", "true, false"), ("mathlib.Core.List", "List"), ("borrow.Author.Tests", "eq-eqb, ne-eqb"), ("lib.IntN", "ℤ, pos"),
     ("lib.ListN", "length, set, replicate"), ("Rattle.memory.specs.declared.Counts", "Counts"), ("Rattle.memory.specs.declared.Group", "Group"), ("Rattle.memory.specs.declared.Turn", "Turn"),
     ("Rattle.memory.specs.declared.Txn", "Txn"), ("Rattle.memory.specs.Memory", "Memory, noNumber, groupOf"),
 ]
@@ -211,7 +230,7 @@ def text(crate):
     """The facts of a crate's calls."""
     calls = [c for c in CALLS.values() if c.exported_by == crate]
     body = "\n".join(TABLELESS[c.name] if c.table is None else Facts(c).text() for c in calls)
-    words = set(re.split(r"[\s()]+", body))
+    words = set(re.split(r"[\s();]+", body))
     out = SAYS
     for module, names in PLAIN + MODULES:
         used = [n for n in names.split(", ") if n.strip("_") in words]

@@ -53,7 +53,7 @@ class Proof(Walk):
         call, out = self.call, [USES.rstrip()]
         own = f"Rattle.{call.exported_by}.proofs"
         name = call.name
-        laws = [] if call.table is None else [f"{name.capitalize()}Did", f"{name}-not"] + [f"{name}-station"] * call.replicas_only + [f"{name}-did"] * (name in ("read", "report"))
+        laws = [f"{name.capitalize()}Did"] * (not call.direct) if call.table is None else [f"{name.capitalize()}Did", f"{name}-not"] + [f"{name}-station"] * call.replicas_only + [f"{name}-did"] * (name in ("read", "report"))
         out.append("use Rattle.host_table.proofs.Handed.{handed, goes-handed, all-ended, all-ended-val, all-ended-is, is-marks}")
         out.append(f"use {own}.Facts.{{{', '.join([name.capitalize() + 'On'] + laws)}}}")
         if name in WAYS:
@@ -161,7 +161,7 @@ class Proof(Walk):
         names = [("v", "Val"), ("r", den(call.reply))] + changed + later
         did = [f"Is {row} r (v ∷ [])"] + ["length ys′ ≡ length ys"] * table
         args = [self.var(i) for _, i in call.holds] + [self.var(i) for i in call.rest] + ["r"] + [n for n, _ in changed + later]
-        did.append(f"{call.name.capitalize()}{'On' if call.table is None else 'Did'} {' '.join(args)}")
+        did.append(f"{call.name.capitalize()}{'On' if call.table is None and call.direct else 'Did'} {' '.join(args)}")
         last, fit = [], []
         for i in range(self.count):
             kind = call.kind(i)

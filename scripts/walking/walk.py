@@ -387,7 +387,7 @@ class Walk(Names):
         """What is returned, that it is what the machine has, and the law that says why."""
         call, way = self.call, self.ways.pop(0)
         if call.table is None:
-            return "r", "is", "said"
+            return ("r", "is", "said") if call.direct else ("r .number", "(fields .0)", "said")
         reply, shown = (reply_of(call), "is" if call.direct else "(fields .0)") if call.reply == "u8" else (reply_of(call), "is" if call.direct else self.reply_is)
         if self.plain is not None:
             reply, shown = self.plain, "(refl, omega arith)"

@@ -1,13 +1,13 @@
 -- Outages: what a slot's tests say, and a notice past the sixth replica. Assumes nothing.
 use Prim.Native.Nat.{ℕ, _≤_, _<_}
 use mathlib.Core.Path.{_≡_, refl, sym}
-use mathlib.Core.Bool.{Bool, true, false}
+use mathlib.Core.Bool.{Bool, true, false, and-false, and-true}
 use mathlib.Core.List.{List}
 use native.Mathlib.Omega.{arith}
 use lib.Dec.{ltb, leb}
 use lib.ListN.{length, getD, List·getD-eq-default}
 use lib.Seq.{set-out}
-use borrow.Author.Tests.{ltb-true, ltb-false, lt-ltb, le-ltb, le-leb, lt-leb}
+use borrow.Author.Tests.{ltb-true, ltb-false, lt-ltb, le-ltb}
 use Rattle.block.proofs.BoolLaws.{both}
 use Rattle.memory.specs.declared.Group.{Group}
 use Rattle.memory.specs.Memory.{slotLimit, ownerAt}
@@ -17,17 +17,16 @@ use Rattle.memory.specs.Notices.{Notice, isOut, withNotice}
 pub none-past : (l : List ℕ) → length l ≡ 6 → (k : ℕ) → 6 ≤ k → 0 ≡ getD l k 0
 none-past l six k h = sym (List·getD-eq-default l 0 (omega arith))
 
-module _ (g : Group) (s : ℕ) where
-  -- no slot is out
-  pub no-slot : slotLimit ≤ s → false ≡ isOut g s
-  no-slot h = rw (le-ltb s slotLimit h)
+module _ (g : Group) (s k : ℕ) (owner : k ≡ ownerAt g s) (end : ℕ) (last : end ≡ getD (g .until) k 0) where
+  pub behind-it : end ≤ s → false ≡ isOut g s
+  behind-it h = rw (← owner, ← last, le-ltb s end h, and-false (leb (getD (g .from) k 0) s)) (sym (and-false (ltb s slotLimit)))
 
-  module _ (slot : s < slotLimit) (k : ℕ) (owner : k ≡ ownerAt g s) (start : ℕ) (first : start ≡ getD (g .from) k 0) where
-    pub before-it : s < start → false ≡ isOut g s
-    before-it h = rw (lt-ltb s slotLimit slot, ← owner, ← first, lt-leb start s h)
+  module _ (below : s < end) where
+    pub no-slot : slotLimit ≤ s → false ≡ isOut g s
+    no-slot h = rw (le-ltb s slotLimit h)
 
-    pub from-it : start ≤ s → (end : ℕ) → end ≡ getD (g .until) k 0 → ltb s end ≡ isOut g s
-    from-it h end last = rw (lt-ltb s slotLimit slot, ← owner, ← first, le-leb start s h, ← last)
+    pub from-it : s < slotLimit → (start : ℕ) → start ≡ getD (g .from) k 0 → leb start s ≡ isOut g s
+    from-it slot start first = rw (lt-ltb s slotLimit slot, ← owner, ← first, ← last, lt-ltb s end below) (sym (and-true (leb start s)))
 
 -- an owner that is out is one of the six
 pub owner-within : (g : Group) (s : ℕ) → length (g .until) ≡ 6 → isOut g s ≡ true → ownerAt g s < 6

@@ -6,7 +6,7 @@ use super::Group;
 use super::SLOT_LIMIT;
 use super::cursor::owner_at;
 
-// Where the replica's last outage begins; 0 past the sixth.
+// Where the replica's last outage begins; 0 past the sixth. The array by itself: what is indexed by a variable is first copied.
 pub fn out_from(group: Group, replica: u32) -> u32
     ensures { λ r. ⌜ r ≡ getD (group .from) replica 0 ⌝ }
 {
@@ -14,7 +14,8 @@ pub fn out_from(group: Group, replica: u32) -> u32
     if 6 <= k {
         return 0;
     }
-    group.from[k]
+    let from = group.from;
+    from[k]
 }
 
 // Where it ends: its first slot that is not out any more; 0 past the sixth.
@@ -25,21 +26,22 @@ pub fn out_until(group: Group, replica: u32) -> u32
     if 6 <= k {
         return 0;
     }
-    group.until[k]
+    let until = group.until;
+    until[k]
 }
 
-// Whether the slot is out: it is a slot, and in the last outage of its owner.
+// Whether the slot is out: it is a slot, and in the last outage of its owner. Where that ends comes first: most slots are behind all outages, or there was none.
 pub fn is_out(group: Group, slot: u32) -> bool
     ensures { λ r. ⌜ r ≡ isOut group slot ⌝ }
 {
+    let owner = owner_at(group, slot);
+    if out_until(group, owner) <= slot {
+        return false;
+    }
     if SLOT_LIMIT <= slot {
         return false;
     }
-    let owner = owner_at(group, slot);
-    if slot < out_from(group, owner) {
-        return false;
-    }
-    slot < out_until(group, owner)
+    out_from(group, owner) <= slot
 }
 
 // The group with a notice in force: an Out begins an outage, with no end yet, and a Back ends it. A number past the sixth changes nothing.

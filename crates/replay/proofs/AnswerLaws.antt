@@ -11,6 +11,7 @@ use lib.IntN.{ℤ}
 use lib.ListN.{length, take, replicate}
 use lib.Seq.{paste}
 use Rattle.replay_journal.specs.Journals.{journalOf}
+use Rattle.replay_journal.specs.Taken.{takenOf}
 use Rattle.replay_parse.specs.declared.Call.{Call}
 use Rattle.replay_print.specs.Text.{answerText, unknownText, Holds}
 use Rattle.replay_replica.specs.Effects.{Effect}
@@ -75,21 +76,22 @@ says-all letter number numbers values block kept out e h l k =
 
 -- what is said of what the program has of an effect is said of the effect
 pub answers-at : (c : Call) (named : List ℕ) (place : Place) (page : List ℕ) {kept out left keptLeft outLeft block : List ℕ} {p : Placed} {n : ℕ} {sent : Bool}
-    → PlaysAt c named (replicate 512 0) (place .held) page (place .replica) p left block
+    → PlaysAt c named (replicate 512 0) place page p left block
     → Says (c .letter) (p .played .number) (take (p .played .count) (p .played .numbers)) (take (p .played .shown) (p .played .values)) block kept out n sent keptLeft outLeft
-    → AnswersAt c named place page kept out (record { replica = p .played .replica; held = p .held }) n sent left keptLeft outLeft
+    → AnswersAt c named place page kept out (record { replica = p .played .replica; held = p .held; taken = p .taken }) n sent left keptLeft outLeft
 answers-at c named place page {kept = kept} {out = out} {left = left} {keptLeft = keptLeft} {outLeft = outLeft} {p = p} {n = n} {sent = sent} h s =
     let q = h .plays .is in
     record {
       memory = ap (λ (e : Effect). e .memory) q;
       rest = h .plays .rest;
       journal = rw (ap (λ (e : Effect). e .block) q) at (h .keeps);
+      notices = h .notices;
       says = subst (λ (e : Effect). SaysOf (c .letter) e kept out n sent keptLeft outLeft) q s;
     }
 
 -- ---- a line
 
-module _ (known : Bool) (c : Call) (named : List ℕ) (place : Place) (page kept out : List ℕ) {b : Bool} (e : b ≡ isAnswered known c (place .replica .group) (journalOf (place .held) page)) where
+module _ (known : Bool) (c : Call) (named : List ℕ) (place : Place) (page kept out : List ℕ) {b : Bool} (e : b ≡ isAnswered known c (place .replica .group) (journalOf (place .held) page) (takenOf (place .taken))) where
   pub reply-played : {after : Place} {left keptLeft outLeft : List ℕ} {n : ℕ} {sent : Bool} → b ≡ true → AnswersAt c named place page kept out after n sent left keptLeft outLeft
       → Replies known c named place page kept out after n sent left keptLeft outLeft
   reply-played t h = record { does = inl (sym e ∙ t, h); within = h .says .within }

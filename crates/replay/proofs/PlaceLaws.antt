@@ -1,25 +1,29 @@
--- A call at a place, and the journal after it. Assumes nothing.
+-- A call at a place, and the journal and the notices after it. Assumes nothing.
 use Prim.Native.Nat.{ℕ, _+_, _≤_, min}
 use mathlib.Core.Path.{_≡_, sym, ap, _∙_}
 use mathlib.Core.Bool.{Bool, true, false, not}
 use mathlib.Core.List.{List}
 use mathlib.Core.Logic.{_⊎_, inl, inr}
-use borrow.Author.Tests.{eq-eqb, ne-eqb}
+use borrow.Author.Tests.{ne-eqb}
 use lib.Dec.{eqb}
 use native.Mathlib.Omega.{arith}
-use lib.ListN.{length, take}
+use lib.ListN.{length, take, replicate}
 use lib.Seq.{paste, length-paste, take-paste}
 use Rattle.memory.specs.Memory.{numberless}
 use Rattle.memory.specs.declared.Group.{Group}
 use Rattle.replay_parse.specs.declared.Call.{Call}
 use Rattle.replay_journal.specs.declared.Held.{Held}
 use Rattle.replay_journal.specs.Journals.{Journal, journalOf, hasPart, bytesGiven, Lends, Keeps}
+use Rattle.replay_journal.specs.declared.notices.Taken.{Taken}
+use Rattle.replay_journal.specs.Taken.{takenOf, hasTaken, numbersLent, KeepsTaken}
 use Rattle.replay_journal.proofs.JournalLaws.{take-there}
 use Rattle.replay_replica.specs.declared.Played.{Played}
 use Rattle.replay_replica.specs.declared.Replica.{Replica}
-use Rattle.replay_replica.specs.Effects.{memoryOf, Effect, Plays}
-use Rattle.replay_calls.specs.Letters.{sizeLent, played}
-use Rattle.replay.specs.Places.{isReplica, isThere, isAnswered, asMade, givenAt, PlaysAt}
+use Rattle.call_reply.specs.Notices.{restartLent}
+use Rattle.replay_replica.specs.Effects.{placesSize, memoryOf, Effect, effect, Plays}
+use Rattle.replay_calls.specs.Letters.{played}
+use Rattle.replay.specs.declared.Place.{Place}
+use Rattle.replay.specs.Places.{isReplica, isThere, isAnswered, sizeAt, givenAt, playedAt, PlaysAt}
 
 -- ---- whether there is an answer
 
@@ -58,34 +62,41 @@ module _ (c : Call) (group : Group) where
         ne-eqb (c .letter) 90 (λ e. k (inr (inr e))),
       )
 
-  module _ (j : Journal) {known : Bool} where
-    pub answer-unknown : known ≡ false → false ≡ isAnswered known c group j
+  module _ (j t : Journal) {known : Bool} where
+    pub answer-unknown : known ≡ false → false ≡ isAnswered known c group j t
     unfolding isAnswered
     answer-unknown k = rw k
 
-    pub answer-none : known ≡ true → c .letter ≡ 0 → false ≡ isAnswered known c group j
+    pub answer-none : known ≡ true → c .letter ≡ 0 → false ≡ isAnswered known c group j t
     unfolding isAnswered
     answer-none k z = rw (k, z)
 
-    pub answer-missing : known ≡ true → (c .letter ≡ 0 → ⊥) → isThere c group ≡ false → false ≡ isAnswered known c group j
+    pub answer-missing : known ≡ true → (c .letter ≡ 0 → ⊥) → isThere c group ≡ false → false ≡ isAnswered known c group j t
     unfolding isAnswered
-    answer-missing k z t = rw (k, ne-eqb (c .letter) 0 z, t)
+    answer-missing k z h = rw (k, ne-eqb (c .letter) 0 z, h)
 
-    pub answer-part : known ≡ true → (c .letter ≡ 0 → ⊥) → isThere c group ≡ true → hasPart c j ≡ isAnswered known c group j
+    pub answer-short : known ≡ true → (c .letter ≡ 0 → ⊥) → isThere c group ≡ true → hasPart c j ≡ false → false ≡ isAnswered known c group j t
     unfolding isAnswered
-    answer-part k z t = rw (k, ne-eqb (c .letter) 0 z, t)
+    answer-short k z h p = rw (k, ne-eqb (c .letter) 0 z, h, p)
 
--- ---- Z as a Y
+    pub answer-taken : known ≡ true → (c .letter ≡ 0 → ⊥) → isThere c group ≡ true → hasPart c j ≡ true → hasTaken c t ≡ isAnswered known c group j t
+    unfolding isAnswered
+    answer-taken k z h p = rw (k, ne-eqb (c .letter) 0 z, h, p)
 
-module _ (c : Call) (group : Group) where
-  pub made-other : (c .letter ≡ 90 → ⊥) → c ≡ asMade c group
-  unfolding asMade
-  made-other h = rw (ne-eqb (c .letter) 90 h)
+-- ---- Z, and any other call
 
-  pub made-again : c .letter ≡ 90
-      → _≡_ {A = Call} (record { letter = 89; first = group .replicas; second = group .own; value = c .value; digits = c .digits }) (asMade c group)
-  unfolding asMade
-  made-again e = rw (eq-eqb (c .letter) 90 e)
+module _ (c : Call) (replica : Replica) (bytes lent : List ℕ) (t : Journal) where
+  pub plays-other : {p : Played} {left : List ℕ} → (c .letter ≡ 90 → ⊥) → Plays (sizeAt c replica) replica p left (played c bytes lent (memoryOf (sizeAt c replica) replica))
+      → Plays (sizeAt c replica) replica p left (playedAt c bytes t lent replica)
+  unfolding playedAt
+  plays-other h k = rw (ne-eqb (c .letter) 90 h) k
+
+  pub plays-again : {p : Played} {left numbers : List ℕ} → c .letter ≡ 90 → numbers ≡ numbersLent t
+      → Plays (placesSize (replica .group .replicas)) replica p left
+      (effect lent (restartLent (memoryOf (placesSize (replica .group .replicas)) replica) (replica .group .replicas) (replica .group .own) (replicate 128 (c .value)) bytes numbers lent))
+      → Plays (sizeAt c replica) replica p left (playedAt c bytes t lent replica)
+  unfolding playedAt
+  plays-again h n k = rw (h, ← n) k
 
 -- ---- what it is given
 
@@ -112,13 +123,17 @@ given-at c named j {n = n} l h =
 
 -- ---- the call
 
-module _ (c : Call) (replica : Replica) (held : Held) (named lent page : List ℕ) where
-  pub plays-at : {asked : Call} {given block left : List ℕ} {p : Played} {after : Held}
-      → asked ≡ asMade c (replica .group)
-      → given ≡ givenAt c named (journalOf held page)
-      → Plays (sizeLent asked (replica .group)) replica p block (played asked given lent (memoryOf (sizeLent asked (replica .group)) replica))
-      → Keeps (p .change) given block held page after left
-      → PlaysAt c named lent held page replica (record { played = p; held = after }) left block
-  plays-at e g h k =
-      let q = rw (e, g) at h in
-      record { plays = q; keeps = rw (g, ap (λ (e : Effect). e .change) (q .is)) at k }
+module _ (c : Call) (place : Place) (named lent page : List ℕ) where
+  pub plays-at : {given block left : List ℕ} {p : Played} {journal : Held} {notices : Taken}
+      → given ≡ givenAt c named (journalOf (place .held) page)
+      → Plays (sizeAt c (place .replica)) (place .replica) p block (playedAt c given (takenOf (place .taken)) lent (place .replica))
+      → Keeps (p .change) given block (place .held) page journal left
+      → KeepsTaken c (p .number) (place .taken) notices
+      → PlaysAt c named lent place page (record { played = p; held = journal; taken = notices }) left block
+  plays-at g h k n =
+      let q = rw g at h in
+      record {
+        plays = q;
+        keeps = rw (g, ap (λ (e : Effect). e .change) (q .is)) at k;
+        notices = rw (ap (λ (e : Effect). e .number) (q .is)) at n;
+      }

@@ -10,6 +10,7 @@ use lib.ListN.{length, take, drop, replicate}
 use lib.Seq.{paste}
 use Rattle.replay_journal.specs.declared.Held.the-variants.{Bytes}
 use Rattle.replay_journal.specs.Journals.{journalOf, Keeps}
+use Rattle.replay_journal.specs.Taken.{noneTaken, takenOf, KeepsTaken}
 use Rattle.replay_parse.specs.declared.Call.{Call}
 use Rattle.replay_replica.specs.Effects.{noReplica, memoryOf, Effect}
 use Rattle.replay_print.specs.Text.{answerText, unknownText, Holds}
@@ -18,7 +19,7 @@ use Rattle.replay.specs.declared.Place.{Place}
 
 -- where nothing was made
 abbrev pub noPlace : Place
-noPlace = record { replica = noReplica; held = Bytes 0 }
+noPlace = record { replica = noReplica; held = Bytes 0; taken = noneTaken }
 
 -- ---- what is said
 
@@ -55,13 +56,14 @@ SaysOf letter e kept out n sent keptLeft outLeft = Says letter (e .number) (e .n
 -- ---- a line
 
 abbrev pub effectFor : Call → List ℕ → Place → List ℕ → Effect
-effectFor c named place page = effectAt c named (replicate 512 0) (journalOf (place .held) page) (place .replica)
+effectFor c named place page = effectAt c named (replicate 512 0) place page
 
 -- the call at its place, lent a block of zeros, and its answer
 pub record AnswersAt (c : Call) (named : List ℕ) (place : Place) (page kept out : List ℕ) (after : Place) (n : ℕ) (sent : Bool) (left keptLeft outLeft : List ℕ) : Type 0 where
   pub memory : memoryOf (sizeAt c (place .replica)) (after .replica) ≡ effectFor c named place page .memory
   pub rest : drop (sizeAt c (place .replica)) (after .replica .places) ≡ drop (sizeAt c (place .replica)) (place .replica .places)
   pub journal : Keeps (effectFor c named place page .change) (givenAt c named (journalOf (place .held) page)) (effectFor c named place page .block) (place .held) page (after .held) left
+  pub notices : KeepsTaken c (effectFor c named place page .number) (place .taken) (after .taken)
   pub says : SaysOf (c .letter) (effectFor c named place page) kept out n sent keptLeft outLeft
 
 -- no call: all stays, and the answer is the line of what is none
@@ -74,6 +76,6 @@ pub record Unanswered (place : Place) (page kept out : List ℕ) (after : Place)
 
 -- the one or the other
 pub record Replies (known : Bool) (c : Call) (named : List ℕ) (place : Place) (page kept out : List ℕ) (after : Place) (n : ℕ) (sent : Bool) (left keptLeft outLeft : List ℕ) : Type 0 where
-  pub does : ((isAnswered known c (place .replica .group) (journalOf (place .held) page) ≡ true) × AnswersAt c named place page kept out after n sent left keptLeft outLeft)
-      ⊎ ((isAnswered known c (place .replica .group) (journalOf (place .held) page) ≡ false) × Unanswered place page kept out after n sent left keptLeft outLeft)
+  pub does : ((isAnswered known c (place .replica .group) (journalOf (place .held) page) (takenOf (place .taken)) ≡ true) × AnswersAt c named place page kept out after n sent left keptLeft outLeft)
+      ⊎ ((isAnswered known c (place .replica .group) (journalOf (place .held) page) (takenOf (place .taken)) ≡ false) × Unanswered place page kept out after n sent left keptLeft outLeft)
   pub within : n ≤ length outLeft

@@ -8,6 +8,8 @@ ghost use Rattle.replay_print.specs.Text.{answerText, Holds};
 ghost use Rattle.replay.specs.Answers.{noPlace, shownIf, blockShown, isSent, keptAfter, Says, AnswersAt, Replies};
 use memory::bytes::copy_bytes;
 use replay_journal::Held;
+use replay_journal::notices::Taken;
+use replay_journal::notices::none;
 use replay_parse::Call;
 use replay_replica::Played;
 use replay_replica::Replica;
@@ -23,16 +25,18 @@ use text_lines::output::with_room;
 mod places;
 mod usage;
 
-// A replica or a station, and how much of its page is its journal. A station has none: what its works leave there is never shown.
+// A replica or a station, how much of its page is its journal, and the notices taken there. A station has no journal: what its works leave there is never shown.
 pub struct Place {
     pub replica: Replica,
     pub held: Held,
+    pub taken: Taken,
 }
 
-// What a call at a place gives, and how much of the page is the journal after it.
+// What a call at a place gives, and after it how much of the page is the journal, and the notices.
 pub struct Placed {
     pub played: Played,
     pub held: Held,
+    pub taken: Taken,
 }
 
 // The place of a call, the call, and the first `count` bytes for it; not `known` where the line names no place, or no bytes.
@@ -77,6 +81,7 @@ fn nowhere() -> Place
     Place {
         replica: nobody(),
         held: Held::Bytes(0),
+        taken: none(),
     }
 }
 
@@ -213,10 +218,12 @@ fn play_line(
     let played = placed.played;
     let after = played.replica;
     let left = placed.held;
+    let notices = placed.taken;
     Answered {
         place: Place {
             replica: after,
             held: left,
+            taken: notices,
         },
         said: put_answer(call.letter, played, &block, &mut *kept, &mut *out),
     }

@@ -1,14 +1,22 @@
-// A call at a place: at the replica or the station there, with the journal that is kept of it.
+// A call at a place: at the replica or the station there, with the journal and the notices that are kept of it.
 ghost use mathlib.Core.Path.{_≡_};
 ghost use Rattle.replay_journal.specs.Journals.{journalOf};
-ghost use Rattle.replay.specs.Places.{isReplica, isThere, isAnswered, asMade, PlaysAt};
+ghost use Rattle.replay_journal.specs.Taken.{takenOf};
+ghost use Rattle.replay_replica.specs.Effects.{Plays};
+ghost use Rattle.replay.specs.Places.{isReplica, isThere, isAnswered, sizeAt, playedAt, PlaysAt};
 use super::Place;
 use super::Placed;
 use memory::Group;
 use replay_journal::give;
 use replay_journal::has_part;
 use replay_journal::keep;
+use replay_journal::notices::Taken;
+use replay_journal::notices::after;
+use replay_journal::notices::has_taken;
+use replay_journal::notices::lent;
 use replay_parse::Call;
+use replay_replica::Played;
+use replay_replica::Replica;
 use replay_replica::is_station;
 
 fn is_replica(group: Group) -> bool
@@ -34,7 +42,7 @@ fn is_there(call: Call, group: Group) -> bool
 
 // Whether there is an answer to the call. `known` where the bytes that its line names are.
 pub fn is_answered(known: bool, call: Call, place: Place, page: &[u8]) -> bool
-    ensures { λ r. ⌜ r ≡ isAnswered known call (place .replica .group) (journalOf (place .held) (now (page .entry))) ⌝ }
+    ensures { λ r. ⌜ r ≡ isAnswered known call (place .replica .group) (journalOf (place .held) (now (page .entry))) (takenOf (place .taken)) ⌝ }
 {
     if !known {
         return false;
@@ -48,38 +56,49 @@ pub fn is_answered(known: bool, call: Call, place: Place, page: &[u8]) -> bool
         return false;
     }
     let held = place.held;
-    has_part(call, held, page)
+    if !has_part(call, held, page) {
+        return false;
+    }
+    let taken = place.taken;
+    has_taken(call, taken)
 }
 
-// A restart from the journal that is kept, with the N and the own number that the replica has.
-fn as_made(call: Call, group: Group) -> Call
-    ensures { λ r. ⌜ r ≡ asMade call group ⌝ }
+// The call at the replica there. Z is a restart with the N and the own number that it has, lent the notices that are kept.
+fn play(call: Call, replica: Replica, bytes: &[u8], taken: Taken, block: &mut [u8]) -> Played
+    ensures { λ r. ⌜ Plays (sizeAt call replica) replica r (now (block .exit)) (playedAt call (now (bytes .entry)) (takenOf taken) (now (block .entry)) replica) ⌝ }
 {
     if call.letter != b'Z' {
-        return call;
+        return replay_calls::run(call, replica, bytes, &mut *block);
     }
-    let mut made = call;
-    made.letter = b'Y';
-    made.first = group.replicas as u32;
-    made.second = group.own as u32;
-    made
+    let group = replica.group;
+    let numbers = taken.numbers;
+    let n = lent(taken);
+    replay_moves::restart(
+        replica,
+        group.replicas as u32,
+        group.own as u32,
+        call.value,
+        bytes,
+        &numbers[..n],
+        &mut *block,
+    )
 }
 
-// The call, and the journal after it. `bytes` are those that the line names.
+// The call, and after it the journal and the notices. `bytes` are those that the line names.
 pub fn run(call: Call, place: Place, bytes: &[u8], page: &mut [u8], block: &mut [u8]) -> Placed
-    ensures { λ r. ⌜ PlaysAt call (now (bytes .entry)) (now (block .entry)) (place .held) (now (page .entry)) (place .replica) r
-        (now (page .exit)) (now (block .exit)) ⌝ }
+    ensures { λ r. ⌜ PlaysAt call (now (bytes .entry)) (now (block .entry)) place (now (page .entry)) r (now (page .exit)) (now (block .exit)) ⌝ }
 {
     let replica = place.replica;
-    let group = replica.group;
     let held = place.held;
+    let taken = place.taken;
     let mut given = io::large_buffer();
     let n = give(call, held, &*page, bytes, &mut given);
-    let played = replay_calls::run(as_made(call, group), replica, &given[..n], &mut *block);
+    let played = play(call, replica, &given[..n], taken, &mut *block);
     let change = played.change;
-    let after = keep(change, held, &given[..n], &*block, &mut *page);
+    let journal = keep(change, held, &given[..n], &*block, &mut *page);
     Placed {
         played: played,
-        held: after,
+        held: journal,
+        taken: after(call, played.number, taken),
     }
 }

@@ -1,7 +1,8 @@
 -- What a call leaves is what is defined for its letter. Assumes nothing.
 use Prim.Native.Nat.{ℕ}
 use mathlib.Core.Path.{_≡_}
-use mathlib.Core.List.{List}
+use mathlib.Core.Bool.{true, false}
+use mathlib.Core.List.{List, []}
 use mathlib.Core.Logic.{_⊎_, inl, inr}
 use borrow.Author.Tests.{ne-eqb}
 use lib.ListN.{replicate}
@@ -13,6 +14,7 @@ use Rattle.engine.specs.Make.{makeStep}
 use Rattle.engine.specs.Classes.{loadStep}
 use Rattle.engine.specs.Client.{beginStep, readStep, askStep, withdrawStep, reportStep}
 use Rattle.engine.specs.Moves.{deliverStep, workStep}
+use Rattle.engine.specs.Notices.{noticeStep}
 use Rattle.engine.specs.Restart.{restartStep}
 use Rattle.engine.specs.Station.{stationStep}
 use Rattle.call_reply.specs.Called.{withBlock}
@@ -84,7 +86,7 @@ module _ (c : Call) (replica : Replica) (p : Played) (bytes lent : List ℕ) whe
 
   pub run-restart : (left : List ℕ) → c .letter ≡ 89
       → Plays (placesSize (c .first)) replica p left
-      (effect lent (restartStep (memoryOf (placesSize (c .first)) replica) (c .first) (c .second) (replicate 128 (c .value)) bytes lent))
+      (effect lent (restartStep (memoryOf (placesSize (c .first)) replica) (c .first) (c .second) (replicate 128 (c .value)) bytes [] lent))
       → Runs left
   unfolding played
   run-restart left e h = rw e h
@@ -103,14 +105,22 @@ module _ (c : Call) (replica : Replica) (p : Played) (bytes lent : List ℕ) whe
   unfolding played
   run-station e h = rw e (h lent)
 
+  pub run-out : c .letter ≡ 79 → AtPlaces (λ (m : Memory). noticeStep m (record { about = c .first; out = true; slot = c .second })) → Runs lent
+  unfolding played step
+  run-out e h = rw e (h lent)
+
+  pub run-back : c .letter ≡ 85 → AtPlaces (λ (m : Memory). noticeStep m (record { about = c .first; out = false; slot = c .second })) → Runs lent
+  unfolding played step
+  run-back e h = rw e (h lent)
+
   -- any other letter
   pub run-look : (c .letter ≡ 77 → ⊥) → (c .letter ≡ 66 → ⊥) → (c .letter ≡ 82 → ⊥) → (c .letter ≡ 87 → ⊥) → (c .letter ≡ 67 → ⊥) → (c .letter ≡ 88 → ⊥)
       → (c .letter ≡ 81 → ⊥) → (c .letter ≡ 83 → ⊥) → ((c .letter ≡ 68) ⊎ ((c .letter ≡ 70) ⊎ (c .letter ≡ 72)) → ⊥) → (c .letter ≡ 75 → ⊥)
-      → (c .letter ≡ 89 → ⊥) → (c .letter ≡ 80 → ⊥) → (c .letter ≡ 74 → ⊥) → (c .letter ≡ 65 → ⊥)
+      → (c .letter ≡ 89 → ⊥) → (c .letter ≡ 80 → ⊥) → (c .letter ≡ 74 → ⊥) → (c .letter ≡ 65 → ⊥) → (c .letter ≡ 79 → ⊥) → (c .letter ≡ 85 → ⊥)
       → ((size : ℕ) (block : List ℕ) → Plays size replica p block (look block (memoryOf size replica)))
       → Runs lent
   unfolding played
-  run-look a b d e f g i j k l n q o s h =
+  run-look a b d e f g i j k l n q o s t u h =
       rw (
         ne-eqb (c .letter) 77 a,
         ne-eqb (c .letter) 89 n,
@@ -128,5 +138,7 @@ module _ (c : Call) (replica : Replica) (p : Played) (bytes lent : List ℕ) whe
         ne-eqb (c .letter) 80 q,
         ne-eqb (c .letter) 74 o,
         ne-eqb (c .letter) 65 s,
+        ne-eqb (c .letter) 79 t,
+        ne-eqb (c .letter) 85 u,
       )
       (h (placesSize (replica .group .replicas)) lent)

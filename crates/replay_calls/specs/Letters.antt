@@ -1,6 +1,6 @@
 -- What a call at a replica or a station does, by its letter.
 use Prim.Native.Nat.{ℕ, min}
-use mathlib.Core.Bool.{Bool, cond, _||_}
+use mathlib.Core.Bool.{Bool, true, false, cond, _||_}
 use mathlib.Core.List.{List, []}
 use lib.Dec.{eqb}
 use lib.ListN.{length, replicate}
@@ -12,7 +12,7 @@ use Rattle.engine.specs.Moves.{workStep}
 use Rattle.engine.specs.Restart.{restartStep}
 use Rattle.engine.specs.Station.{stationStep}
 use Rattle.engine.specs.Calls.{step}
-use Rattle.engine.specs.Calls.Call.{begin, read, write, ask, withdraw, report, send, deliver, load}
+use Rattle.engine.specs.Calls.Call.{begin, read, write, ask, withdraw, report, send, deliver, load, notice}
 use Rattle.call_reply.specs.Called.{withBlock}
 use Rattle.replay_parse.specs.declared.Call.{Call}
 use Rattle.replay_journal.specs.declared.Change.the-variants.{Stays}
@@ -58,8 +58,10 @@ played c bytes lent m =
     (cond (eqb (c .letter) 83) {- S -} (effect lent (step m (send lent)))
     (cond (eqb (c .letter) 68 || (eqb (c .letter) 70 || eqb (c .letter) 72)) {- D, F, H -} (effect lent (step m (deliver bytes)))
     (cond (eqb (c .letter) 75) {- K -} (effect lent (withBlock lent workStep m))
-    (cond (eqb (c .letter) 89) {- Y -} (effect lent (restartStep m (c .first) (c .second) (replicate 128 (c .value)) bytes lent))
+    (cond (eqb (c .letter) 89) {- Y -} (effect lent (restartStep m (c .first) (c .second) (replicate 128 (c .value)) bytes [] lent))
     (cond (eqb (c .letter) 80) {- P -} (effect lent (step m (load bytes)))
     (cond (eqb (c .letter) 74) {- J -} (show bytes lent m)
     (cond (eqb (c .letter) 65) {- A -} (effect lent (stationStep m (c .first) (replicate 128 (c .value))))
-    (look lent m))))))))))))))
+    (cond (eqb (c .letter) 79) {- O -} (effect lent (step m (notice (record { about = c .first; out = true; slot = c .second }))))
+    (cond (eqb (c .letter) 85) {- U -} (effect lent (step m (notice (record { about = c .first; out = false; slot = c .second }))))
+    (look lent m))))))))))))))))

@@ -27,7 +27,7 @@ fn show(replica: Replica, bytes: &[u8], block: &mut [u8]) -> Played
     bare(replica, 0, Change::Stays)
 }
 
-// The call, by its letter: `bytes` are what it is given, `block` takes the block that it gives.
+// The call, by its letter; Z is not among them, since it is lent notices. `bytes` are what it is given, `block` takes the block that it gives.
 pub fn run(call: Call, replica: Replica, bytes: &[u8], block: &mut [u8]) -> Played
     ensures { λ r. ⌜ Plays (sizeLent call (replica .group)) replica r (now (block .exit))
         (played call (now (bytes .entry)) (now (block .entry)) (memoryOf (sizeLent call (replica .group)) replica)) ⌝ }
@@ -44,7 +44,7 @@ pub fn run(call: Call, replica: Replica, bytes: &[u8], block: &mut [u8]) -> Play
         b'S' => replay_moves::send(replica, &mut *block),
         b'D' | b'F' | b'H' => replay_moves::deliver(replica, bytes),
         b'K' => replay_moves::work(replica, &mut *block),
-        b'Y' => replay_moves::restart(
+        b'Y' => replay_moves::restart_alone(
             replica,
             call.first,
             call.second,
@@ -55,6 +55,8 @@ pub fn run(call: Call, replica: Replica, bytes: &[u8], block: &mut [u8]) -> Play
         b'P' => replay_client::load(replica, bytes),
         b'J' => show(replica, bytes, &mut *block),
         b'A' => replay_moves::make_station(replica, call.first, call.value),
+        b'O' => replay_moves::notice(replica, call.first, true, call.second),
+        b'U' => replay_moves::notice(replica, call.first, false, call.second),
         _ => shown(replica),
     }
 }

@@ -1,2 +1,3 @@
--- The journal that the program keeps at a place.
+-- The journal that the program keeps at a place, and the notices.
 pub mod Journals
+pub mod Taken

@@ -6,6 +6,8 @@ use memory::bytes::copy_bytes;
 use memory::rows::lesser;
 use replay_parse::Call;
 
+pub mod notices;
+
 // How many bytes of the page are the journal; `Outgrown` where more was appended than the page has room for.
 pub enum Held {
     Bytes(usize),

@@ -1,5 +1,5 @@
 -- What the calls that make a replica, restart it and move its turn show, by the reply that each gives. Assumes nothing.
-use Prim.Native.Nat.{ℕ, suc, _+_, _-_, _≤_}
+use Prim.Native.Nat.{ℕ, suc, _+_, _-_, _%_, _≤_}
 use mathlib.Core.Path.{_≡_, refl, ap}
 use mathlib.Core.Bool.{Bool, true, false, cond, not}
 use mathlib.Core.List.{List, [], _∷_}
@@ -10,18 +10,21 @@ use lib.IntN.{ℤ}
 use lib.ListN.{length, getD, take, replicate, length-append, length-replicate}
 use lib.Seq.{take-append-seam}
 use Rattle.memory.specs.Memory.{Memory, numberless}
+use Rattle.memory.specs.Notices.{Notice}
 use Rattle.engine.specs.Answers.{WorkDone, Outcome, outcome}
 use Rattle.engine.specs.Answers.Answer.{refused, made, worked, restarted}
 use Rattle.engine.specs.Make.{makeRefusal, makeStep}
 use Rattle.engine.specs.Calls.{step}
 use Rattle.engine.specs.Calls.Call.{send}
-use Rattle.engine.specs.Moves.{deliverRefusal, deliverNow, deliverStep, sendRefusal, sendNow, sendStep, blockAtTurn, workRefusal, writesetAt, passNext, commitWriteset, workStep}
+use Rattle.engine.specs.Moves.{deliverRefusal, deliverNow, deliverStep, sendRefusal, sendNow, sendStep, blockAtTurn, outAtTurn, workRefusal, writesetAt, passOut, passBlock, passNext, commitWriteset, workStep}
+use Rattle.engine.specs.Notices.{noticeRefusal, noticeStep}
 use Rattle.engine.specs.Restart.{restartRefusal, restartStep}
 use Rattle.engine.proofs.Restarts.{restarts}
 use Rattle.call_reply.specs.declared.Restarted.{Restarted}
 use Rattle.call_reply.specs.declared.RestartReply.{RestartReply}
 use Rattle.call_reply.specs.declared.WorkReply.{WorkReply}
 use Rattle.call_reply.specs.Called.{withBlock}
+use Rattle.call_reply.specs.Notices.{noticesIn, restartLent}
 use Rattle.call_reply.specs.Replies.{stepIn, countIn, number, sixOf, workReply, restartReply, Gives, blockLeft, GivesWith, GivesBlock}
 use Rattle.replay_journal.specs.declared.Change.{Change}
 use Rattle.replay_journal.specs.declared.Change.the-variants.{Stays, Grows, Begins}
@@ -36,7 +39,7 @@ use Rattle.replay_replica.proofs.EffectLaws.{Bare, bare-refused, by-number, unl
 pub made-kept : (replica : Replica) (r : Restarted) → (r .reply .number ≡ 0 → ⊥) → replica ≡ withMade replica r
 made-kept replica r h = rw (ne-eqb (r .reply .number) 0 h)
 
-module _ (m : Memory) (n own : ℕ) (values : List ℤ) (journal lent zeros : List ℕ) where
+module _ (m : Memory) (n own : ℕ) (values : List ℤ) (journal notices lent zeros : List ℕ) where
   restart-shows : (o : Outcome) → Type 0
   restart-shows o = record {
     number = number o;
@@ -47,7 +50,7 @@ module _ (m : Memory) (n own : ℕ) (values : List ℤ) (journal lent zeros : Li
     change = cond (eqb (number o) 0) (Begins (countIn (o .answer))) Stays;
   } ≡ effect lent o
 
-  pub restart-effect : {r : RestartReply} {left : Memory} {block : List ℕ} → GivesWith restartReply (restartStep m n own values journal lent) lent r left block
+  pub restart-effect : {r : RestartReply} {left : Memory} {block : List ℕ} → GivesWith restartReply (restartLent m n own values journal notices lent) lent r left block
       → record {
         number = r .number;
         numbers = take (cond (eqb (r .number) 0) 1 0) (r .count ∷ zeros);
@@ -55,11 +58,18 @@ module _ (m : Memory) (n own : ℕ) (values : List ℤ) (journal lent zeros : Li
         block = block;
         memory = left;
         change = cond (eqb (r .number) 0) (Begins (r .count)) Stays;
-      } ≡ effect lent (restartStep m n own values journal lent)
-  unfolding restartStep restart-shows
-  restart-effect g = rw (g .0 .0, g .0 .1, g .1) (unless-by restart-shows (restartRefusal m n own values lent) m _ refl (λ e. rw e))
+      } ≡ effect lent (restartLent m n own values journal notices lent)
+  unfolding restartLent restartStep restart-shows
+  restart-effect g =
+      rw (g .0 .0, g .0 .1, g .1)
+      (by-number restart-shows (eqb (length notices % 3) 0) (λ e. unless-by restart-shows (restartRefusal m n own values lent) m _ refl (λ f. rw f)) (λ e. refl))
 
--- ---- make: a restart from no journal, with no block given back
+-- lent no numbers, it is lent no notices
+pub lent-none : (m : Memory) (n own : ℕ) (values : List ℤ) (journal block : List ℕ) → restartLent m n own values journal [] block ≡ restartStep m n own values journal [] block
+unfolding restartLent noticesIn
+lent-none m n own values journal block = refl
+
+-- ---- make: a restart from no journal, lent no notices, with no block given back
 
 bare-made : Outcome → List ℕ → Effect
 bare-made o lent = record { number = number o; numbers = []; values = []; block = lent; memory = o .memory; change = cond (eqb (number o) 0) (Begins 0) Stays }
@@ -77,12 +87,12 @@ module _ (m : Memory) (n own : ℕ) (values : List ℤ) (block : List ℕ) (long
   unfolding restartRefusal makeRefusal
   same-refusal = rw (eq-eqb (length block) 512 long)
 
-  make-effect : (lent : List ℕ) → bare-made (restartStep m n own values [] block) lent ≡ effect lent (makeStep m n own values)
+  make-effect : (lent : List ℕ) → bare-made (restartStep m n own values [] [] block) lent ≡ effect lent (makeStep m n own values)
   unfolding restartStep makeStep
   make-effect lent = rw (same-refusal, restarts .empty n own values) (made-shows (eqb (makeRefusal m n own values) 0) _ _ _ lent m _ refl)
 
 module _ (size : ℕ) (replica : Replica) (n own : ℕ) (values : List ℤ) (block : List ℕ) {p q : Played} {left : List ℕ} where
-  pub plays-make : length block ≡ 512 → Plays size replica p left (effect block (restartStep (memoryOf size replica) n own values [] block))
+  pub plays-make : length block ≡ 512 → Plays size replica p left (effect block (restartStep (memoryOf size replica) n own values [] [] block))
       → q ≡ record {
         replica = p .replica;
         number = p .number;
@@ -130,12 +140,16 @@ module _ (size : ℕ) (replica : Replica) {p : Played} (lent : List ℕ) where
   unfolding step
   send-does e h = replica-does size replica lent (sendStep (memoryOf size replica) lent) e h
 
--- ---- deliver
+-- ---- deliver, and a notice
 
 module _ (lent : List ℕ) where
   pub bare-deliver : (m : Memory) (bytes : List ℕ) → Bare lent (deliverStep m bytes)
   unfolding deliverStep deliverNow
   bare-deliver m bytes = unless-by (Bare lent) (deliverRefusal m bytes) m _ (record { numbers = refl; values = refl; block = refl; change = refl }) (λ e. bare-refused lent _ m)
+
+  pub bare-notice : (m : Memory) (a : Notice) → Bare lent (noticeStep m a)
+  unfolding noticeStep
+  bare-notice m a = unless-by (Bare lent) (noticeRefusal m a) m _ (record { numbers = refl; values = refl; block = refl; change = refl }) (λ e. bare-refused lent _ m)
 
 -- ---- work
 
@@ -175,12 +189,14 @@ module _ (m : Memory) (lent : List ℕ) where
       rw (e, take-append-seam l (replicate (6 - length l) 0), either-way (eqb (length (s .append)) 0) Grows Stays)
 
   step-shows : work-shows (workStep m)
-  unfolding workStep passNext commitWriteset work-shows
+  unfolding workStep passOut passBlock passNext commitWriteset work-shows
   step-shows =
+      let out = passOut m in
       let next = passNext m in
       let commit = commitWriteset m (eqb (getD (blockAtTurn m) 1 0) (m .group .own)) (writesetAt (blockAtTurn m) (m .counts .done)) in
       unless-by work-shows (workRefusal m) m _
-      (by-number work-shows (eqb (getD (blockAtTurn m) 0 0) 1) (λ e. worked-shows (stepIn (next .answer)) (next .memory)) (λ e. worked-shows (stepIn (commit .answer)) (commit .memory)))
+      (by-number work-shows (outAtTurn m) (λ e. worked-shows (stepIn (out .answer)) (out .memory))
+      (λ e. by-number work-shows (eqb (getD (blockAtTurn m) 0 0) 1) (λ f. worked-shows (stepIn (next .answer)) (next .memory)) (λ f. worked-shows (stepIn (commit .answer)) (commit .memory))))
       (λ e. rw e)
 
   pub work-effect : {r : WorkReply} {left : Memory} {block : List ℕ} → GivesWith workReply (withBlock lent workStep m) lent r left block

@@ -1,15 +1,17 @@
-// The calls that make a replica, restart it and move its turn. It goes in and out by value, as for a client's calls. At a station a deliver and a work are the same.
+// The calls that make a replica, restart it and move its turn, and a notice. It goes in and out by value, as for a client's calls. At a station a deliver, a work and a notice are the same.
 ghost use Prim.Native.Nat.{ℕ, _+_, _≤_};
 ghost use mathlib.Core.Path.{_≡_};
 ghost use mathlib.Core.Bool.{cond};
-ghost use mathlib.Core.List.{List, _∷_};
+ghost use mathlib.Core.List.{List, [], _∷_};
 ghost use lib.Dec.{eqb};
 ghost use lib.ListN.{replicate};
 ghost use Rattle.memory.specs.Rows.{endRows};
 ghost use Rattle.engine.specs.Make.{makeStep};
 ghost use Rattle.engine.specs.Moves.{sendStep, deliverStep, workStep};
+ghost use Rattle.engine.specs.Notices.{noticeStep};
 ghost use Rattle.engine.specs.Restart.{restartStep};
 ghost use Rattle.call_reply.specs.Called.{withBlock};
+ghost use Rattle.call_reply.specs.Notices.{restartLent};
 ghost use Rattle.replay_journal.specs.declared.Change.the-variants.{Stays, Grows};
 ghost use Rattle.engine.specs.Station.{stationStep};
 ghost use Rattle.engine.specs.Calls.{step};
@@ -19,6 +21,7 @@ ghost use Rattle.replay_replica.specs.Effects.{placesSize, memoryOf, effect, Pl
 ghost use Rattle.replay_moves.specs.Makes.{withGroup, withMade};
 use call_reply::Restarted;
 use call_reply::WorkReply;
+use memory::Group;
 use memory::NO_NUMBER;
 use memory::Txn;
 use memory::rows::free;
@@ -63,10 +66,11 @@ pub fn restart(
     own: u32,
     value: i32,
     journal: &[u8],
+    notices: &[u32],
     block: &mut [u8],
 ) -> Played
     ensures { λ r. ⌜ Plays (placesSize n) replica r (now (block .exit))
-        (effect (now (block .entry)) (restartStep (memoryOf (placesSize n) replica) n own (replicate 128 value) (now (journal .entry)) (now (block .entry)))) ⌝ }
+        (effect (now (block .entry)) (restartLent (memoryOf (placesSize n) replica) n own (replicate 128 value) (now (journal .entry)) (now (notices .entry)) (now (block .entry)))) ⌝ }
 {
     let start = repeated(value);
     let size = places_size(n);
@@ -93,6 +97,7 @@ pub fn restart(
         &mut places[..size],
         &mut outbox,
         journal,
+        notices,
         &mut *block,
     );
     let mut after = if_made(replica, restarted);
@@ -110,12 +115,28 @@ pub fn restart(
     with_number(after, reply.number, reply.count, change)
 }
 
+// A restart that is lent no notices.
+pub fn restart_alone(
+    replica: Replica,
+    n: u32,
+    own: u32,
+    value: i32,
+    journal: &[u8],
+    block: &mut [u8],
+) -> Played
+    ensures { λ r. ⌜ Plays (placesSize n) replica r (now (block .exit))
+        (effect (now (block .entry)) (restartStep (memoryOf (placesSize n) replica) n own (replicate 128 value) (now (journal .entry)) [] (now (block .entry)))) ⌝ }
+{
+    let none = [0u32; 0];
+    restart(replica, n, own, value, journal, &none, &mut *block)
+}
+
 // A replica made in the place of the other, which stays where the make is refused: a restart from no journal, with no block given back.
 pub fn make(replica: Replica, n: u32, own: u32, value: i32) -> Played
     ensures { λ r. ⌜ ((lent : List ℕ) → Plays (placesSize n) replica r lent (effect lent (makeStep (memoryOf (placesSize n) replica) n own (replicate 128 value)))) ⌝ }
 {
     let mut block = [0u8; 512];
-    let made = restart(replica, n, own, value, b"", &mut block);
+    let made = restart_alone(replica, n, own, value, b"", &mut block);
     let after = made.replica;
     bare(after, made.number, changing(made.number, Change::Begins(0)))
 }
@@ -123,10 +144,15 @@ pub fn make(replica: Replica, n: u32, own: u32, value: i32) -> Played
 fn without_number(replica: Replica) -> Replica
     ensures { λ r. ⌜ r ≡ withGroup replica (groupOf (replica .group .replicas) noNumber) ⌝ }
 {
-    let mut group = replica.group;
-    group.own = NO_NUMBER;
+    let group = replica.group;
+    let station = Group {
+        replicas: group.replicas,
+        own: NO_NUMBER,
+        from: [0; 6],
+        until: [0; 6],
+    };
     let mut after = replica;
-    after.group = group;
+    after.group = station;
     after
 }
 
@@ -289,4 +315,20 @@ pub fn work(replica: Replica, block: &mut [u8]) -> Played
     after.stamps = stamps;
     after.places = places;
     step_of(after, reply)
+}
+
+// The notice Out, or Back, about a replica and a slot.
+pub fn notice(replica: Replica, about: u32, out: bool, slot: u32) -> Played
+    ensures { λ r. ⌜ ((lent : List ℕ) → Plays (placesSize (replica .group .replicas)) replica r lent
+        (effect lent (noticeStep (memoryOf (placesSize (replica .group .replicas)) replica) (record { about = about; out = out; slot = slot })))) ⌝ }
+{
+    let group = replica.group;
+    let turn = replica.turn;
+    let places = replica.places;
+    let size = places_size(group.replicas as u32);
+    let noticed = call_notice::notice(group, turn, &places[..size], about, out, slot);
+    let known = noticed.group;
+    let mut after = replica;
+    after.group = known;
+    bare(after, noticed.number, Change::Stays)
 }

@@ -47,10 +47,12 @@ module _ (letter : ℕ) where
   number-value (inl e) = rw e
   number-value (inr e) = rw e
 
-  pub numbers : Among letter (70 ∷ (82 ∷ [])) → fields 2 false false ≡ shapeOf letter
+  pub numbers : Among letter (70 ∷ (79 ∷ (82 ∷ (85 ∷ [])))) → fields 2 false false ≡ shapeOf letter
   unfolding shapeOf
   numbers (inl e) = rw e
-  numbers (inr e) = rw e
+  numbers (inr (inl e)) = rw e
+  numbers (inr (inr (inl e))) = rw e
+  numbers (inr (inr (inr e))) = rw e
 
   pub numbers-value : Among letter (77 ∷ (87 ∷ [])) → fields 2 true false ≡ shapeOf letter
   unfolding shapeOf
@@ -68,7 +70,7 @@ module _ (letter : ℕ) where
   four a b (inr (inr h)) = a (inr h)
 
   pub none : (Among letter (66 ∷ (75 ∷ (81 ∷ (83 ∷ (86 ∷ []))))) → ⊥) → (Among letter (72 ∷ (80 ∷ [])) → ⊥)
-      → (Among letter (67 ∷ (74 ∷ (88 ∷ []))) → ⊥) → (letter ≡ 68 → ⊥) → (Among letter (65 ∷ (90 ∷ [])) → ⊥) → (Among letter (70 ∷ (82 ∷ [])) → ⊥)
+      → (Among letter (67 ∷ (74 ∷ (88 ∷ []))) → ⊥) → (letter ≡ 68 → ⊥) → (Among letter (65 ∷ (90 ∷ [])) → ⊥) → (Among letter (70 ∷ (79 ∷ (82 ∷ (85 ∷ [])))) → ⊥)
       → (Among letter (77 ∷ (87 ∷ [])) → ⊥) → (letter ≡ 89 → ⊥) → noShape ≡ shapeOf letter
   unfolding shapeOf
   none a b d g e f h k =
@@ -77,7 +79,7 @@ module _ (letter : ℕ) where
         not-among letter (72 ∷ (80 ∷ [])) b,
         not-among letter (67 ∷ (68 ∷ (74 ∷ (88 ∷ [])))) (four d g),
         not-among letter (65 ∷ (90 ∷ [])) e,
-        not-among letter (70 ∷ (82 ∷ [])) f,
+        not-among letter (70 ∷ (79 ∷ (82 ∷ (85 ∷ [])))) f,
         not-among letter (77 ∷ (87 ∷ [])) h,
         not-among letter (89 ∷ []) k,
       )

@@ -10,7 +10,7 @@ use Rattle.memory.specs.Memory.{Memory, groupOf}
 use Rattle.memory.specs.Rows.{closed}
 use Rattle.engine.specs.declared.Report.{Report}
 use Rattle.engine.specs.Answers.{WorkDone, Answer, numberOf, Outcome}
-use Rattle.engine.specs.Answers.Answer.{refused, made, began, got, wrote, queued, readOnly, withdrew, reported, sent, kept, worked, loaded, restarted}
+use Rattle.engine.specs.Answers.Answer.{refused, made, began, got, wrote, queued, readOnly, withdrew, reported, sent, kept, worked, loaded, noticed, restarted}
 use Rattle.engine.specs.Make.{turnZero, countsZero}
 use Rattle.call_reply.specs.Parts.{allParts}
 use Rattle.call_reply.specs.Replies.{blockLeft}
@@ -70,6 +70,7 @@ numbersOf withdrew = []
 numbersOf (sent b) = []
 numbersOf kept = []
 numbersOf loaded = []
+numbersOf noticed = []
 numbersOf (restarted c b) = c ∷ []
 
 abbrev pub valuesOf : Answer → List ℤ
@@ -86,6 +87,7 @@ valuesOf withdrew = []
 valuesOf (sent b) = []
 valuesOf kept = []
 valuesOf loaded = []
+valuesOf noticed = []
 valuesOf (restarted c b) = []
 
 -- ---- what becomes of the journal
@@ -106,6 +108,7 @@ changeOf withdrew = Stays
 changeOf (reported r) = Stays
 changeOf kept = Stays
 changeOf loaded = Stays
+changeOf noticed = Stays
 
 -- ---- calls
 

@@ -56,6 +56,8 @@ pub fn nobody() -> Replica
         group: Group {
             replicas: 0,
             own: 0,
+            from: [0; 6],
+            until: [0; 6],
         },
         turn: Turn {
             slot: 0,

@@ -15,10 +15,10 @@ use Rattle.memory.specs.declared.Txn.{Txn}
 use Rattle.memory.specs.Memory.{Memory}
 use Rattle.memory.specs.Rows.{endRows}
 use Rattle.engine.specs.Make.{makeStep}
-use Rattle.engine.specs.Restart.{restartStep}
 use Rattle.call_reply.specs.declared.Made.{Made}
 use Rattle.call_reply.specs.declared.Restarted.{Restarted}
 use Rattle.call_reply.specs.Parts.{allParts}
+use Rattle.call_reply.specs.Notices.{restartLent}
 use Rattle.call_reply.proofs.CalledLaws.{called-six}
 use Rattle.call_make.proofs.HostLaws.{all-free, kept, did}
 use Rattle.replica_make.proofs.Facts.{MakeOn, MakeDid, RestartOn, RestartDid}
@@ -42,20 +42,20 @@ module _ (table : List Txn) (group : Group) (turn : Turn) (counts : Counts) (siz
   make-did = did (λ (x : Memory). makeStep x size me start) make-parts make-left r group turn counts table refl six (said .0 group turn counts table)
 
 -- ---- restart
-module _ (table : List Txn) (group : Group) (turn : Turn) (counts : Counts) (size me : ℕ) (start : List ℤ) (queue items : List ℕ) (writes snapshots values : List ℤ) (stamps classes places outbox journal block : List ℕ) (r : Restarted)
+module _ (table : List Txn) (group : Group) (turn : Turn) (counts : Counts) (size me : ℕ) (start : List ℤ) (queue items : List ℕ) (writes snapshots values : List ℤ) (stamps classes places outbox journal notices block : List ℕ) (r : Restarted)
     (queue′ items′ : List ℕ) (writes′ snapshots′ values′ : List ℤ) (stamps′ classes′ places′ outbox′ block′ : List ℕ) (six : length table ≡ 6)
-    (said : RestartOn size me start queue items writes snapshots values stamps classes places outbox journal block r queue′ items′ writes′ snapshots′ values′ stamps′ classes′ places′ outbox′ block′) where
+    (said : RestartOn size me start queue items writes snapshots values stamps classes places outbox journal notices block r queue′ items′ writes′ snapshots′ values′ stamps′ classes′ places′ outbox′ block′) where
   abbrev restart-before : Memory
   restart-before = allParts group turn counts table queue items writes snapshots values stamps classes places outbox
 
   pub restart-kept : (r .reply .number ≡ 0 → ⊥)
-      → RestartDid table group turn counts size me start queue items writes snapshots values stamps classes places outbox journal block (r .reply) table group turn counts queue′ items′ writes′ snapshots′ values′ stamps′ classes′ places′ outbox′ block′
+      → RestartDid table group turn counts size me start queue items writes snapshots values stamps classes places outbox journal notices block (r .reply) table group turn counts queue′ items′ writes′ snapshots′ values′ stamps′ classes′ places′ outbox′ block′
   restart-kept z =
       let q = rw (ne-eqb (r .reply .number) 0 z) at said .0 group turn counts table in
-      rw (called-six (λ (x : Memory). restartStep x size me start journal block) restart-before six) q
+      rw (called-six (λ (x : Memory). restartLent x size me start journal notices block) restart-before six) q
 
   pub restart-did : r .reply .number ≡ 0
-      → RestartDid table group turn counts size me start queue items writes snapshots values stamps classes places outbox journal block (r .reply) (endRows (replicate 6 true) table) (r .group) (r .turn) (r .counts) queue′ items′ writes′ snapshots′ values′ stamps′ classes′ places′ outbox′ block′
+      → RestartDid table group turn counts size me start queue items writes snapshots values stamps classes places outbox journal notices block (r .reply) (endRows (replicate 6 true) table) (r .group) (r .turn) (r .counts) queue′ items′ writes′ snapshots′ values′ stamps′ classes′ places′ outbox′ block′
   restart-did z =
       let q = rw (eq-eqb (r .reply .number) 0 z) at said .0 group turn counts table in
-      rw (called-six (λ (x : Memory). restartStep x size me start journal block) restart-before six, all-free table six) q
+      rw (called-six (λ (x : Memory). restartLent x size me start journal notices block) restart-before six, all-free table six) q

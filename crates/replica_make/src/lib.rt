@@ -2,10 +2,10 @@
 // The table is lent as a slice of records, group, turn and counts behind references. Each call copies what it needs of the lent parts, makes the call by value, and writes what changed where it
 // lies. Its contract: what the call gives is what the engine's step gives, on every memory with the lent parts.
 ghost use Rattle.engine.specs.Make.{makeStep};
-ghost use Rattle.engine.specs.Restart.{restartStep};
 ghost use Rattle.call_reply.specs.Parts.{allParts};
 ghost use Rattle.call_reply.specs.Replies.{number, restartReply, Gives, GivesWith};
 ghost use Rattle.call_reply.specs.Called.{called};
+ghost use Rattle.call_reply.specs.Notices.{restartLent};
 use call_make::make;
 use call_reply::RestartReply;
 use call_reply::replies::no_restart;
@@ -90,10 +90,11 @@ pub extern "C" fn stemline_restart(
     places: &mut [u8],
     outbox: &mut [u8],
     journal: &[u8],
+    notices: &[u32],
     block: &mut [u8],
 ) -> RestartReply
     ensures { λ r. ⌜ (GivesWith restartReply
-        (called (λ x. restartStep x n own (now (start .entry)) (now (journal .entry)) (now (block .entry)))
+        (called (λ x. restartLent x n own (now (start .entry)) (now (journal .entry)) (now (notices .entry)) (now (block .entry)))
         (allParts (now (group .entry)) (now (turn .entry)) (now (counts .entry)) (now (table .entry)) (now (queue .entry)) (now (items .entry)) (now (writes .entry)) (now (snapshots .entry)) (now (values .entry)) (now (stamps .entry)) (now (classes .entry)) (now (places .entry)) (now (outbox .entry))))
         (now (block .entry))
         r
@@ -117,6 +118,7 @@ pub extern "C" fn stemline_restart(
         places,
         outbox,
         journal,
+        notices,
         block,
     );
     let reply = done.reply;

@@ -18,7 +18,7 @@ use Rattle.memory.specs.Rows.{endRows}
 use Rattle.memory.specs.Turns.{markSent, stepTurn}
 use Rattle.engine.specs.Answers.{Outcome, outcome, unlessStation}
 use Rattle.engine.specs.Answers.Answer.{refused}
-use Rattle.engine.specs.Moves.{sendRow, sendRefusal, sendNow, sendStep, blockAtTurn, workRefusal, passNext, commitWriteset, workStep}
+use Rattle.engine.specs.Moves.{sendRow, sendRefusal, sendNow, sendStep, outAtTurn, blockAtTurn, workRefusal, passNext, commitWriteset, passOut, passBlock, workStep}
 use Rattle.engine.proofs.Tests.{cond-by, unless-by}
 use Rattle.call_reply.specs.declared.Sent.{Sent}
 use Rattle.call_reply.specs.declared.WorkReply.{WorkReply}
@@ -73,16 +73,21 @@ module _ (table : List Txn) (group : Group) (turn : Turn) (counts : Counts) (que
 
     -- by the ends of a work
     work-by : (P : Outcome → Type 0) → ((o : Outcome) → number o ≡ 0 → P o) → ((n : ℕ) → P (outcome (refused n) work-before)) → P (withBlock block workStep work-before)
-    unfolding withBlock workStep passNext commitWriteset
+    unfolding withBlock workStep passOut passBlock passNext commitWriteset
     work-by P done kept = cond-by P (eqb (length block) 512)
-        (λ y. unless-by P (workRefusal work-before) work-before (λ e. cond-by P (eqb (getD (blockAtTurn work-before) 0 0) 1) (λ k. done _ refl) (λ k. done _ refl)) (λ e. kept _)) (λ y. kept 1)
+        (λ y. unless-by P (workRefusal work-before) work-before (λ e. cond-by P (outAtTurn work-before) (λ o. done _ refl)
+        (λ o. cond-by P (eqb (getD (blockAtTurn work-before) 0 0) 1) (λ k. done _ refl) (λ k. done _ refl))) (λ e. kept _)) (λ y. kept 1)
 
     -- what a work that is not refused replies says what it does to the turn
-    work-turn : number (withBlock block workStep work-before) ≡ 0 → stepped (workReply (withBlock block workStep work-before)) ≡ withBlock block workStep work-before .memory .turn
-    unfolding withBlock workStep passNext commitWriteset
-    work-turn = cond-by (λ (o : Outcome). number o ≡ 0 → stepped (workReply o) ≡ o .memory .turn) (eqb (length block) 512)
-        (λ y. unless-by (λ (o : Outcome). number o ≡ 0 → stepped (workReply o) ≡ o .memory .turn) (workRefusal work-before) work-before
-        (λ e. cond-by (λ (o : Outcome). number o ≡ 0 → stepped (workReply o) ≡ o .memory .turn) (eqb (getD (blockAtTurn work-before) 0 0) 1) (λ k z. refl) (λ k z. refl)) (λ e z. absurd (e z))) (λ y z. absurd (omega (arith, z)))
+    abbrev Turned : Outcome → Type 0
+    Turned o = number o ≡ 0 → stepped (workReply o) ≡ o .memory .turn
+
+    work-turn : Turned (withBlock block workStep work-before)
+    unfolding withBlock workStep passOut passBlock passNext commitWriteset
+    work-turn = cond-by Turned (eqb (length block) 512)
+        (λ y. unless-by Turned (workRefusal work-before) work-before
+        (λ e. cond-by Turned (outAtTurn work-before) (λ o z. refl) (λ o. cond-by Turned (eqb (getD (blockAtTurn work-before) 0 0) 1) (λ k z. refl) (λ k z. refl))) (λ e z. absurd (e z)))
+        (λ y z. absurd (omega (arith, z)))
 
   pub work-kept : (r .reply .number ≡ 0 → ⊥) → WorkDid table group turn counts queue items values stamps places block (r .reply) table turn counts queue′ values′ stamps′ places′ block′
   work-kept z = λ m. work-way m table turn counts (work-by m (WorkWay m table turn counts)

@@ -6,8 +6,11 @@ use Rattle.replay.proofs.nowhere.Tie as tie
 nobody-requires : tie.Need-nobody-requires
 nobody-requires c κs = search needs
 
+none-requires : tie.Need-none-requires
+none-requires c κs = search needs
+
 returns : tie.Need-returns
-returns c = rw (c .nobody .ensures)
+returns c = rw (c .before .nobody .ensures, c .none .ensures)
 
 pub nowhere-spec : {M : Type 1} → statement M
-nowhere-spec = tie.close (tie.spec nobody-requires returns)
+nowhere-spec = tie.close (tie.spec nobody-requires none-requires returns)

@@ -43,8 +43,10 @@ same-length-3 c = search needs
 
 returns : tie.Need-returns
 returns c =
-    let a = c .before .before .before .before .before .before .before .before .before .before .before .before .before .before .before .before .before .before .before .before .before .before .args in
-    answers-at (a .request .call) (take (a .request .count) (a .request .bytes)) (a .place) (a .page .now) (c .before .before .before .before .before .before .before .before .before .before .before .before .before .run .ensures) (c .before .before .before .before .put-answer .ensures)
+    let p = c .before .before .before .before in
+    let r = p .before .before .before .before .before .before .before .before .before .before in
+    let a = r .before .before .before .before .before .before .before .before .before .args in
+    answers-at (a .request .call) (take (a .request .count) (a .request .bytes)) (a .place) (a .page .now) (r .run .ensures) (p .put-answer .ensures)
 
 pub play-line-spec : {M : Type 1} → statement M
 play-line-spec =

@@ -1,7 +1,7 @@
 -- `run` meets its contract.
 use borrow.Author.Needs.{needs}
 use mir.Facts.{toZ-ofZ}
-use Rattle.replay_calls.proofs.RunLaws.{run-make, run-begin, run-read, run-write, run-ask, run-withdraw, run-report, run-send, run-deliver, run-work, run-restart, run-load, run-show, run-station, run-look}
+use Rattle.replay_calls.proofs.RunLaws.{run-make, run-begin, run-read, run-write, run-ask, run-withdraw, run-report, run-send, run-deliver, run-work, run-restart, run-load, run-show, run-station, run-out, run-back, run-look}
 use Rattle.replay_calls.proofs.run.Statement.{statement}
 use Rattle.replay_calls.proofs.run.Tie as tie
 
@@ -35,8 +35,8 @@ deliver-requires c κs = search needs
 work-requires : tie.Need-work-requires
 work-requires c κs = search needs
 
-restart-requires : tie.Need-restart-requires
-restart-requires c κs = search needs
+restart-alone-requires : tie.Need-restart-alone-requires
+restart-alone-requires c κs = search needs
 
 load-requires : tie.Need-load-requires
 load-requires c κs = search needs
@@ -46,6 +46,12 @@ show-requires c κs = search needs
 
 make-station-requires : tie.Need-make-station-requires
 make-station-requires c κs = search needs
+
+notice-requires : tie.Need-notice-requires
+notice-requires c κs = search needs
+
+notice-requires-2 : tie.Need-notice-requires-2
+notice-requires-2 c κs = search needs
 
 shown-requires : tie.Need-shown-requires
 shown-requires c κs = search needs
@@ -112,7 +118,7 @@ same-length-3 c = search needs
 returns-11 : tie.Need-returns-11
 returns-11 c =
     let a = c .before .before .before .before .before .before .before .before .args in
-    run-restart (a .call) (a .replica) (c .before .before .restart .result) (a .bytes .now) (a .block .now) (c .before .before .restart .last .1 .1 .1 .1 .1 .0) (c .before .before .before .before .before .match .keys11) (rw (toZ-ofZ (record { sfits = c .before .before .before .struct-told3 .given .1 .1 .1 .0 .1 })) at (c .before .before .restart .ensures))
+    run-restart (a .call) (a .replica) (c .before .before .restart-alone .result) (a .bytes .now) (a .block .now) (c .before .before .restart-alone .last .1 .1 .1 .1 .1 .0) (c .before .before .before .before .before .match .keys11) (rw (toZ-ofZ (record { sfits = c .before .before .before .struct-told3 .given .1 .1 .1 .0 .1 })) at (c .before .before .restart-alone .ensures))
 
 same-length-4 : tie.Need-same-length-4
 same-length-4 c = search needs
@@ -135,9 +141,19 @@ returns-14 c =
 returns-15 : tie.Need-returns-15
 returns-15 c =
     let a = c .before .before .before .before .args in
+    run-out (a .call) (a .replica) (c .notice .result) (a .bytes .now) (a .block .now) (c .before .match .keys15) (c .notice .ensures)
+
+returns-16 : tie.Need-returns-16
+returns-16 c =
+    let a = c .before .before .before .before .args in
+    run-back (a .call) (a .replica) (c .notice2 .result) (a .bytes .now) (a .block .now) (c .before .match .keys16) (c .notice2 .ensures)
+
+returns-17 : tie.Need-returns-17
+returns-17 c =
+    let a = c .before .before .before .before .args in
     let n = c .before .match .rest in
     run-look (a .call) (a .replica) (c .shown .result) (a .bytes .now) (a .block .now)
-    (n .0 .0 .0 .0 .0 .0 .0 .0 .0 .0 .0 .0 .0 .1) (n .0 .0 .0 .0 .0 .0 .0 .0 .0 .0 .0 .0 .1) (n .0 .0 .0 .0 .0 .0 .0 .0 .0 .0 .0 .1) (n .0 .0 .0 .0 .0 .0 .0 .0 .0 .0 .1) (n .0 .0 .0 .0 .0 .0 .0 .0 .0 .1) (n .0 .0 .0 .0 .0 .0 .0 .0 .1) (n .0 .0 .0 .0 .0 .0 .0 .1) (n .0 .0 .0 .0 .0 .0 .1) (n .0 .0 .0 .0 .0 .1) (n .0 .0 .0 .0 .1) (n .0 .0 .0 .1) (n .0 .0 .1) (n .0 .1) (n .1) (c .shown .ensures)
+    (n .0 .0 .0 .0 .0 .0 .0 .0 .0 .0 .0 .0 .0 .0 .0 .1) (n .0 .0 .0 .0 .0 .0 .0 .0 .0 .0 .0 .0 .0 .0 .1) (n .0 .0 .0 .0 .0 .0 .0 .0 .0 .0 .0 .0 .0 .1) (n .0 .0 .0 .0 .0 .0 .0 .0 .0 .0 .0 .0 .1) (n .0 .0 .0 .0 .0 .0 .0 .0 .0 .0 .0 .1) (n .0 .0 .0 .0 .0 .0 .0 .0 .0 .0 .1) (n .0 .0 .0 .0 .0 .0 .0 .0 .0 .1) (n .0 .0 .0 .0 .0 .0 .0 .0 .1) (n .0 .0 .0 .0 .0 .0 .0 .1) (n .0 .0 .0 .0 .0 .0 .1) (n .0 .0 .0 .0 .0 .1) (n .0 .0 .0 .0 .1) (n .0 .0 .0 .1) (n .0 .0 .1) (n .0 .1) (n .1) (c .shown .ensures)
 
 pub run-spec : {M : Type 1} → statement M
 run-spec =
@@ -153,10 +169,12 @@ run-spec =
     send-requires
     deliver-requires
     work-requires
-    restart-requires
+    restart-alone-requires
     load-requires
     show-requires
     make-station-requires
+    notice-requires
+    notice-requires-2
     shown-requires
     returns
     returns-2
@@ -176,4 +194,6 @@ run-spec =
     same-length-4
     returns-13
     returns-14
-    returns-15)
+    returns-15
+    returns-16
+    returns-17)

@@ -13,6 +13,9 @@ use Rattle.replay_client.proofs.begin.Tie as tie
 values-long : (c : tie.Start) → length (c .args .replica .values) ≡ 128
 values-long c = search needs
 
+snapshots-long : (c : tie.Start) → length (c .args .replica .snapshots) ≡ 768
+snapshots-long c = search needs
+
 free-row-requires : tie.Need-free-row-requires
 free-row-requires c κs = search needs
 
@@ -23,7 +26,7 @@ slice-aggregate-begin : tie.Need-slice-aggregate-begin
 slice-aggregate-begin c = sym (values-long (c .before .before .before .before .before .before .before))
 
 slice-aggregate-begin-2 : tie.Need-slice-aggregate-begin-2
-slice-aggregate-begin-2 c = search needs
+slice-aggregate-begin-2 c = sym (snapshots-long (c .before .before .before .before .before .before .before .before))
 
 begin-requires : tie.Need-begin-requires
 begin-requires c κs = search needs

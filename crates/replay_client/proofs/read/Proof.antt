@@ -12,6 +12,9 @@ use Rattle.replay_client.proofs.ClientLaws.{read-effect}
 use Rattle.replay_client.proofs.read.Statement.{statement}
 use Rattle.replay_client.proofs.read.Tie as tie
 
+writes-long : (c : tie.Start) → length (c .args .replica .writes) ≡ 48
+writes-long c = search needs
+
 snapshots-long : (c : tie.Start) → length (c .args .replica .snapshots) ≡ 768
 snapshots-long c = search needs
 
@@ -25,7 +28,7 @@ slice-aggregate-read : tie.Need-slice-aggregate-read
 slice-aggregate-read c = search needs
 
 slice-aggregate-read-2 : tie.Need-slice-aggregate-read-2
-slice-aggregate-read-2 c = search needs
+slice-aggregate-read-2 c = sym (writes-long (c .before .before .before .before .before .before .before .before))
 
 slice-aggregate-read-3 : tie.Need-slice-aggregate-read-3
 slice-aggregate-read-3 c = sym (snapshots-long (c .before .before .before .before .before .before .before .before .before))

@@ -8,14 +8,14 @@ use Rattle.replay_moves.proofs.MoveLaws.{plays-make}
 use Rattle.replay_moves.proofs.make.Statement.{statement}
 use Rattle.replay_moves.proofs.make.Tie as tie
 
-slice-aggregate-restart : tie.Need-slice-aggregate-restart
-slice-aggregate-restart c = search needs
+slice-aggregate-restart-alone : tie.Need-slice-aggregate-restart-alone
+slice-aggregate-restart-alone c = search needs
 
-slice-aggregate-restart-2 : tie.Need-slice-aggregate-restart-2
-slice-aggregate-restart-2 c = search needs
+slice-aggregate-restart-alone-2 : tie.Need-slice-aggregate-restart-alone-2
+slice-aggregate-restart-alone-2 c = search needs
 
-restart-requires : tie.Need-restart-requires
-restart-requires c κs = search needs
+restart-alone-requires : tie.Need-restart-alone-requires
+restart-alone-requires c κs = search needs
 
 changing-requires : tie.Need-changing-requires
 changing-requires c κs = search needs
@@ -25,16 +25,17 @@ bare-requires c κs = search needs
 
 returns : tie.Need-returns
 returns c =
-    let a = c .before .before .before .before .before .before .before .args in
-    plays-make (placesSize (a .n)) (a .replica) (a .n) (a .own) (replicate 128 (a .value)) (replicate 512 0) (length-replicate {A = ℕ} 512 0) (rw (toZ-ofZ (c .before .before .before .before .before .before .before .fits .value)) at (c .before .before .before .before .restart .ensures)) (rw (c .before .changing .ensures) at (c .bare .ensures))
+    let s = c .before .before .before .before .before .before .before in
+    let a = s .args in
+    plays-make (placesSize (a .n)) (a .replica) (a .n) (a .own) (replicate 128 (a .value)) (replicate 512 0) (length-replicate {A = ℕ} 512 0) (rw (toZ-ofZ (s .fits .value)) at (c .before .before .before .before .restart-alone .ensures)) (rw (c .before .changing .ensures) at (c .bare .ensures))
 
 pub make-spec : {M : Type 1} → statement M
 make-spec =
     tie.close
     (tie.spec
-    slice-aggregate-restart
-    slice-aggregate-restart-2
-    restart-requires
+    slice-aggregate-restart-alone
+    slice-aggregate-restart-alone-2
+    restart-alone-requires
     changing-requires
     bare-requires
     returns)

@@ -1,7 +1,8 @@
 -- `restart` meets its contract.
+use Prim.Native.Nat.{ℕ}
 use mathlib.Core.Path.{_≡_, sym, _∙_}
 use native.Mathlib.Omega.{arith}
-use borrow.Author.Needs.{needs}
+use borrow.Author.Needs.{needs, length-unmapped}
 use lib.Dec.{eqb}
 use lib.ListN.{length, drop, replicate}
 use lib.Seq.{length-take-le, take-at, drop-at}
@@ -28,16 +29,16 @@ values-long : (c : tie.Start) → length (c .args .replica .values) ≡ 128
 values-long c = search needs
 
 stamps-long : (c : tie.Start) → length (c .args .replica .stamps) ≡ 128
-stamps-long c = search needs
+stamps-long c = length-unmapped ℕ (c .args .replica .stamps) 128 (c .good .0 .1 .1 .1 .1 .1 .1 .1 .1 .1 .1 .1 .0 .1 .0 .1)
 
 classes-long : (c : tie.Start) → length (c .args .replica .classes) ≡ 128
-classes-long c = search needs
+classes-long c = length-unmapped ℕ (c .args .replica .classes) 128 (c .good .0 .1 .1 .1 .1 .1 .1 .1 .1 .1 .1 .1 .1 .0 .1 .0 .1)
 
 places-long : (c : tie.Start) → length (c .args .replica .places) ≡ 3072
-places-long c = search needs
+places-long c = length-unmapped ℕ (c .args .replica .places) 3072 (c .good .0 .1 .1 .1 .1 .1 .1 .1 .1 .1 .1 .1 .1 .1 .0 .1 .0 .1)
 
 outbox-long : (c : tie.Start) → length (c .args .replica .outbox) ≡ 512
-outbox-long c = search needs
+outbox-long c = length-unmapped ℕ (c .args .replica .outbox) 512 (c .good .0 .1 .1 .1 .1 .1 .1 .1 .1 .1 .1 .1 .1 .1 .1 .0 .1 .0 .1)
 
 repeated-requires : tie.Need-repeated-requires
 repeated-requires c κs = search needs
@@ -49,36 +50,36 @@ slice-aggregate-restart : tie.Need-slice-aggregate-restart
 slice-aggregate-restart c = search needs
 
 slice-aggregate-restart-2 : tie.Need-slice-aggregate-restart-2
-slice-aggregate-restart-2 c = sym (queue-long (c .before .before .before .before .before .before .before .before .before .before .before .before .before .before .before))
+slice-aggregate-restart-2 c = sym (queue-long (c .before .before .before .before .before .before .before .before .before .before .before .before .before .before .before .before))
 
 slice-aggregate-restart-3 : tie.Need-slice-aggregate-restart-3
-slice-aggregate-restart-3 c = sym (items-long (c .before .before .before .before .before .before .before .before .before .before .before .before .before .before .before .before))
+slice-aggregate-restart-3 c = sym (items-long (c .before .before .before .before .before .before .before .before .before .before .before .before .before .before .before .before .before))
 
 slice-aggregate-restart-4 : tie.Need-slice-aggregate-restart-4
-slice-aggregate-restart-4 c = sym (writes-long (c .before .before .before .before .before .before .before .before .before .before .before .before .before .before .before .before .before))
+slice-aggregate-restart-4 c = sym (writes-long (c .before .before .before .before .before .before .before .before .before .before .before .before .before .before .before .before .before .before))
 
 slice-aggregate-restart-5 : tie.Need-slice-aggregate-restart-5
-slice-aggregate-restart-5 c = sym (snapshots-long (c .before .before .before .before .before .before .before .before .before .before .before .before .before .before .before .before .before .before))
+slice-aggregate-restart-5 c = sym (snapshots-long (c .before .before .before .before .before .before .before .before .before .before .before .before .before .before .before .before .before .before .before))
 
 slice-aggregate-restart-6 : tie.Need-slice-aggregate-restart-6
-slice-aggregate-restart-6 c = sym (values-long (c .before .before .before .before .before .before .before .before .before .before .before .before .before .before .before .before .before .before .before))
+slice-aggregate-restart-6 c = sym (values-long (c .before .before .before .before .before .before .before .before .before .before .before .before .before .before .before .before .before .before .before .before))
 
 slice-aggregate-restart-7 : tie.Need-slice-aggregate-restart-7
-slice-aggregate-restart-7 c = sym (stamps-long (c .before .before .before .before .before .before .before .before .before .before .before .before .before .before .before .before .before .before .before .before))
+slice-aggregate-restart-7 c = sym (stamps-long (c .before .before .before .before .before .before .before .before .before .before .before .before .before .before .before .before .before .before .before .before .before))
 
 slice-aggregate-restart-8 : tie.Need-slice-aggregate-restart-8
-slice-aggregate-restart-8 c = sym (classes-long (c .before .before .before .before .before .before .before .before .before .before .before .before .before .before .before .before .before .before .before .before .before))
+slice-aggregate-restart-8 c = sym (classes-long (c .before .before .before .before .before .before .before .before .before .before .before .before .before .before .before .before .before .before .before .before .before .before))
 
 array-borrow-prefix-places : tie.Need-array-borrow-prefix-places
-array-borrow-prefix-places c = omega (arith, c .before .before .before .before .before .before .before .before .before .before .before .before .before .before .before .before .before .places-size .ensures .1, places-long (c .before .before .before .before .before .before .before .before .before .before .before .before .before .before .before .before .before .before .before .before .before))
+array-borrow-prefix-places c = omega (arith, c .before .before .before .before .before .before .before .before .before .before .before .before .before .before .before .before .before .places-size .ensures .1, places-long (c .before .before .before .before .before .before .before .before .before .before .before .before .before .before .before .before .before .before .before .before .before .before))
 
 slice-aggregate-restart-9 : tie.Need-slice-aggregate-restart-9
 slice-aggregate-restart-9 c =
     let z = c .before .before .before .before .before .before .before .before .before .before .before .before .before .before .before .before .before .before in
-    sym (length-take-le (z .places-size .result) (z .before .before .before .before .args .replica .places) (omega (arith, z .places-size .ensures .1, places-long (z .before .before .before .before))))
+    sym (length-take-le (z .places-size .result) (z .before .before .before .before .before .args .replica .places) (omega (arith, z .places-size .ensures .1, places-long (z .before .before .before .before .before))))
 
 slice-aggregate-restart-10 : tie.Need-slice-aggregate-restart-10
-slice-aggregate-restart-10 c = sym (outbox-long (c .before .before .before .before .before .before .before .before .before .before .before .before .before .before .before .before .before .before .before .before .before .before .before))
+slice-aggregate-restart-10 c = sym (outbox-long (c .before .before .before .before .before .before .before .before .before .before .before .before .before .before .before .before .before .before .before .before .before .before .before .before))
 
 restart-requires : tie.Need-restart-requires
 restart-requires c κs = search needs
@@ -96,23 +97,23 @@ same-length : tie.Need-same-length
 same-length c = search needs
 
 -- the values start alike
-start-is : (c : tie.After-repeated) → let s = c .before .before .before in c .repeated .result ≡ replicate 128 (s .args .value)
-start-is c = rw (toZ-ofZ (c .before .before .before .fits .value)) at (c .repeated .ensures)
+start-is : (c : tie.After-repeated) → let s = c .before .before .before .before in c .repeated .result ≡ replicate 128 (s .args .value)
+start-is c = rw (toZ-ofZ (c .before .before .before .before .fits .value)) at (c .repeated .ensures)
 
 returns : tie.Need-returns
 returns c =
     let m = c .before .before .before .before .before .before .before .before .before .before .before .before .before .before .before in
     let z = m .before .before .before .before .before .before .before .before .before .before .before .before .before .before .before .before .before .before .before .before .before in
-    let a = z .before .before .before .before .args in
+    let a = z .before .before .before .before .before .args in
     let s = a .replica in
     let size = z .places-size .result in
     let left = m .restart .last .1 .1 .1 .1 .1 .1 .1 .1 .1 .1 .0 in
-    let l : length left ≡ size = m .restart .kept .1 .1 .1 .1 .1 .1 .1 .1 .1 .1 .0 ∙ length-take-le size (s .places) (omega (arith, z .places-size .ensures .1, places-long (z .before .before .before .before))) in
+    let l : length left ≡ size = m .restart .kept .1 .1 .1 .1 .1 .1 .1 .1 .1 .1 .0 ∙ length-take-le size (s .places) (omega (arith, z .places-size .ensures .1, places-long (z .before .before .before .before .before))) in
     let g = rw (start-is (z .before)) at (m .restart .ensures .0 (s .group) (s .turn) (s .counts) (s .rows)) in
     rw (← z .places-size .ensures .0)
     (plays-numbers
     (rw (c .before .changing .ensures) at (c .with-number .ensures))
-    (rw (c .before .before .before .if-made .ensures, take-at left (drop size (s .places)) size l) (restart-effect (memoryOf size s) (a .n) (a .own) (replicate 128 (a .value)) (a .journal .now) (a .block .now) (drop 1 (c .with-number .result .numbers)) g))
+    (rw (c .before .before .before .if-made .ensures, take-at left (drop size (s .places)) size l) (restart-effect (memoryOf size s) (a .n) (a .own) (replicate 128 (a .value)) (a .journal .now) (a .notices .now) (a .block .now) (drop 1 (c .with-number .result .numbers)) g))
     (drop-at left (drop size (s .places)) size l)
     (one-few (eqb (m .restart .result .reply .number) 0)))
 

@@ -9,17 +9,17 @@ use Rattle.memory.proofs.notices.out_from.Tie as tie
 returns : tie.Need-returns
 returns c =
     let a = c .before .args in
-    let six : length (a .t1 .from) ≡ 6 = search needs in
-    none-past (a .t1 .from) six (a .replica) (c .if1 .taken)
+    let six : length (a .group .from) ≡ 6 = search needs in
+    none-past (a .group .from) six (a .replica) (c .if1 .taken)
 
 mul-result : tie.Need-mul-result
 mul-result c = search needs
 
-element-copy-out-result : tie.Need-element-copy-out-result
-element-copy-out-result c = search needs
+array-read-result : tie.Need-array-read-result
+array-read-result c = search needs
 
 returns-2 : tie.Need-returns-2
 returns-2 c = search needs
 
 pub out-from-spec : {M : Type 1} → statement M
-out-from-spec = tie.close (tie.spec returns mul-result element-copy-out-result returns-2)
+out-from-spec = tie.close (tie.spec returns mul-result array-read-result returns-2)

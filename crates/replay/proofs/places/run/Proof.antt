@@ -16,26 +16,26 @@ slice-aggregate-give c = search needs
 give-requires : tie.Need-give-requires
 give-requires c κs = search needs
 
-as-made-requires : tie.Need-as-made-requires
-as-made-requires c κs = search needs
-
 array-share-prefix-given : tie.Need-array-share-prefix-given
 array-share-prefix-given c = search needs
 
-slice-aggregate-run : tie.Need-slice-aggregate-run
-slice-aggregate-run c = sym (length-take-le (c .before .before .before .give .result) (c .before .before .before .give .last .1 .1 .1 .1 .0) (lent-within (c .before .before .before .give .ensures)))
+slice-aggregate-play : tie.Need-slice-aggregate-play
+slice-aggregate-play c = let g = c .before .before in sym (length-take-le (g .give .result) (g .give .last .1 .1 .1 .1 .0) (lent-within (g .give .ensures)))
 
-run-requires : tie.Need-run-requires
-run-requires c κs = search needs
+play-requires : tie.Need-play-requires
+play-requires c κs = search needs
 
 array-share-prefix-given-2 : tie.Need-array-share-prefix-given-2
 array-share-prefix-given-2 c = search needs
 
 slice-aggregate-keep : tie.Need-slice-aggregate-keep
-slice-aggregate-keep c = sym (length-take-le (c .before .before .before .before .before .before .before .before .give .result) (c .before .before .before .before .before .before .before .before .give .last .1 .1 .1 .1 .0) (lent-within (c .before .before .before .before .before .before .before .before .give .ensures)))
+slice-aggregate-keep c = let g = c .before .before .before .before .before .before .before in sym (length-take-le (g .give .result) (g .give .last .1 .1 .1 .1 .0) (lent-within (g .give .ensures)))
 
 keep-requires : tie.Need-keep-requires
 keep-requires c κs = search needs
+
+after-requires : tie.Need-after-requires
+after-requires c κs = search needs
 
 same-length : tie.Need-same-length
 same-length c = search needs
@@ -45,8 +45,14 @@ same-length-2 c = search needs
 
 returns : tie.Need-returns
 returns c =
-    let a = c .before .before .before .before .before .before .before .before .before .before .before .before .before .before .before .before .before .before .before .before .before .before .args in
-    plays-at (a .call) (a .place .replica) (a .place .held) (a .bytes .now) (a .block .now) (a .page .now) (c .before .before .before .before .before .before .before .before .before .before .before .as-made .ensures) (given-at (a .call) (a .bytes .now) (journalOf (a .place .held) (a .page .now)) (c .before .before .before .before .before .before .before .before .before .before .before .before .before .before .before .before .large-buffer .ensures) (c .before .before .before .before .before .before .before .before .before .before .before .before .before .give .ensures)) (c .before .before .before .before .before .before .before .before .run .ensures) (c .before .before .keep .ensures)
+    let k = c .before .before .before in
+    let p = k .before .before .before .before .before .before in
+    let g = p .before .before .before .before in
+    let l = g .before .before .before in
+    let a = l .before .before .before .before .before .before .args in
+    plays-at (a .call) (a .place) (a .bytes .now) (a .block .now) (a .page .now)
+    (given-at (a .call) (a .bytes .now) (journalOf (a .place .held) (a .page .now)) (l .large-buffer .ensures) (g .give .ensures))
+    (p .play .ensures) (k .keep .ensures) (c .after .ensures)
 
 pub run-spec : {M : Type 1} → statement M
 run-spec =
@@ -55,13 +61,13 @@ run-spec =
     large-buffer-requires
     slice-aggregate-give
     give-requires
-    as-made-requires
     array-share-prefix-given
-    slice-aggregate-run
-    run-requires
+    slice-aggregate-play
+    play-requires
     array-share-prefix-given-2
     slice-aggregate-keep
     keep-requires
+    after-requires
     same-length
     same-length-2
     returns)

@@ -1,0 +1,2 @@
+-- What the functions of a notice say beside the definition of the call.
+pub mod Placed

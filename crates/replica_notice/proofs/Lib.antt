@@ -1,0 +1,2 @@
+-- From the calls by value to the calls on lent parts.
+pub mod Facts
