@@ -39,5 +39,6 @@ pub mod Theorem
 pub mod JournalLength
 pub mod Journals
 pub mod Tickets
+pub mod OutSlots
 -- what holds with no premise
 pub mod Handed

@@ -34,7 +34,7 @@ use Rattle.protocol.specs.Writesets.{put}
 use Rattle.protocol.specs.Observer.{addPending, txnIds, observedAfter, handoutsAfter}
 use Rattle.protocol.proofs.ListLaws.{and-no}
 use Rattle.agreement.specs.Group.{messageIn, firstNotice, heard, outEnd, run, Beginning}
-use Rattle.agreement.specs.Worked.{start, noBlock, nextBlock, nextBlock1, RightGroup}
+use Rattle.agreement.specs.Worked.{start, noBlock, RightGroup}
 
 abbrev isFour : ℤ → Bool
 isFour (pos n) = eqb n 4
@@ -48,8 +48,8 @@ not-none : {a : Notice} {l : List Notice} → a ∷ l ≡ [] → ⊥
 not-none e = clash {b = true} refl (ap isSome e)
 
 -- two beginnings of one list: who has taken nothing lacks the first notice of the other
-ahead : {l : List Notice} → Beginning (outFrom 0 0 ∷ []) l 0 → Beginning [] l 1 → ⊥
-ahead {l} a b = let h = b .ahead (outFrom 0 0) (subst (Mem (outFrom 0 0)) (sym (a .whole) ∙ b .whole) (List·Memᴰ·head refl)) in let w : ⊥ = omega arith in w
+ahead : {l : List Notice} → Beginning (outFrom 1 0 ∷ []) l 0 → Beginning [] l 1 → ⊥
+ahead {l} a b = let h = b .ahead (outFrom 1 0) (subst (Mem (outFrom 1 0)) (sym (a .whole) ∙ b .whole) (List·Memᴰ·head refl)) in let w : ⊥ = omega arith in w
 
 -- a slot that is out stays out by notices of later slots
 still-out : (l : List Notice) → ((a : Notice) → Mem a l → 1 ≤ a .slot) → putsOut true l 0 0 ≡ true
@@ -81,8 +81,9 @@ right-group = record {
   notice-floor = refl;
   out-floor = refl;
   restart-floor = refl;
+  floor-kept = refl;
   taken = refl;
-  other-notices = λ p. not-none (p .calls .lent [] 1 3 1 start (nextBlock ++ nextBlock1) (outFrom 1 1 ∷ []) noBlock 2 noBlock ([], refl) refl .4);
-  station-ahead = λ p. ahead (p .one .taken _ (List·Memᴰ·tail (List·Memᴰ·tail (List·Memᴰ·tail (List·Memᴰ·head refl)))) 0) (p .one .taken _ (List·Memᴰ·tail (List·Memᴰ·head refl)) 0);
+  other-notices = λ p. not-none (p .calls .lent [] 1 3 1 start [] (outFrom 1 1 ∷ []) noBlock 0 noBlock ([], refl) refl .4);
+  station-ahead = λ p. ahead (p .one .taken _ (List·Memᴰ·tail (List·Memᴰ·tail (List·Memᴰ·tail (List·Memᴰ·head refl)))) 1) (p .one .taken _ (List·Memᴰ·tail (List·Memᴰ·head refl)) 1);
   out-handed = λ p. clash (out-whole (p .one .taken _ (List·Memᴰ·tail (List·Memᴰ·head refl)) 0)) (p .one .handed _ (List·Memᴰ·head refl));
 }

@@ -87,7 +87,7 @@ messageIn b = record { slot = messageOf b .slot; sender = messageOf b .sender; w
 abbrev pub givenIn : List ℕ → Option (Message ℤ)
 givenIn b = cond (eqb (getD b 0 0) 0) none (some (messageIn b))
 
--- the notices, and the first of them; a notice's arguments have it
+-- a notice as the model has it; that of a notice call
 abbrev pub noticeIn : Notice → protocol.Notice
 noticeIn a = record { about = a .about; out = a .out; slot = a .slot }
 
@@ -131,7 +131,7 @@ handedOutIn loaded = none
 handedOutIn noticed = none
 handedOutIn (restarted c b) = cond (eqb (getD b 0 0) 0) none (some b)
 
--- ---- the journals, from what calls answer
+-- ---- the journals, from what calls answer, and the floor, from where they stood
 
 -- what a replica's disk has: the bytes appended, and how many of them a cut leaves at least; a station has no disk, and what stands under its number is never asked for
 pub record Disk : Type 0 where
@@ -188,7 +188,7 @@ diskAfter d m c a = let l = journalAfter (d .journal) c a in disk l (floorAfter 
 
 -- ---- the notices taken
 
--- whether a notice is
+-- whether the answer takes a notice
 abbrev pub isTaken : Answer → Bool
 isTaken (refused n) = false
 isTaken made = false

@@ -4,6 +4,7 @@ pub mod Group
 pub mod Statement
 pub mod Journals
 pub mod Tickets
+pub mod OutSlots
 -- what holds with no premise
 pub mod Handed
 pub mod SixRows

@@ -64,13 +64,17 @@ nextBlock1 = blockOf (record { kind = 1; sender = 1; replicas = 3; slot = 1; rec
 abbrev pub toNotice : List CallAt
 toNotice = at 0 (send noBlock ∷ []) ++ at 1 (deliver nextBlock ∷ work ∷ [])
 
--- a restart of replica 1 from both, lent those notices
-abbrev pub restartLent : List Notice → List CallAt
-restartLent l = record { at = 1; does = restart 3 1 start (nextBlock ++ nextBlock1) l noBlock } ∷ []
+-- a restart of replica 1 from a journal, lent those notices
+abbrev pub restartLent : List ℕ → List Notice → List CallAt
+restartLent journal l = record { at = 1; does = restart 3 1 start journal l noBlock } ∷ []
 
--- replica 1 takes a notice about slot 0, which station 3 has left without it
+-- the *next* of slot 2
+abbrev pub nextBlock2 : List ℕ
+nextBlock2 = blockOf (record { kind = 1; sender = 2; replicas = 3; slot = 2; records = [] })
+
+-- replica 2 takes a notice with slot 0, which station 3 has left without it
 abbrev pub stationAhead : List CallAt
-stationAhead = at 0 (send noBlock ∷ []) ++ (at 3 (deliver nextBlock ∷ work ∷ []) ++ at 1 (notice (outFrom 0 0) ∷ []))
+stationAhead = at 0 (send noBlock ∷ []) ++ (at 3 (deliver nextBlock ∷ work ∷ []) ++ at 2 (notice (outFrom 1 0) ∷ []))
 
 -- replica 1 takes one about slot 0, whose block was handed out, and passes the slot
 abbrev pub outHanded : List CallAt
@@ -127,10 +131,11 @@ pub record RightGroup : Type 0 where
   pub no-floor : after toNotice .disks 1 ≡ disk nextBlock 0
   pub notice-floor : after (toNotice ++ at 1 (notice (outFrom 1 1) ∷ [])) .disks 1 ≡ disk nextBlock 512
   pub out-floor : after (toNotice ++ at 1 (notice (outFrom 1 1) ∷ work ∷ [])) .disks 1 ≡ disk (nextBlock ++ nextBlock1) 1024
-  pub restart-floor : after (restartLent (outFrom 1 1 ∷ [])) .disks 1 ≡ disk (nextBlock ++ nextBlock1) 1024
+  pub restart-floor : after (restartLent (nextBlock ++ (nextBlock1 ++ nextBlock2)) (outFrom 1 1 ∷ [])) .disks 1 ≡ disk (nextBlock ++ (nextBlock1 ++ nextBlock2)) 1024
+  pub floor-kept : after (toNotice ++ (at 1 (notice (outFrom 2 5) ∷ []) ++ restartLent nextBlock (outFrom 2 5 ∷ []))) .disks 1 ≡ disk nextBlock 512
   pub taken : after (at 1 (notice (outFrom 2 5) ∷ notice (outFrom 2 6) ∷ notice (outFrom 0 3) ∷ [])) .taken 1 ≡ outFrom 2 5 ∷ outFrom 0 3 ∷ []
   -- a restart that is accepted was lent the notices taken
-  pub other-notices : Premise 3 start (restartLent (outFrom 1 1 ∷ [])) → ⊥
+  pub other-notices : Premise 3 start (restartLent [] (outFrom 1 1 ∷ [])) → ⊥
   -- no station stands above a notice that it lacks
   pub station-ahead : Premise 3 start stationAhead → ⊥
   -- no block was handed out for an out slot

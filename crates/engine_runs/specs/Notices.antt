@@ -1,7 +1,7 @@
 -- Document 02's Req 10, worked: what lists of calls with notices answer at a replica just made, and what a restart gives back.
 use Prim.Native.Nat.{ℕ}
 use mathlib.Core.Path.{_≡_}
-use mathlib.Core.Bool.{true, false}
+use mathlib.Core.Bool.{true}
 use mathlib.Core.List.{List, [], _∷_, _++_}
 use lib.IntN.{pos}
 use lib.ListN.{replicate, drop}

@@ -1,18 +1,17 @@
 -- There is a first own slot after a turn that a list of calls does not pass as out. Assumes nothing.
 use Prim.Native.Nat.{ℕ, zero, suc, _+_, _-_, _≤_, _<_, max}
-use mathlib.Core.Path.{_≡_, refl, sym, ap, _∙_}
+use mathlib.Core.Path.{_≡_, refl}
 use mathlib.Core.Bool.{Bool, true, false, not, _&&_}
 use mathlib.Core.List.{List, [], _∷_}
 use native.Mathlib.Omega.{arith}
 use lib.Dec.{eqb}
-use borrow.Author.Tests.{eqb-true, eq-eqb, ne-eqb, not-true, not-false}
+use borrow.Author.Tests.{eqb-true, eq-eqb, not-true}
 use Rattle.block.proofs.BoolLaws.{both, joined, not-so}
 use Rattle.memory.specs.Memory.{Memory, ownerAt}
 use Rattle.engine.specs.History.{AnyCall, anyStep}
 use Rattle.engine.specs.History.AnyCall.{call, restart}
 use Rattle.engine.proofs.Tests.{bool-by, same-by, clash}
 use Rattle.engine.proofs.PlaceLaws.{own-slot}
-use Rattle.engine.proofs.Passed.{neither}
 use Rattle.engine_waiting.specs.Waiting.{leavesOut, passedOut, FirstSlot}
 
 -- the first number from a on that passes a test

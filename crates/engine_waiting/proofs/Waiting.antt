@@ -1,5 +1,5 @@
 -- How long a change may wait. Assumes nothing.
-use Prim.Native.Nat.{ℕ, _+_, _≤_, _<_}
+use Prim.Native.Nat.{ℕ, _≤_, _<_}
 use mathlib.Core.Path.{_≡_, sym, ap, _∙_}
 use mathlib.Core.Bool.{true, false, not}
 use mathlib.Core.List.{List, [], _∷_}
@@ -24,7 +24,7 @@ use Rattle.engine.specs.Shape.{Shape}
 use Rattle.engine.specs.History.{noCalls, counted, AnyCall, anyStep, afterAll}
 use Rattle.engine.specs.History.AnyCall.{call, restart}
 use Rattle.engine_waiting.specs.Waiting.{isOpenAs, endsAll, openAfter, leavesOut, passedOut, EndsBy, FirstSlot, Waiting}
-use Rattle.engine.proofs.Tests.{same-by, less-by, clash}
+use Rattle.engine.proofs.Tests.{same-by, clash}
 use Rattle.engine.proofs.PlaceLaws.{own-slot}
 use Rattle.engine.proofs.RowLaws.{row-found}
 use Rattle.engine.proofs.Steps.{ask-by, restart-by}
