@@ -123,7 +123,7 @@ typedef struct stemline_replica {
 /* ---- What a take answers */
 
 /* The most steps of one take, and the most slots that it leaves: 6 blocks wait at most, of 6 writesets
- * each, and behind them come at most 5 slots that are out, while not all replicas are out at once. */
+ * each, and 5 slots that are out may come behind them. Where more are out, it waits still: work on. */
 #define STEMLINE_STEPS 41
 #define STEMLINE_LEFT 11 /* so many blocks are there at most to append */
 
@@ -352,8 +352,8 @@ static inline bool stemline_replica_waits(const stemline_replica *r) {
  * Refused by 1, 14, 15, 16, 17, 29, 18, 19, 20, as the deliver is: nothing is worked,
  * and what waits already goes on waiting. So it is with a block that comes a
  * second time (17 or 20), which a host may pass over.
- * Only altered memory, and slots of which all are out, lead to more than STEMLINE_STEPS
- * steps or STEMLINE_LEFT slots; the rest is left to the next take.
+ * Where STEMLINE_STEPS steps or STEMLINE_LEFT slots are not enough, as on altered memory, or
+ * with many slots out one behind the other, something waits still: work while it does.
  * The reply is written into the lent one; behind count and append_count it stays as
  * it is. It does not lie in r. */
 static inline void stemline_replica_take_into(

@@ -20,8 +20,8 @@
  *   where that is 0 the block is handed out.
  * - work and take: what they give to append goes to stemline_journal_append, in
  *   order, before the block of the next send. Of a slot that is out it is durable then.
- * - out and back: stemline_replica_out or _back, then stemline_journal_notice; only where
- *   that is 0 the notice is taken. The notices stand in a file beside the journal, with
+ * - out and back: stemline_replica_out or _back, then stemline_journal_notice; where that
+ *   is 0 the notice is taken, where not the next open says whether it is. The notices stand in a file beside the journal, with
  *   `.notices` behind its name, and an open puts them in force again; where they are lost or
  *   damaged, it is an error.
  *

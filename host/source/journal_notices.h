@@ -31,10 +31,10 @@ static void put_notices_front(uint8_t front[NOTICES_FRONT], const uint8_t *plain
 /* Puts a notice in force, behind all others. */
 static void put_notice(stemline_journal *j, const stemline_notice *notice) {
     if (notice->replica < STEMLINE_REPLICAS) {
-        if (notice->out == 1) {
+        if (notice->out != 0) {
             j->outages.from[notice->replica] = notice->slot;
         }
-        j->outages.until[notice->replica] = notice->out == 1 ? STEMLINE_SLOTS : notice->slot;
+        j->outages.until[notice->replica] = notice->out != 0 ? STEMLINE_SLOTS : notice->slot;
     }
     j->taken++;
 }
@@ -198,7 +198,7 @@ static int append_notice(stemline_journal *j, const stemline_notice *notice) {
     uint8_t record[NOTICE];
     off_t end = notice_place(j->taken);
     put(record, notice->replica, 4);
-    put(record + 4, notice->out, 4);
+    put(record + 4, notice->out != 0, 4);
     put(record + 8, notice->slot, 4);
     put(record + 12, j->blocks, 4);
     uint64_t now = digest(j->notices_digest, record, 16);

@@ -113,8 +113,8 @@ pub const WRITTEN: usize = 48;
 pub const SNAPSHOTS: usize = 768;
 /// Bytes of a block. The places have so many for each replica of the group.
 pub const BLOCK: usize = 512;
-/// The most steps of one [`Replica::take`], while not all replicas are out at once: 6 blocks wait at most, of
-/// 6 writesets each, and behind them come at most 5 slots that are out.
+/// The most steps of one [`Replica::take`]: 6 blocks wait at most, of 6 writesets each, and 5 slots that are
+/// out may come behind them. Where more are out, it waits still: work on.
 pub const STEPS: usize = 41;
 /// The most slots that one [`Replica::take`] leaves, so: 6 with a block, and 5 that are out.
 pub const LEFT: usize = 11;

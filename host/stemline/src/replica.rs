@@ -294,8 +294,8 @@ impl Replica {
     /// already goes on waiting. So it is with a block that comes a second time (17 or 20), which a
     /// host may pass over.
     ///
-    /// Only altered memory, and slots of which all are out, lead to more than [`STEPS`] steps or [`LEFT`]
-    /// slots; the rest is left to the next take.
+    /// Where [`STEPS`] steps or [`LEFT`] slots are not enough, as on altered memory, or with many slots out
+    /// one behind the other, something waits still: work while it does.
     pub fn take(&mut self, bytes: &[u8]) -> Result<Taken, Refusal> {
         self.deliver(bytes)?;
         Ok(works(self, Replica::waits, Replica::work, |work| {
