@@ -21,9 +21,8 @@ static void must(uint8_t number, const char *what) {
 
 /* Works until nothing waits: behind a notice the turn may stand at a slot that is out. */
 static void work(stemline_replica *r) {
-    uint8_t journaled[STEMLINE_BLOCK];
     while (stemline_replica_waits(r)) {
-        must(stemline_replica_work(r, journaled).number, "work");
+        must(stemline_replica_work(r).number, "work");
     }
 }
 

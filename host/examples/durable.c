@@ -34,8 +34,8 @@ static void must(uint8_t number, const char *what) {
 
 /* A block arrives. One that was taken before is refused, and passed over. */
 static void take(durable *d, const uint8_t block[STEMLINE_BLOCK]) {
-    stemline_take_reply taken = stemline_replica_take(&d->r, block, STEMLINE_BLOCK);
-    must_keep(stemline_journal_append(&d->j, taken.append[0], taken.append_count), &d->j);
+    stemline_replica_take(&d->r, block, STEMLINE_BLOCK);
+    must_keep(stemline_journal_append(&d->j, &d->r), &d->j);
 }
 
 static void hand_out(const uint8_t block[STEMLINE_BLOCK]) {

@@ -18,25 +18,26 @@
  * A studio that is closed holds nobody up: when the membership service says to all replicas and
  * stations *out k from v* and *back k at w*, each takes that by stemline_replica_out and
  * stemline_replica_back, and works until nothing waits. Slots of k from v on, before w, need no
- * block. host/README.md ("What a membership service must do") says what the service sees to.
+ * block. host/README.md ("What a membership service must do") says what the service sees to. When
+ * it is open again it takes what it missed from another's window: stemline_window.h.
  *
  * A station holds the same values and only reads. stemline_replica_make_station makes
  * a stemline_replica one, at which nobody writes or sends. It takes no turn:
  *
  * - It gets every block of the group from slot 0 on, as often as you like, in any
  *   order, by stemline_replica_take, and sends none.
- * - Nobody waits for it, so it may fall behind and be refused a block by 18 that was
- *   handed out. Keep that block, and offer it again when the station's turn has come
- *   nearer. (A replica is waited for: there 18 does not arise of blocks that its group
- *   handed out, and a block refused so may be dropped.)
- * - It has no journal and no restart. After a cut of the power it is made anew, with
- *   the values that the group started with, and needs all blocks from slot 0 on. A
- *   replica's journal, as far as it is durable, has them in order.
+ * - Nobody waits for it, so it may fall behind and be refused a block by 18 that was handed
+ *   out. Keep that block, and offer it again when the station's turn has come nearer. (A
+ *   replica is waited for: no block that its group handed out is refused so there.)
+ * - It has no journal and no restart. After a cut of the power it is made anew, with the
+ *   values that the group started with, and needs all blocks from slot 0 on. A replica's
+ *   journal, as far as it is durable, has them in order.
  *
  * A replica that is to outlast a cut of the power has a journal: a file of blocks,
  * one behind the other, which the host keeps. stemline_journal.h does that. Who keeps
  * one by other means hands no block of a send out before it is appended and durable
- * (fsync), and appends what works and takes give, in order, before the next of these;
+ * (fsync), and before the next of these appends what works, takes and givings have left:
+ * the window's blocks of the slots from the journal's number of blocks on up to the turn.
  * host/README.md ("The journal") has all steps, also for a disk that fails.
  *
  * A call answers 0 where it is accepted, else the number of the first condition
@@ -46,7 +47,7 @@
  *
  * host/examples/first.c is a whole program, host/examples/story.c a longer one,
  * host/examples/durable.c one with a journal, host/examples/print_room.c one with a
- * station.
+ * station, host/examples/holiday.c one with a studio that was closed.
  *
  * Calls at one replica come one after the other. Who keeps the parts of a replica
  * elsewhere than in a stemline_replica lends each call those that it needs: see
@@ -91,10 +92,12 @@ static inline const char *stemline_words(int number) {
     case STEMLINE_SLOT_TAKEN: return "a block for this slot waits already";
     case STEMLINE_NOTHING_WAITS: return "no block waits for the turn";
     case STEMLINE_LOAD_WHILE_APPLYING: return "classes are loaded while a block of another replica is being applied";
-    case STEMLINE_STATION_ONLY_READS: return "a station neither writes nor sends";
+    case STEMLINE_STATION_ONLY_READS: return "a station neither writes nor sends nor is given blocks";
     case STEMLINE_NOTICE_REFUSED:
         return "the notice does not fit the turn, the notices taken before or a block that is here";
     case STEMLINE_SLOT_OUT: return "the slot is out by a notice";
+    case STEMLINE_NOBODY_UP: return "no other replica is up";
+    case STEMLINE_WINDOW_LACKS: return "the giver's window lacks a block of a slot up to its turn";
     default: return "refused by an unknown number";
     }
 }
@@ -118,6 +121,7 @@ typedef struct stemline_replica {
     /* the block that waits for slot s, at place s mod n; its first byte is 0 where none does */
     uint8_t places[STEMLINE_BLOCK * STEMLINE_REPLICAS];
     uint8_t outbox[STEMLINE_BLOCK]; /* the block sent last */
+    uint8_t window[STEMLINE_WINDOW]; /* the last 64 blocks that the turn has left */
 } stemline_replica;
 
 /* ---- What a take answers */
@@ -125,14 +129,12 @@ typedef struct stemline_replica {
 /* The most steps of one take, and the most slots that it leaves: 6 blocks wait at most, of 6 writesets
  * each, and 5 slots that are out may come behind them. Where more are out, it waits still: work on. */
 #define STEMLINE_STEPS 41
-#define STEMLINE_LEFT 11 /* so many blocks are there at most to append */
+#define STEMLINE_LEFT 11
 
 typedef struct stemline_take_reply {
     uint8_t number;  /* the deliver's: a take is refused where its deliver is */
     uint8_t count;   /* how many of steps count */
     stemline_work_reply steps[STEMLINE_STEPS];
-    uint8_t append_count; /* how many blocks of append count */
-    uint8_t append[STEMLINE_LEFT][STEMLINE_BLOCK]; /* for the journal, in order */
 } stemline_take_reply;
 
 /* Whose slot it is in a group of n: the number of the replica that sends for it. */
@@ -157,9 +159,8 @@ static inline void stemline_same_version(void) {
     (void)*(const volatile char *)stemline_linked_version();
 }
 
-/* The bytes of the places that a call is lent for a group of n. For an n above 6
- * they are all that there are, and make and restart are refused by 2, write, deliver
- * and work by 1. */
+/* The bytes of the places that a call is lent for a group of n. For an n above 6 they are
+ * all that there are: make and restart are refused by 2, write, deliver and work by 1. */
 static inline size_t stemline_lent_places(uint32_t n) {
     return STEMLINE_PLACES(n < STEMLINE_REPLICAS ? n : STEMLINE_REPLICAS);
 }
@@ -173,7 +174,8 @@ static inline uint8_t stemline_replica_make(
         r->table, STEMLINE_TABLE, &r->group, &r->turn, &r->counts, n, own, start, STEMLINE_ITEMS,
         r->queue, STEMLINE_QUEUE, r->items, STEMLINE_WRITTEN, r->writes, STEMLINE_WRITTEN,
         r->snapshots, STEMLINE_SNAPSHOTS, r->values, STEMLINE_ITEMS, r->stamps, STEMLINE_ITEMS,
-        r->classes, STEMLINE_ITEMS, r->places, stemline_lent_places(n), r->outbox, STEMLINE_BLOCK);
+        r->classes, STEMLINE_ITEMS, r->places, stemline_lent_places(n), r->outbox, STEMLINE_BLOCK,
+        r->window, STEMLINE_WINDOW);
 }
 
 /* Makes r a station of a group of n, 2 to 6, with the 128 values that the group starts
@@ -181,9 +183,9 @@ static inline uint8_t stemline_replica_make(
  * run at it as at a replica to which every sender is another, and none of its
  * transactions writes, so that an ask ends it on the spot and no work aborts it. Write
  * and send are refused by 25. A station has no classes: a load there is answered as at
- * a replica and changes nothing that a station answers. What a work or a take gives to
- * append is for journals, and may be dropped. As with a make, what r held before is no
- * matter, and stays where this is refused. Refused by 2. */
+ * a replica and changes nothing that a station answers. What a work says of appending is
+ * for journals. As with a make, what r held before is no matter, and stays where this is
+ * refused. Refused by 2. */
 static inline uint8_t stemline_replica_make_station(
     stemline_replica *r, uint32_t n, const int32_t start[STEMLINE_ITEMS]) {
     stemline_same_version();
@@ -191,18 +193,19 @@ static inline uint8_t stemline_replica_make_station(
         r->table, STEMLINE_TABLE, &r->group, &r->turn, &r->counts, n, start, STEMLINE_ITEMS,
         r->queue, STEMLINE_QUEUE, r->items, STEMLINE_WRITTEN, r->writes, STEMLINE_WRITTEN,
         r->snapshots, STEMLINE_SNAPSHOTS, r->values, STEMLINE_ITEMS, r->stamps, STEMLINE_ITEMS,
-        r->classes, STEMLINE_ITEMS, r->places, stemline_lent_places(n), r->outbox, STEMLINE_BLOCK);
+        r->classes, STEMLINE_ITEMS, r->places, stemline_lent_places(n), r->outbox, STEMLINE_BLOCK,
+        r->window, STEMLINE_WINDOW);
 }
 
 /* As a make, with the values that the group started with; then commits the blocks
  * of a journal, up to the first that is torn, fails its check or form, has another n
  * or is not of the next slot. Transactions that were open are gone; tickets go on
- * above the highest in its own blocks; classes are to be loaded anew. The notices
- * are all that were taken, in order, and are put in force untested. The block
- * given back is the last own one of those committed whose slot they do not put out, to
- * be handed out once more, or 512 zeros if there is none.
- * The journal may have any length; with length 0 it may be null, and so may the notices
- * with count 0. Refused by 2. */
+ * above the highest in its own blocks; classes are to be loaded anew; the window has the
+ * last 64 blocks committed. The notices are all that were taken, in order, and are put in
+ * force untested. The block given back is the last own one of those committed whose slot
+ * they do not put out, to be handed out once more, or 512 zeros if there is none. The
+ * journal may have any length; with length 0 it may be null, and so may the notices with
+ * count 0. Refused by 2. */
 static inline stemline_restart_reply stemline_replica_restart(
     stemline_replica *r, uint32_t n, uint32_t own, const int32_t start[STEMLINE_ITEMS],
     const uint8_t *journal, size_t length, const stemline_notice *notices, size_t count,
@@ -214,7 +217,7 @@ static inline stemline_restart_reply stemline_replica_restart(
         r->queue, STEMLINE_QUEUE, r->items, STEMLINE_WRITTEN, r->writes, STEMLINE_WRITTEN,
         r->snapshots, STEMLINE_SNAPSHOTS, r->values, STEMLINE_ITEMS, r->stamps, STEMLINE_ITEMS,
         r->classes, STEMLINE_ITEMS, r->places, stemline_lent_places(n), r->outbox, STEMLINE_BLOCK,
-        length > 0 ? journal : (const uint8_t *)"", length,
+        r->window, STEMLINE_WINDOW, length > 0 ? journal : (const uint8_t *)"", length,
         (const uint32_t *)(count > 0 ? notices : &none), 3 * count, block, STEMLINE_BLOCK);
 }
 
@@ -285,10 +288,9 @@ static inline uint8_t stemline_replica_send(stemline_replica *r, uint8_t block[S
         block, STEMLINE_BLOCK);
 }
 
-/* Keeps a block until its slot is the turn. A station is to be offered a block again
- * that it refused by 18, and so is a replica that is out or was; one that is refused by 29
- * where a Back is still to be taken.
- * Refused by 1, 14, 15, 16, 17, 29, 18, 19, 20; 19 never at a station. */
+/* Keeps a block until its slot is the turn. A station is to be offered a block again that it
+ * refused by 18, and so is a replica that is out or was; one that is refused by 29 where a Back
+ * is still to be taken. Refused by 1, 14, 15, 16, 17, 29, 18, 19, 20; 19 never at a station. */
 static inline uint8_t stemline_replica_deliver(
     stemline_replica *r, const uint8_t *bytes, size_t length) {
     return stemline_deliver(
@@ -297,26 +299,24 @@ static inline uint8_t stemline_replica_deliver(
 }
 
 /* Takes one step at the block of the turn: commits its next writeset, or passes
- * over a block without records, or over a slot that is out. Where the turn leaves another's
- * slot, the block that stood there is written to block and append is true: it goes to the
- * journal. Of a slot that is out, be it an own one, that is its next, which is durable before
- * anything goes on. Else block stays as it is. Refused by 1, 21. */
-static inline stemline_work_reply stemline_replica_work(
-    stemline_replica *r, uint8_t block[STEMLINE_BLOCK]) {
+ * over a block without records, or over a slot that is out. Where the turn leaves a slot,
+ * the window gets its block, or its next where it is out. Where append is true, that of
+ * turn - 1 goes to the journal, from the window: it is another's, or a next, which is
+ * durable before anything goes on, be the slot an own one. Refused by 1, 21. */
+static inline stemline_work_reply stemline_replica_work(stemline_replica *r) {
     return stemline_work(
         r->table, STEMLINE_TABLE, &r->group, &r->turn, &r->counts, r->queue, STEMLINE_QUEUE,
         r->items, STEMLINE_WRITTEN, r->values, STEMLINE_ITEMS, r->stamps, STEMLINE_ITEMS,
-        r->places, stemline_lent_places(r->group.replicas), block, STEMLINE_BLOCK);
+        r->places, stemline_lent_places(r->group.replicas), r->window, STEMLINE_WINDOW);
 }
 
 /* Gives each of the 128 items a conflict class, 1 to 8, in the place of the ones
  * that it had. While a block of another is applied, writeset by writeset, only items
  * wait (7) whose class holds an item of a writeset still to be applied. After a make
  * and after a restart all items are of one class. Classes are the host's own matter:
- * they go into no block and no journal, and each replica of a group may have others.
- * A station has no classes: a load there is answered as at a replica and changes
- * nothing that a station answers.
- * Refused by 1, 2, 23. */
+ * they go into no block and no journal, and each replica of a group may have others. A
+ * station has no classes: a load there is answered as at a replica and changes nothing that
+ * a station answers. Refused by 1, 2, 23. */
 static inline uint8_t stemline_replica_load(
     stemline_replica *r, const uint8_t *classes, size_t length) {
     return stemline_load(&r->turn, r->classes, STEMLINE_ITEMS, classes, length);
@@ -345,37 +345,44 @@ static inline bool stemline_replica_waits(const stemline_replica *r) {
         || stemline_is_out(&r->group, slot);
 }
 
-/* What a replica does with a block that arrives: delivers it, then works until
- * nothing waits for the turn. Gives the steps in their order: none where the
- * block is early and has to wait; those of blocks that waited already too, where
- * this is the one that they waited for. The blocks to append go to the journal.
- * Refused by 1, 14, 15, 16, 17, 29, 18, 19, 20, as the deliver is: nothing is worked,
- * and what waits already goes on waiting. So it is with a block that comes a
- * second time (17 or 20), which a host may pass over.
- * Where STEMLINE_STEPS steps or STEMLINE_LEFT slots are not enough, as on altered memory, or
- * with many slots out one behind the other, something waits still: work while it does.
- * The reply is written into the lent one; behind count and append_count it stays as
- * it is. It does not lie in r. */
-static inline void stemline_replica_take_into(
-    stemline_replica *r, const uint8_t *bytes, size_t length, stemline_take_reply *reply) {
-    reply->number = stemline_replica_deliver(r, bytes, length);
-    reply->count = 0;
-    reply->append_count = 0;
-    bool waits = reply->number == STEMLINE_ACCEPTED && stemline_replica_waits(r);
+/* Works while something waits, up to so many steps and slots. */
+static inline void stemline_replica_works(
+    stemline_replica *r, int most_steps, int most_slots, stemline_take_reply *reply) {
+    bool waits = stemline_replica_waits(r);
     int left = 0;
-    while (waits && reply->count < STEMLINE_STEPS && left < STEMLINE_LEFT) {
-        stemline_work_reply work = stemline_replica_work(r, reply->append[reply->append_count]);
+    while (waits && reply->count < most_steps && left < most_slots) {
+        stemline_work_reply work = stemline_replica_work(r);
         if (work.number != STEMLINE_ACCEPTED) {
             break; /* 21: behind a deliver no work of this struct is refused by another */
         }
         reply->steps[reply->count++] = work;
-        reply->append_count = (uint8_t)(reply->append_count + work.append);
         left += work.moved;
         waits = !work.moved || stemline_replica_waits(r);
     }
 }
 
-/* As stemline_replica_take_into, with the reply given back, and zeros behind its counts. */
+/* What a replica does with a block that arrives: delivers it, then works until
+ * nothing waits for the turn. Gives the steps in their order: none where the
+ * block is early and has to wait; those of blocks that waited already too, where
+ * this is the one that they waited for. The blocks of the slots that they leave go to
+ * the journal, from the window.
+ * Refused by 1, 14, 15, 16, 17, 29, 18, 19, 20, as the deliver is: nothing is worked,
+ * and what waits already goes on waiting. So it is with a block that comes a
+ * second time (17 or 20), which a host may pass over.
+ * Where STEMLINE_STEPS steps or STEMLINE_LEFT slots are not enough, as on altered memory, or
+ * with many slots out one behind the other, something waits still: work while it does.
+ * The reply is written into the lent one; behind its count it stays as it is. It does not
+ * lie in r. */
+static inline void stemline_replica_take_into(
+    stemline_replica *r, const uint8_t *bytes, size_t length, stemline_take_reply *reply) {
+    reply->number = stemline_replica_deliver(r, bytes, length);
+    reply->count = 0;
+    if (reply->number == STEMLINE_ACCEPTED) {
+        stemline_replica_works(r, STEMLINE_STEPS, STEMLINE_LEFT, reply);
+    }
+}
+
+/* As stemline_replica_take_into, with the reply given back, and zeros behind its count. */
 static inline stemline_take_reply stemline_replica_take(
     stemline_replica *r, const uint8_t *bytes, size_t length) {
     stemline_take_reply reply;
@@ -387,5 +394,7 @@ static inline stemline_take_reply stemline_replica_take(
 #ifdef __cplusplus
 }
 #endif
+
+#include "stemline_window.h"
 
 #endif

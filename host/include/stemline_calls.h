@@ -49,6 +49,9 @@ static inline const char *stemline_linked_version(void) {
 #define STEMLINE_WRITTEN 48      /* written items of all rows, 8 for each; as many values beside them */
 #define STEMLINE_SNAPSHOTS 768   /* values of all snapshots, 128 for each row */
 #define STEMLINE_BLOCK 512       /* bytes of a block */
+#define STEMLINE_KEPT 64         /* blocks of a window: the last that the turn has left */
+#define STEMLINE_WINDOW 32768    /* bytes of a window; the block of slot s is from STEMLINE_BLOCK * (s mod 64) on */
+#define STEMLINE_DOWN 4294967295u /* in the place of a turn that is told: its replica is down */
 #define STEMLINE_NO_NUMBER 255   /* in the place of an own number: a station, which only reads */
 /* bytes of the places of n replicas */
 #define STEMLINE_PLACES(n) (STEMLINE_BLOCK * (size_t)(n))
@@ -83,7 +86,9 @@ enum stemline_number {
     STEMLINE_STATION_ONLY_READS = 25,
     /* 26 and 27 are the program week's. */
     STEMLINE_NOTICE_REFUSED = 28,
-    STEMLINE_SLOT_OUT = 29
+    STEMLINE_SLOT_OUT = 29,
+    STEMLINE_NOBODY_UP = 30,
+    STEMLINE_WINDOW_LACKS = 31
 };
 
 /* ---- What a replica holds, beside arrays of numbers */
@@ -126,7 +131,7 @@ typedef struct stemline_counts {
     uint32_t committed, read_only, aborted, withdrawn; /* how own transactions ended */
 } stemline_counts;
 
-/* ---- What a call answers. All but the number is 0 where it is refused. */
+/* ---- What a call answers. All but the number is 0 where it is refused; only of a giving see below. */
 
 typedef struct stemline_begin_reply {
     uint8_t number;
@@ -161,8 +166,23 @@ typedef struct stemline_work_reply {
     uint8_t count;   /* how many of aborted count */
     uint32_t ticket; /* of the writeset committed; 0 for a block without records, and for a slot that is out */
     uint32_t aborted[STEMLINE_TABLE]; /* own tickets aborted, rising, zeros behind */
-    bool append;     /* the turn left another's slot, or any that is out: the lent block is to be appended */
+    /* the turn left another's slot, or any that is out: the window's block of that slot, turn - 1, is to be
+     * appended to the journal */
+    bool append;
 } stemline_work_reply;
+
+typedef struct stemline_giver_reply {
+    uint8_t number;
+    uint8_t giver; /* whose window is to be lent */
+} stemline_giver_reply;
+
+/* Refused by 31, it names the giver; where a deliver was refused, which ended it, the tickets too. */
+typedef struct stemline_give_reply {
+    uint8_t number;
+    uint8_t giver;
+    uint8_t count; /* how many of aborted count */
+    uint32_t aborted[STEMLINE_TABLE]; /* own tickets aborted, rising, zeros behind */
+} stemline_give_reply;
 
 typedef struct stemline_restart_reply {
     uint8_t number;
@@ -206,12 +226,15 @@ typedef struct stemline_entry_values {
  * classes, given              STEMLINE_ITEMS
  * places                      STEMLINE_PLACES(n)
  * outbox, block, bytes        STEMLINE_BLOCK
+ * window, lent                STEMLINE_WINDOW
+ * turns                       n
  * journal                     any
  * notices                     three for each: those of a stemline_notice
  *
  * Any other length is refused by 1, before anything else is tested; only at a station
- * a write and a send are refused by 25 before that. At a make, of a station too, and
- * at a restart with an n out of range the places may have any length.
+ * a write and a send are refused by 25 before that, who gives too, and a giving but for its
+ * table. At a make, of a station too, and at a restart with an n out of range the places may
+ * have any length.
  *
  * A station has no classes: a load there is answered as at a replica and changes
  * nothing that a station answers. */
@@ -224,7 +247,8 @@ uint8_t stemline_make(
     int32_t *writes, size_t writes_length, int32_t *snapshots, size_t snapshots_length,
     int32_t *values, size_t values_length, uint32_t *stamps, size_t stamps_length,
     uint8_t *classes, size_t classes_length,
-    uint8_t *places, size_t places_length, uint8_t *outbox, size_t outbox_length);
+    uint8_t *places, size_t places_length, uint8_t *outbox, size_t outbox_length,
+    uint8_t *window, size_t window_length);
 
 uint8_t stemline_make_station(
     stemline_txn *table, size_t table_length, stemline_group *group,
@@ -234,7 +258,8 @@ uint8_t stemline_make_station(
     int32_t *writes, size_t writes_length, int32_t *snapshots, size_t snapshots_length,
     int32_t *values, size_t values_length, uint32_t *stamps, size_t stamps_length,
     uint8_t *classes, size_t classes_length,
-    uint8_t *places, size_t places_length, uint8_t *outbox, size_t outbox_length);
+    uint8_t *places, size_t places_length, uint8_t *outbox, size_t outbox_length,
+    uint8_t *window, size_t window_length);
 
 stemline_restart_reply stemline_restart(
     stemline_txn *table, size_t table_length, stemline_group *group,
@@ -245,6 +270,7 @@ stemline_restart_reply stemline_restart(
     int32_t *values, size_t values_length, uint32_t *stamps, size_t stamps_length,
     uint8_t *classes, size_t classes_length,
     uint8_t *places, size_t places_length, uint8_t *outbox, size_t outbox_length,
+    uint8_t *window, size_t window_length,
     const uint8_t *journal, size_t journal_length, const uint32_t *notices, size_t notices_length,
     uint8_t *block, size_t block_length);
 
@@ -298,7 +324,19 @@ stemline_work_reply stemline_work(
     stemline_turn *turn, stemline_counts *counts,
     uint32_t *queue, size_t queue_length, const uint8_t *items, size_t items_length,
     int32_t *values, size_t values_length, uint32_t *stamps, size_t stamps_length,
-    uint8_t *places, size_t places_length, uint8_t *block, size_t block_length);
+    uint8_t *places, size_t places_length, uint8_t *window, size_t window_length);
+
+stemline_giver_reply stemline_giver(
+    const stemline_group *group, const uint32_t *turns, size_t turns_length);
+
+stemline_give_reply stemline_give(
+    stemline_txn *table, size_t table_length, const stemline_group *group,
+    stemline_turn *turn, stemline_counts *counts,
+    uint32_t *queue, size_t queue_length, const uint8_t *items, size_t items_length,
+    int32_t *values, size_t values_length, uint32_t *stamps, size_t stamps_length,
+    uint8_t *places, size_t places_length, const uint8_t *outbox, size_t outbox_length,
+    uint8_t *window, size_t window_length, const uint32_t *turns, size_t turns_length,
+    const uint8_t *lent, size_t lent_length);
 
 uint8_t stemline_load(
     const stemline_turn *turn, uint8_t *classes, size_t classes_length,

@@ -18,8 +18,9 @@
  *   512 zeros; every other replica hands its last one out once more too.
  * - send: stemline_replica_send, then stemline_journal_send with its block; only
  *   where that is 0 the block is handed out.
- * - work and take: what they give to append goes to stemline_journal_append, in
- *   order, before the block of the next send. Of a slot that is out it is durable then.
+ * - work, take, take_slot and give: stemline_journal_append behind each, also behind a
+ *   giving that a deliver's refusal ended; only where that is 0 what they answer is used.
+ *   Of a slot that is out what it appends is durable then.
  * - out and back: stemline_replica_out or _back, then stemline_journal_notice; where that
  *   is 0 the notice is taken, where not the next open says whether it is. The notices stand in a file beside the journal, with
  *   `.notices` behind its name, and an open puts them in force again; where they are lost or
@@ -112,8 +113,9 @@ int stemline_journal_open(
     stemline_journal *j, stemline_replica *r, const char *path, const char *group,
     uint32_t n, uint32_t own, const int32_t start[STEMLINE_ITEMS], stemline_reopened *found);
 
-/* Appends blocks, 512 bytes each, as a take or a work gives them: of others, and of slots that are out. */
-int stemline_journal_append(stemline_journal *j, const uint8_t *blocks, size_t count);
+/* Appends the blocks of the slots that r's turn has left and the journal lacks, from r's window: others', and the
+ * next of each that is out. Nothing where there are none, as behind a call that was refused. */
+int stemline_journal_append(stemline_journal *j, const stemline_replica *r);
 
 /* Appends the block that a send gave, and makes all durable. */
 int stemline_journal_send(stemline_journal *j, const uint8_t block[STEMLINE_BLOCK]);

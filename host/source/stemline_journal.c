@@ -1,6 +1,6 @@
 /* A replica's journal in a file: see stemline_journal.h. Compile it with the program;
- * it includes journal_head.h, journal_disk.h and journal_notices.h, beside it. The steps
- * are those of host/stemline/src/journal.rs. */
+ * it includes journal_head.h, journal_disk.h, journal_notices.h and journal_outcome.h, beside
+ * it. The steps are those of host/stemline/src/journal.rs. */
 #define _DEFAULT_SOURCE /* flock */
 #define _DARWIN_C_SOURCE
 #define _FILE_OFFSET_BITS 64
@@ -20,6 +20,7 @@
 #include "journal_head.h"
 #include "journal_disk.h"
 #include "journal_notices.h"
+#include "journal_outcome.h"
 
 /* What the good blocks of a file amount to. */
 typedef struct tally {
@@ -299,8 +300,8 @@ static int append(stemline_journal *j, const uint8_t *block) {
     if (j->file < 0) {
         return fails(j, "go on with", "it failed before; open it anew");
     }
-    if (j->since_count == STEMLINE_REPLICAS) {
-        return fails(j, "append to", "a round has no more blocks");
+    if (!good_block(block, j->n, j->blocks)) {
+        return fails(j, "append to", "it is to get the block of slot %lu next", (unsigned long)j->blocks);
     }
     if (!write_at(j->file, block, STEMLINE_BLOCK, place(j->blocks))) {
         return failed(j, "append to");
@@ -309,14 +310,21 @@ static int append(stemline_journal *j, const uint8_t *block) {
     return 0;
 }
 
-int stemline_journal_append(stemline_journal *j, const uint8_t *blocks, size_t count) {
+int stemline_journal_append(stemline_journal *j, const stemline_replica *r) {
+    if (j->file < 0) {
+        return fails(j, "go on with", "it failed before; open it anew");
+    }
     int done = 0;
-    for (size_t k = 0; k < count && done == 0; k++) {
+    while (done == 0 && j->blocks < r->turn.slot) {
         uint32_t slot = j->blocks;
+        const uint8_t *block = stemline_window_block(r->window, slot);
+        if (block == NULL) {
+            return fails(j, "append to", "the window lacks slot %lu", (unsigned long)slot);
+        }
         if (stemline_owner(slot, j->n) == j->own) {
-            done = stemline_journal_send(j, blocks + STEMLINE_BLOCK * k); /* of a slot that is out */
+            done = stemline_journal_send(j, block); /* of a slot that is out */
         } else {
-            done = append(j, blocks + STEMLINE_BLOCK * k);
+            done = append(j, block);
             j->passed = j->passed || stemline_is_out(&j->outages, slot);
         }
     }
@@ -338,62 +346,6 @@ int stemline_journal_send(stemline_journal *j, const uint8_t block[STEMLINE_BLOC
 bool stemline_journal_digest(const stemline_journal *j, uint32_t turn, stemline_digest *digest) {
     *digest = j->digests[turn % STEMLINE_DIGESTS];
     return digest->turn == turn && turn <= j->blocks;
-}
-
-/* The place of the ticket in a writeset of these blocks, the first of a slot, behind so many commits; 0 where
- * no own block of them has it. Counts the commits on. Gives false at a block that is not as it was. */
-static bool find_place(
-    const stemline_journal *j, const uint8_t *blocks, uint32_t slot, uint32_t count, uint32_t ticket,
-    uint32_t *commits, uint32_t *place) {
-    for (uint32_t k = 0; k < count; k++) {
-        const uint8_t *block = blocks + STEMLINE_BLOCK * (size_t)k;
-        uint32_t records = block[3];
-        if (!good_block(block, j->n, slot + k)) {
-            return false;
-        }
-        for (uint32_t i = 0; (slot + k) % j->n == j->own && i < records; i++) {
-            if (stemline_block_record(block, STEMLINE_BLOCK, i).ticket == ticket) {
-                *place = *commits + i + 1;
-            }
-        }
-        *commits += records;
-    }
-    return true;
-}
-
-int stemline_journal_outcome(
-    stemline_journal *j, const stemline_replica *r, uint32_t ticket, stemline_outcome *outcome) {
-    static const uint32_t most = 128;
-    outcome->kind = STEMLINE_NOT_COMMITTED;
-    outcome->place = 0;
-    if (j->file < 0) {
-        return fails(j, "go on with", "it failed before; open it anew");
-    }
-    for (int row = 0; ticket != 0 && row < STEMLINE_TABLE; row++) {
-        if (r->table[row].ticket == ticket) {
-            const int kinds[] = {STEMLINE_IS_OPEN, STEMLINE_IS_ASKED, STEMLINE_IS_SENT};
-            outcome->kind = kinds[r->table[row].stage % 3];
-            return 0;
-        }
-    }
-    uint8_t *bytes = (uint8_t *)malloc(most * (size_t)STEMLINE_BLOCK);
-    bool good = bytes != NULL;
-    uint32_t commits = 0;
-    for (uint32_t slot = 0; good && outcome->place == 0 && slot < j->blocks; slot += most) {
-        uint32_t count = j->blocks - slot < most ? j->blocks - slot : most;
-        good = read_at(j->file, bytes, STEMLINE_BLOCK * (size_t)count, place(slot));
-        if (good && !find_place(j, bytes, slot, count, ticket, &commits, &outcome->place)) {
-            free(bytes);
-            return fails(j, "read", "a block of it is not as it was");
-        }
-    }
-    int why = errno;
-    free(bytes);
-    if (!good) {
-        return fails(j, "read", "%s", strerror(why));
-    }
-    outcome->kind = outcome->place > 0 ? STEMLINE_IS_COMMITTED : STEMLINE_NOT_COMMITTED;
-    return 0;
 }
 
 void stemline_journal_close(stemline_journal *j) {

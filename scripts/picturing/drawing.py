@@ -17,6 +17,7 @@ LEGEND = [
     ("pass", "passes over an empty block", lambda x, y: svg.pass_sign(x, y, svg.INK)),
     ("notice", "takes a notice", lambda x, y: svg.notice_sign(x, y)),
     ("out", "passes a slot that is out", lambda x, y: svg.out_sign(x, y, svg.INK)),
+    ("give", "is given what it missed", lambda x, y: svg.give_sign(x, y, svg.INK)),
     ("refusal", "refused: number and words", lambda x, y: svg.refusal_sign(x, y)),
     ("active", "transaction, active", lambda x, y: bar_sample(x, y, "#ffffff", 1)),
     ("asked", "asked", lambda x, y: bar_sample(x, y, svg.INK, 0.22)),

@@ -113,6 +113,8 @@ class History:
         # Notices taken: line, place, text; and slots passed as out: line, place, sender, slot.
         self.notices = []
         self.passed_out = []
+        # Givings that gave something: line, place, giver, first and last slot.
+        self.givings = []
         # Lines that are no calls, and calls that only look.
         self.unknown = []
         self.looks = []
@@ -259,23 +261,29 @@ class History:
         self.steps.append(Step(call.line, call.place, block, ticket, block.slot != place.turn))
         delivery.worked.append(call.line)
         if ticket:
-            place.commits += 1
-            self._set(call, block.records[delivery.done][1])
+            self.commit(call, place, sender, ticket, block.records[delivery.done][1])
             delivery.done += 1
-            if sender == place.own and ticket in place.open:
-                self._end(call, place.open[ticket], "committed")
         for hit in aborted:
-            transaction = place.open.get(hit)
-            if transaction is None:
-                raise at(call.line, f"aborts ticket {hit}, which is not open there")
-            self._end(call, transaction, "aborted")
-            self.aborts.append((call.line, transaction))
+            self.abort(call, place, hit)
         if moved:
             delivery.left = call.line
             place.waiting.remove(delivery)
             place.turn += 1
             if sender != place.own:
                 place.journal.append(block)
+
+    def commit(self, call, place, sender, ticket, writes):
+        place.commits += 1
+        self._set(call, writes)
+        if sender == place.own and ticket in place.open:
+            self._end(call, place.open[ticket], "committed")
+
+    def abort(self, call, place, ticket):
+        transaction = place.open.get(ticket)
+        if transaction is None:
+            raise at(call.line, f"aborts ticket {ticket}, which is not open there")
+        self._end(call, transaction, "aborted")
+        self.aborts.append((call.line, transaction))
 
     def _worked(self, call, place, sender, ticket):
         """The delivery that a work's answer speaks of: that of the turn, else the first that came."""

@@ -17,6 +17,10 @@ def short(text):
     return " ".join(f"{part[:8]}.." if len(part) > 24 else part for part in text.split(" ")[:12])
 
 
+def slots(first, last):
+    return f"slot {first}" if first == last else f"slots {first} to {last}"
+
+
 class Lanes:
     """The part of a history that is drawn in lanes."""
 
@@ -109,6 +113,8 @@ class Lanes:
             yield line, place, f"{number} {REFUSALS[number]}", "wrong"
         for line, place, text in history.notices:
             yield line, place, text, ""
+        for line, place, giver, first, last in history.givings:
+            yield line, place, f"given {slots(first, last)}", ""
         for line, one in history.aborts:
             yield line, one.place, f"ticket {one.ticket} aborted", "wrong"
         for line, place, count in history.restarts:
@@ -171,6 +177,9 @@ class Lanes:
             drawn.append(self.mark("notice", line, place, svg.notice_sign, f"takes the notice {text}"))
         for line, place, sender, slot in history.passed_out:
             drawn.append(self.mark("out", line, place, of(sender, svg.out_sign), f"passes slot {slot}, which is out"))
+        for line, place, giver, first, last in history.givings:
+            said = f"is given {slots(first, last)} by replica {giver}"
+            drawn.append(self.mark("give", line, place, of(giver, svg.give_sign), said))
         for line, place, number in history.refusals:
             drawn.append(self.mark("refusal", line, place, svg.refusal_sign, REFUSALS[number]))
         return [one for one in drawn if one]

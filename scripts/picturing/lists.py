@@ -2,9 +2,9 @@
 
 import re
 
-from . import blocks
+from . import blocks, giving
 from .history import ITEMS, Call, History
-from .words import REFUSED_BY, STALE, at
+from .words import NOBODY_UP, NOT_IN_WINDOW, REFUSED_BY, STALE, at
 
 PLACES = 8
 NUMBER = re.compile(r"0|[1-9][0-9]*")
@@ -34,6 +34,7 @@ FORMS = {
     "P": ("x", ""),
     "O": ("uu", ""),
     "U": ("uu", ""),
+    "G": ("u*", "uu*"),
 }
 
 
@@ -98,6 +99,8 @@ class Lists:
     def answered(self, call, letter, given, answer, form):
         if letter not in "MAY" and call.place not in self.history.places:
             raise at(call.line, "is at a place where nothing is made, and is not answered by ?")
+        if letter == "G":
+            return self.call_g(call, given, answer)
         if answer[0] != "0":
             return self.refused(call, letter, given, refusal(call.line, " ".join(answer), REFUSED_BY[letter]))
         got = fields(answer[1:], form)
@@ -212,6 +215,19 @@ class Lists:
 
     def call_u(self, call, given, got):
         self.history.notice(call, given[0], False, given[1])
+
+    def call_g(self, call, turns, answer):
+        """A giving, which names giver and tickets also where a deliver ended it."""
+        number = refusal(call.line, answer[0], REFUSED_BY["G"] | {0})
+        form = {NOBODY_UP: "", NOT_IN_WINDOW: "u"}.get(number, "uu*")
+        got = fields(answer[1:], form)
+        if got is None or (len(got) > 1 and len(got) != 2 + got[1]):
+            raise at(call.line, f"is answered {shown(' '.join(answer))}, which is no answer to it")
+        if len(turns) != self.history.places[call.place].n or (got and not (got[0] < len(turns) and got[0] in self.history.places)):
+            raise at(call.line, "tells turns of others than its group has, and is not answered by ?")
+        if number in (NOBODY_UP, NOT_IN_WINDOW):
+            return self.history.refuse(call, number)
+        return giving.give(self.history, call, got[0], turns[got[0]], number, got[2:])
 
     def call_v(self, call, given, got):
         self.history.look(call, got)

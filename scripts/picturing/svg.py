@@ -111,6 +111,11 @@ def notice_sign(x, y):
     return line(x - 3, y - 7, x - 3, y + 5, INK, 1.4) + polygon([(x - 3, y - 7), (x + 5, y - 4.2), (x - 3, y - 1.4)], INK)
 
 
+def give_sign(x, y, colour):
+    """Two arrows, one behind the other."""
+    return polygon([(x - 6, y - 5), (x, y), (x - 6, y + 5)], colour) + polygon([(x, y - 5), (x + 6, y), (x, y + 5)], colour)
+
+
 def refusal_sign(x, y):
     return polygon([(x, y - 6), (x + 6, y), (x, y + 6), (x - 6, y)], REFUSED) + line(x - 2.6, y, x + 2.6, y, "#ffffff", 1.8)
 

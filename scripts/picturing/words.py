@@ -1,6 +1,6 @@
 """What is said of bad input, and what the refusal numbers stand for."""
 
-# Document 01, "Answers when a call is turned away", in few words; 7, 23 and 25 to 29 as of document 02.
+# Document 01, "Answers when a call is turned away", in few words; 7, 23 and 25 to 31 as of document 02.
 REFUSALS = {
     1: "length",
     2: "out of range",
@@ -29,6 +29,8 @@ REFUSALS = {
     27: "no call",
     28: "does not fit",
     29: "slot is out",
+    30: "nobody is up",
+    31: "not in window",
 }
 
 # The numbers that can refuse a call, by its letter: docs/SPECIFICATION.md, S2.1. V and J are no calls at a replica, and
@@ -45,11 +47,14 @@ REFUSED_BY = {
     "S": {1, 11, 12, 13, 25, 29},
     **dict.fromkeys("DFH", {1, 14, 15, 16, 17, 18, 19, 20, 29}),
     "K": {1, 21},
+    "G": {1, 14, 15, 16, 17, 18, 19, 20, 25, 29, 30, 31},
     **dict.fromkeys("VJ", set()),
 }
 
 STALE = 9
 SLOT_OUT = 29
+NOBODY_UP = 30
+NOT_IN_WINDOW = 31
 
 
 class Bad(Exception):

@@ -20,7 +20,7 @@ def shared(elem):
 FIELDS = {
     "Begun": ["reply", "counts", "row"], "Asked": ["reply", "counts", "row"], "Changed": ["number", "counts", "row"],
     "Made": ["number", "group", "turn", "counts"], "Restarted": ["reply", "group", "turn", "counts"], "Sent": ["number", "turn", "rows"], "Worked": ["reply", "turn", "counts", "ended"],
-    "Noticed": ["number", "group"],
+    "Noticed": ["number", "group"], "Given": ["reply", "turn", "counts", "ended"],
 }
 # the fields of the counts, and of the replies, that a walk reads
 COUNT = {"tickets": 2, "read_only": 4, "aborted": 5, "withdrawn": 6}
@@ -43,7 +43,7 @@ class Call:
     @property
     def exported_by(self):
         """The crate that exports it."""
-        return {"make": "replica_make", "restart": "replica_make", "station": "replica_station", "write": "replica_write", "load": "replica_write", "send": "replica_turn", "deliver": "replica_turn", "work": "replica_turn", "out": "replica_notice", "back": "replica_notice"}.get(self.name, "replica_client")
+        return {"make": "replica_make", "restart": "replica_make", "station": "replica_station", "write": "replica_write", "load": "replica_write", "send": "replica_turn", "deliver": "replica_turn", "work": "replica_turn", "out": "replica_notice", "back": "replica_notice", "giver": "replica_give", "give": "replica_give"}.get(self.name, "replica_client")
 
     @property
     def exported(self):
@@ -59,6 +59,16 @@ class Call:
     def group_read(self):
         """Whether it reads a field of the group that it copied out: the own number."""
         return self.replicas_only or self.name == "work"
+
+    @property
+    def replies_in(self):
+        """The crate of the records that it and the call by value return."""
+        return {"giver": "call_giver", "give": "call_give"}.get(self.name, "call_reply")
+
+    @property
+    def result_as(self):
+        """What the call by value returns, by its name in a proof: the toolchain has a `Given` too."""
+        return {"u8": "ℕ", "Given": "Gave"}.get(self.result, self.result)
 
     @property
     def crate(self):
@@ -130,7 +140,7 @@ class Call:
     @property
     def by_rows(self):
         """Whether it is passed all six rows."""
-        return self.name in ("write", "report", "send", "work")
+        return self.name in ("write", "report", "send", "work", "give")
 
     @property
     def row_passed(self):
@@ -188,7 +198,7 @@ class Call:
         return [i for i in range(len(self.params)) if self.is_ref(i)]
 
 
-ALL = "queue items writes snapshots values stamps classes places outbox"
+ALL = "queue items writes snapshots values stamps classes places outbox window"
 LATER = " ".join(part + "′" for part in ALL.split())
 
 CALLS = {
@@ -198,21 +208,21 @@ CALLS = {
             "make", "call_make.make", "Made", "u8",
             [("table", TABLE_MUT), ("group", GROUP_MUT), ("turn", TURN_MUT), ("counts", COUNTS_MUT), ("size", U32), ("me", U32), ("start", shared("i32")), ("queue", mut("u32")),
              ("items", mut("u8")), ("writes", mut("i32")), ("snapshots", mut("i32")), ("values", mut("i32")), ("stamps", mut("u32")),
-             ("classes", mut("u8")), ("places", mut("u8")), ("outbox", mut("u8"))],
+             ("classes", mut("u8")), ("places", mut("u8")), ("outbox", mut("u8")), ("window", mut("u8"))],
             "", "allParts {g} {h} {c} {t} " + ALL, "makeStep {m} size me start", "", "allParts {g} {h} {c} {t} " + LATER, "number",
         ),
         Call(
             "station", "call_make.make_station", "Made", "u8",
             [("table", TABLE_MUT), ("group", GROUP_MUT), ("turn", TURN_MUT), ("counts", COUNTS_MUT), ("size", U32), ("start", shared("i32")), ("queue", mut("u32")),
              ("items", mut("u8")), ("writes", mut("i32")), ("snapshots", mut("i32")), ("values", mut("i32")), ("stamps", mut("u32")),
-             ("classes", mut("u8")), ("places", mut("u8")), ("outbox", mut("u8"))],
+             ("classes", mut("u8")), ("places", mut("u8")), ("outbox", mut("u8")), ("window", mut("u8"))],
             "", "allParts {g} {h} {c} {t} " + ALL, "stationStep {m} size start", "", "allParts {g} {h} {c} {t} " + LATER, "number",
         ),
         Call(
             "restart", "call_restart.restart", "Restarted", "RestartReply",
             [("table", TABLE_MUT), ("group", GROUP_MUT), ("turn", TURN_MUT), ("counts", COUNTS_MUT), ("size", U32), ("me", U32), ("start", shared("i32")), ("queue", mut("u32")),
              ("items", mut("u8")), ("writes", mut("i32")), ("snapshots", mut("i32")), ("values", mut("i32")), ("stamps", mut("u32")),
-             ("classes", mut("u8")), ("places", mut("u8")), ("outbox", mut("u8")), ("journal", shared("u8")), ("notices", shared("u32")), ("block", mut("u8"))],
+             ("classes", mut("u8")), ("places", mut("u8")), ("outbox", mut("u8")), ("window", mut("u8")), ("journal", shared("u8")), ("notices", shared("u32")), ("block", mut("u8"))],
             "no_restart", "allParts {g} {h} {c} {t} " + ALL, "restartLent {m} size me start journal notices block", "", "allParts {g} {h} {c} {t} " + LATER, "restartReply",
         ),
         Call(
@@ -261,9 +271,17 @@ CALLS = {
         Call(
             "work", "call_work.work", "Worked", "WorkReply",
             [("table", TABLE_MUT), ("group", GROUP), ("turn", TURN_MUT), ("counts", COUNTS_MUT), ("queue", mut("u32")), ("items", shared("u8")), ("values", mut("i32")),
-             ("stamps", mut("u32")), ("places", mut("u8")), ("block", mut("u8"))],
-            "no_work", "workParts m {g} {h} {c} {t} queue items values stamps places", "withBlock block workStep {m}", "",
-            "workParts m {g} {h} {c} {t} queue′ items values′ stamps′ places′", "workReply",
+             ("stamps", mut("u32")), ("places", mut("u8")), ("window", mut("u8"))],
+            "no_work", "workParts m {g} {h} {c} {t} queue items values stamps places window", "workStep {m}", "",
+            "workParts m {g} {h} {c} {t} queue′ items values′ stamps′ places′ window′", "workReply",
+        ),
+        Call("giver", "call_giver.ask_giver", "GiverReply", "GiverReply", [("group", GROUP), ("turns", shared("u32"))]),
+        Call(
+            "give", "call_give.give", "Given", "GiveReply",
+            [("table", TABLE_MUT), ("group", GROUP), ("turn", TURN_MUT), ("counts", COUNTS_MUT), ("queue", mut("u32")), ("items", shared("u8")), ("values", mut("i32")),
+             ("stamps", mut("u32")), ("places", mut("u8")), ("outbox", shared("u8")), ("window", mut("u8")), ("turns", shared("u32")), ("lent", shared("u8"))],
+            "no_gift", "giveParts m {g} {h} {c} {t} queue items values stamps places outbox window", "gift {m} turns lent", "",
+            "giveParts m {g} {h} {c} {t} queue′ items values′ stamps′ places′ outbox window′",
         ),
     ]
 }

@@ -12,6 +12,7 @@ NOTHING = {
     "ReportReply": "record { number = 1; report = noReport }",
     "WorkReply": "record { number = 1; sender = 0; moved = false; count = 0; ticket = 0; aborted = replicate 6 0; append = false }",
     "RestartReply": "record { number = 1; count = 0 }",
+    "GiveReply": "record { number = 1; giver = 0; count = 0; aborted = replicate 6 0 }",
     "u8": "1",
 }
 HELD = {"table": "List Txn", "group": "Group", "turn": "Turn", "counts": "Counts"}
@@ -58,6 +59,8 @@ class Facts:
         return f"(λ (x : Memory). {self.call.step.format(m='x')})"
 
     def claim(self, reply, after, outcome):
+        if self.call.name == "give":
+            return f"GivesGift ({outcome}) ({reply}) ({after})"
         if self.call.lent_block:
             return f"GivesWith {self.call.replied} ({outcome}) block ({reply}) ({after}) block′"
         return f"Gives {self.call.replied} ({outcome}) ({reply}) ({after})"
@@ -87,7 +90,7 @@ class Facts:
         outcome = (call.at_row if call.by_row else call.step).format(m=f"({self.before(lent)})")
         claim = f"{all_of}{self.claim(reply_of(call), self.after(**now), outcome)}"
         claim = f"({claim}) × {BESIDE[call.name]}" if call.name in BESIDE else claim
-        claim += f" × (r .ended ≡ endedMarks block ({self.before(table)}))" * (call.name == "work")
+        claim += f" × (r .ended ≡ endedMarks ({self.before(table)}))" * (call.name == "work")
         types = " → ".join(t for _, t in names)
         return f"abbrev pub {self.name}On : {types} → Type 0\n{self.name}On {' '.join(n for n, _ in names)} = {claim}\n"
 
@@ -104,6 +107,8 @@ class Facts:
     @property
     def outcome(self):
         """What the exported call does to the memory."""
+        if self.call.name == "give":
+            return f"giftCalled ({self.before()}) turns lent"
         return f"unlessStation ({self.before()}) (called {self.called()})" if self.call.replicas_only else f"called {self.called()}"
 
     def called(self):
@@ -121,9 +126,10 @@ class Facts:
         parts = "(refl, refl), refl" if call.lent_block else "refl, refl"
         args = [n for n, _ in self.holds + self.rest] + [f"({no_reply(call)})"] + call.changing + [n[:-1] for n, _ in self.muts]
         ours, passed, known = (f" → {NUMBERED}", " ours", "ne-eqb (group .own) 255 ours, ") if call.replicas_only else ("", "", "")
+        law = f"gift-other ({self.before()}) turns lent" if call.name == "give" else f"called-other {self.called()}"
         return (
             f"pub {call.name}-not : {types}{ours} → (length table ≡ 6 → ⊥) → {self.name}Did {' '.join(args)}\n"
-            f"{call.name}-not {names}{passed} other = {lam}rw ({known}called-other {self.called()} other) ({parts})\n"
+            f"{call.name}-not {names}{passed} other = {lam}rw ({known}{law} other) ({parts})\n"
         )
 
     # ---- a station: 25, and nothing changes
@@ -187,6 +193,9 @@ TABLELESS = {
     "deliver": """abbrev pub DeliverOn : Group → Turn → List ℕ → List ℕ → List ℕ → ℕ → List ℕ → Type 0
 DeliverOn group turn places outbox bytes r places′ = (m : Memory) → Gives number (deliverStep (deliverParts m group turn places outbox) bytes) r (deliverParts m group turn places′ outbox)
 """,
+    "giver": """abbrev pub GiverOn : Group → List ℕ → GiverReply → Type 0
+GiverOn group turns r = (m : Memory) → m .group ≡ group → r ≡ giverReply m turns
+""",
     "load": """abbrev pub LoadOn : Turn → List ℕ → List ℕ → ℕ → List ℕ → Type 0
 LoadOn turn classes given r classes′ = (m : Memory) → Gives number (loadStep (loadParts m turn classes) given) r (loadParts m turn classes′)
 """,
@@ -211,7 +220,13 @@ MODULES = [
     ("Rattle.call_reply.specs.Replies", "noReport, number, beginReply, readReply, askReply, reportReply, workReply, restartReply, Gives, GivesWith"),
     *((f"Rattle.call_reply.specs.declared.{t}", t) for t in
       ["BeginReply", "ReadReply", "AskReply", "ReportReply", "WorkReply", "RestartReply", "Changed", "Begun", "Asked", "Made", "Restarted", "Sent", "Worked", "Noticed"]),
-    ("Rattle.call_reply.specs.Called", "called, withBlock"),
+    ("Rattle.call_reply.specs.Called", "called"),
+    ("Rattle.call_giver.specs.declared.GiverReply", "GiverReply"),
+    ("Rattle.call_giver.specs.Asked", "giverReply"),
+    ("Rattle.call_give.specs.declared.GiveReply", "GiveReply"),
+    ("Rattle.call_give.specs.declared.Given", "Given"),
+    ("Rattle.call_give.specs.Gifts", "giveParts, gift, giftCalled, GivesGift"),
+    ("Rattle.call_give.proofs.GiftLaws", "gift-other"),
     ("Rattle.call_reply.specs.Notices", "noticesIn, restartLent"),
     ("Rattle.call_make.specs.Made", "ifMade"),
     ("Rattle.call_work.specs.Works", "endedMarks"),

@@ -35,7 +35,7 @@ class Proof(Walk):
             crate, path = call.by_value.split(".", 1)
             return f"Rattle.{crate}.proofs.{path}"
         if callee == "refuse":
-            return f"Rattle.call_reply.proofs.replies.{call.refusal}"
+            return f"Rattle.{call.replies_in}.proofs.{'replies.' * (call.replies_in == 'call_reply')}{call.refusal}"
         return f"Rattle.host_table.proofs.{HELPERS[callee].function}"
 
     def contract_of(self, callee, given="𝓤 H A mem run"):
@@ -60,7 +60,9 @@ class Proof(Walk):
             out.append(f"use {own}.Ways.{{{', '.join(WAYS[name])}}}")
         for alias, of in [("D", call.result)] + ([] if call.direct else [("Y", call.reply)]):
             if of != "u8":
-                out += [f"use Rattle.call_reply.specs.declared.{of}.{{{of}}}", f"use Rattle.call_reply.proofs.{of} as {alias}", f"use Rattle.call_reply.proofs.{of}.Laws as {alias}′"]
+                home = f"Rattle.{call.replies_in}"
+                shown = f"{of} as {call.result_as}" if of == call.result != call.result_as else of
+                out += [f"use {home}.specs.declared.{of}.{{{shown}}}", f"use {home}.proofs.{of} as {alias}", f"use {home}.proofs.{of}.Laws as {alias}′"]
         for callee in self.callees:
             module = self.module_of(callee)
             out += [f"use {module} as {callee}"] * (callee in ("call", "refuse"))

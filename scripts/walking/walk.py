@@ -33,7 +33,7 @@ HELPERS = {  # by the name in a proof
 # the law behind each return but that of a wrong table, in order
 WAYS = {
     "make": ["make-kept", "make-did"], "station": ["station-kept", "station-did"], "restart": ["restart-kept", "restart-did"], "begin": ["begin-kept", "begin-did"], "write": ["write-stale", "write-kept", "write-did"], "ask": ["ask-kept", "ask-ended", "ask-queued"],
-    "withdraw": ["withdraw-kept", "withdraw-did"], "send": ["send-kept", "send-did"], "work": ["work-kept", "work-did"],
+    "withdraw": ["withdraw-kept", "withdraw-did"], "send": ["send-kept", "send-did"], "work": ["work-kept", "work-did"], "give": ["give-did"],
 }
 
 
@@ -225,8 +225,7 @@ class Walk(Names):
         self.say("-- the call by value")
         self.say(f"use2 W (raw (ByValue 𝓤 H A mem run .pre {to})) (asks-call {' '.join(fits + values + facts)}) $")
         self.say(f"calls-at ! fm (ByValue 𝓤 H A mem run) known-call {to} {self.operands(operands, len(self.front) - 1)} (λ u.", 1)
-        res = "ℕ" if call.result == "u8" else call.result
-        self.say(f"use1 W (later (some (λ (r : {res}). (Toks ⊛ ‵ ({self.result} .own r (u ∷ []))) ⊛ some (λ (ws : Lasts call.ended κs₁ a₁). ‵ (lasts call.ended κs₁ a₁ ws) ⊛ raw (fact 𝓤 ({self.said()})))))) (id⊢ 𝓤 _) $ await ! tt $ pick ! (λ r. split ! $ move ! (1 ∷ []) $ pick ! (λ ws.", 2)
+        self.say(f"use1 W (later (some (λ (r : {call.result_as}). (Toks ⊛ ‵ ({self.result} .own r (u ∷ []))) ⊛ some (λ (ws : Lasts call.ended κs₁ a₁). ‵ (lasts call.ended κs₁ a₁ ws) ⊛ raw (fact 𝓤 ({self.said()})))))) (id⊢ 𝓤 _) $ await ! tt $ pick ! (λ r. split ! $ move ! (1 ∷ []) $ pick ! (λ ws.", 2)
         drops = "fsplit ! $ drop ! $ " * self.leading + "nothing ! $ fjoin ! $ " * call.ticketed  # of the ticket nothing is said
         self.say(f"split ! $ move ! (1 ∷ []) $ heard ! ({self.said()}) (λ said. {drops}move ! (1 ∷ []) $ split ! $ move ! (1 ∷ []) $", 1)
         self.say(f"peeks ! {self.result} (Is {self.result}) (shows 𝓤 H A {self.result}) r (u ∷ []) (λ is. drop ! $", 1)

@@ -71,7 +71,7 @@ module _ (n : ℕ) (m : Memory) (s : Sound n m) (l : List ℕ) (H : length l ≡
     owns : getD b 1 0 ≡ ownerOf (m .group .replicas) (m .turn .slot)
     owns = sender-owns m (s .shape) (s .sent) (k .waits)
 
-    mark : sentAlready m ≡ mine
+    pub mark : sentAlready m ≡ eqb (getD (blockAtTurn m) 1 0) (m .group .own)
     mark =
         same-by (getD b 1 0) (m .group .own)
         (λ e. is-outbox m (s .shape) (s .sent) (k .waits) (sym owns ∙ e) .0 ∙ sym (eq-eqb (getD b 1 0) (m .group .own) e))
@@ -132,7 +132,7 @@ module _ (n : ℕ) where
     pub sound : Sound n m
     pub filled : length l ≡ 512 * blocksAt (m .turn)
 
-  filled-next : (m : Memory) (l : List ℕ) → FilledAt m l → (c : AnyCall) → signed32 (argumentsOf c .value) ≡ true → FilledAt (anyStep m c .memory) (journalAfter l c (anyStep m c .answer))
+  pub filled-next : (m : Memory) (l : List ℕ) → FilledAt m l → (c : AnyCall) → signed32 (argumentsOf c .value) ≡ true → FilledAt (anyStep m c .memory) (journalAfter l c (anyStep m c .answer))
   filled-next m l F (call c) v = record { sound = sound-any n m (F .sound) (call c) v; filled = call-filled n m (F .sound) l (F .filled) c }
   filled-next m l F (restart size own values j t x) v = record {
     sound = sound-any n m (F .sound) (restart size own values j t x) v;

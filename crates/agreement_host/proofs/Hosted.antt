@@ -26,9 +26,9 @@ use Rattle.engine.proofs.ShapeMade.{shape-station}
 use Rattle.engine.proofs.Shapes.{shapes}
 use Rattle.engine.proofs.Reached.{Reached, made-reached, any-reached}
 use Rattle.engine.proofs.Stations.{stations}
-use Rattle.call_reply.specs.Called.{called, withBlock}
+use Rattle.call_reply.specs.Called.{called}
 use Rattle.call_reply.specs.Notices.{noticeOf, noticesIn, restartLent}
-use Rattle.call_reply.proofs.CalledLaws.{called-six, block-512, block-other}
+use Rattle.call_reply.proofs.CalledLaws.{called-six}
 use Rattle.call_reply.proofs.NoticeLaws.{lent-threes, lent-other}
 use Rattle.protocol.proofs.ListLaws.{snoc-all}
 use Rattle.agreement.specs.Group.{Members, CallAt, nextBy, fresh, next, run, Calls}
@@ -135,24 +135,12 @@ module _ (n : ℕ) (start : List ℤ) (setting : Setting n start) where
   unfolding run
   group cs f = group-of cs [] (λ c q. absurd (List·Memᴰ·not-nil q)) f
 
-works : (m : Memory) (block : List ℕ) → length block ≡ 512 → called (withBlock block workStep) m ≡ called workStep m
-unfolding called
-works m block h = rw (block-512 workStep m block h)
-
-works-not : (m : Memory) (block : List ℕ) → (length block ≡ 512 → ⊥) → called (withBlock block workStep) m ≡ outcome (refused 1) m
-unfolding called
-works-not m block h =
-    rw (block-other workStep m block h)
-    (cond-by (λ (o : Outcome). o ≡ outcome (refused 1) m) (eqb (length (m .txns .table)) 6) (λ e. refl) (λ e. refl))
-
 pub hosted : Hosted
 hosted = record {
   makes = λ m n own values six. called-six (λ x. makeStep x n own values) m six;
   station-makes = λ m n values six. called-six (λ x. stationStep x n values) m six;
   station-writes = station-writes;
   station-sends = station-sends;
-  works = works;
-  works-not = works-not;
   restarts = λ m n own values journal numbers block. restarts m n own values journal block numbers;
   restarts-not = λ m n own values journal numbers block. restarts-not m n own values journal block numbers;
   steps = λ n own values setting cs c. any-six _ (shapes .all n own values setting cs .lengths .table) c;

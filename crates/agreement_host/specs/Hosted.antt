@@ -1,6 +1,5 @@
 -- A host's calls are the engine's. The contracts of the exported functions that are lent a table have `called`, which puts the test of its length in front of a step (a deliver,
--- a load, an out and a back are lent none, and have the step itself), and a work also has `withBlock`, the test of the bytes lent for the block to append; on every memory that calls lead to, with
--- 512 bytes lent, it is the step, and with any other length it is refused by 1. In front of the table's length a write and a send have the test for a station, `unlessStation`. A restart is
+-- a load, an out and a back are lent none, and have the step itself). In front of the table's length a write and a send have the test for a station, `unlessStation`. A restart is
 -- lent its notices as numbers, `restartLent`: three for each, and any other length is refused by 1. So what is proved of lists of calls, the agreement of the copies too, is proved of what
 -- hosts' calls do, one after the other, restarts too.
 use Prim.Native.Nat.{ℕ, _%_}
@@ -23,7 +22,7 @@ use Rattle.engine.specs.Calls.Call.{begin, read, write, ask, withdraw, report, 
 use Rattle.engine.specs.Station.{stationMemory, stationStep}
 use Rattle.engine.specs.History.{AnyCall, anyStep, afterAll}
 use Rattle.engine.specs.History.AnyCall.{call, restart}
-use Rattle.call_reply.specs.Called.{called, withBlock}
+use Rattle.call_reply.specs.Called.{called}
 use Rattle.call_reply.specs.Notices.{noticesIn, restartLent}
 use Rattle.agreement.specs.Group.{Members, CallAt, nextBy, fresh, run, Calls}
 
@@ -75,10 +74,6 @@ pub record Hosted : Type 0 where
   -- at a station 25, whatever the table
   pub station-writes : (m : Memory) → isStation m ≡ true → (ticket item : ℕ) (value : ℤ) → hostStep m (write ticket item value) ≡ outcome (refused 25) m
   pub station-sends : (m : Memory) → isStation m ≡ true → (block : List ℕ) → hostStep m (send block) ≡ outcome (refused 25) m
-  -- a work that is lent 512 bytes for the block to append
-  pub works : (m : Memory) (block : List ℕ) → length block ≡ 512 → called (withBlock block workStep) m ≡ called workStep m
-  -- lent any other length it is refused by 1, whatever the table, and the memory is as before
-  pub works-not : (m : Memory) (block : List ℕ) → (length block ≡ 512 → ⊥) → called (withBlock block workStep) m ≡ outcome (refused 1) m
   -- a restart that is lent three numbers for each notice, a kind above 1 also for an Out
   pub restarts : (m : Memory) (n own : ℕ) (values : List ℤ) (journal numbers block : List ℕ) → length numbers % 3 ≡ 0
       → called (λ x. restartLent x n own values journal numbers block) m ≡ hostAny m (restart n own values journal (noticesIn numbers) block)

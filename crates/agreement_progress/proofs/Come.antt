@@ -180,7 +180,7 @@ module _ {over : ℕ} (m : Memory) (S : Shape over m) where
   unfolding workRefusal firstOf
   can-work w =
       let l : workLent m ≡ true =
-      joined (eq-eqb _ _ (S .lengths .places)) (joined (eq-eqb _ _ (S .lengths .items)) (joined (eq-eqb _ _ (S .lengths .queue)) (joined (eq-eqb _ _ (S .lengths .values)) (eq-eqb _ _ (S .lengths .stamps))))) in
+      joined (eq-eqb _ _ (S .lengths .places)) (joined (eq-eqb _ _ (S .lengths .items)) (joined (eq-eqb _ _ (S .lengths .queue)) (joined (eq-eqb _ _ (S .lengths .values)) (joined (eq-eqb _ _ (S .lengths .stamps)) (eq-eqb _ _ (S .lengths .window)))))) in
       rw (l, w) refl
 
   can-send : (b : List ℕ) → length b ≡ 512 → m .turn .slot < slotLimit → ownerOf (m .group .replicas) (m .turn .slot) ≡ m .group .own → outAtTurn m ≡ false → sentAlready m ≡ false

@@ -15,7 +15,7 @@ use Rattle.protocol.specs.Lists.{Mem}
 use Rattle.protocol.proofs.ListLaws.{mem-map}
 use Rattle.protocol.proofs.Fates.{outOf}
 use Rattle.protocol.proofs.Slots.{handed-known}
-use Rattle.agreement.specs.Group.{messageIn, CallAt, fresh, run, Comes, Calls, Premise}
+use Rattle.agreement.specs.Group.{messageIn, CallAt, fresh, run, Calls, Premise}
 use Rattle.agreement.proofs.View.{setup}
 use Rattle.agreement.proofs.DeliverStep.{slot-said}
 use Rattle.agreement.proofs.Replicas.{SoundAt}
@@ -23,15 +23,15 @@ use Rattle.agreement.proofs.Runs.{own-is}
 use Rattle.agreement.proofs.OneList.{modelLists}
 use Rattle.agreement.proofs.Theorem.{owes, InvAfter, inv-after}
 
--- to prove P of a list with `later` at its end, prove it without, and that each call of `later` keeps it
-pub walk : (P : List CallAt → Type 0) (before later : List CallAt) → P before
-    → ((mid : List CallAt) (c : CallAt) → Comes later mid c → P (before ++ mid) → P (before ++ (mid ++ (c ∷ [])))) → P (before ++ later)
+-- to prove P of a list with `later` at its end, prove it without, and that each member of `later` keeps it
+pub walk : {A : Type 0} (P : List A → Type 0) (before later : List A) → P before
+    → ((mid : List A) (c : A) → ((after : List A) × (later ≡ mid ++ (c ∷ after))) → P (before ++ mid) → P (before ++ (mid ++ (c ∷ [])))) → P (before ++ later)
 walk P before [] p f = subst P (sym (append-nil before)) p
-walk P before (c ∷ cs) p f =
+walk {A} P before (c ∷ cs) p f =
     subst P (append-assoc before (c ∷ []) cs)
     (walk P (before ++ (c ∷ [])) cs (f [] c (cs, refl) (subst P (sym (append-nil before)) p)) (λ mid d q r.
     subst P (sym (append-assoc before (c ∷ []) (mid ++ (d ∷ []))))
-    (f (c ∷ mid) d (q .0, ap (λ (l : List CallAt). c ∷ l) (q .1)) (subst P (append-assoc before (c ∷ []) mid) r))))
+    (f (c ∷ mid) d (q .0, ap (λ (l : List A). c ∷ l) (q .1)) (subst P (append-assoc before (c ∷ []) mid) r))))
 
 module _ (n : ℕ) (start : List ℤ) (setting : Setting n start) (cs : List CallAt) (f : Calls n cs) (p : Premise n start cs) where
   -- the slots that the lists at the end put out

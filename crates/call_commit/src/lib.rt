@@ -82,7 +82,7 @@ fn is_hit(t: Txn, r: usize, items: &[u8], block: &[u8], j: usize) -> bool
 }
 
 // The ticket among the first n: before the first that is above it, which moves up with all behind it.
-fn insert_rising(tickets: [u32; 6], n: usize, ticket: u32) -> [u32; 6]
+pub fn insert_rising(tickets: [u32; 6], n: usize, ticket: u32) -> [u32; 6]
     requires { ⌜ n < 6 ⌝ }
     ensures { λ r. ⌜ (take (n + 1) r ≡ insertRising ticket (take n tickets)) × (drop (n + 1) r ≡ drop (n + 1) tickets) ⌝ }
 {

@@ -2,20 +2,21 @@
 use Prim.Native.Nat.{ℕ, suc, _+_, _*_, _-_, _≤_, _<_}
 use mathlib.Core.Path.{_≡_, refl, sym, ap, _∙_}
 use mathlib.Core.Bool.{Bool, true, false, not, _&&_, and-false}
-use mathlib.Core.List.{List, [], _∷_, append-assoc}
+use mathlib.Core.List.{List, [], _∷_}
 use native.Mathlib.Numerals.{add-one}
 use native.Mathlib.Omega.{arith}
 use lib.Dec.{eqb, ltb, leb}
-use lib.ListN.{length, getD, take, drop}
-use lib.Seq.{drop-cons, drop-drop, drop-length, paste, take-all}
+use lib.ListN.{length, getD, drop}
+use lib.Seq.{drop-cons, drop-length}
 use borrow.Author.Tests.{eq-eqb, ne-eqb, lt-ltb, le-ltb, le-leb, lt-leb, eqb-true}
-use borrow.Rule.Slice.PartMut.{putMid, mid-len}
+use borrow.Rule.Slice.PartMut.{putMid}
 use Rattle.block.specs.declared.Header.{Header}
 use Rattle.block.specs.declared.Read.{Read}
 use Rattle.block.specs.declared.Read.the-variants as read
 use Rattle.block.specs.Answers.{Refusal, refuse, firstOf, blockRefusal, headerOf, noHeader, blockRead, numberAndHeader}
 use Rattle.block.proofs.AnswerLaws.{is-taken}
 use Rattle.block.proofs.BoolLaws.{both}
+use Rattle.memory.proofs.ByteLaws.{put-paste}
 use Rattle.memory.specs.declared.Group.{Group}
 use Rattle.memory.specs.declared.Turn.{Turn}
 use Rattle.memory.specs.Memory.{Memory, withBlocks}
@@ -201,19 +202,9 @@ group-some group turn places outbox bytes n f z =
     let k = deliver-passed m bytes (sym (f (madeMemory 0 0 [])) ∙ z) in
     omega (arith, k .low, k .high)
 
--- the part lent has as many bytes as the block
-pub part-long : (at : ℕ) (places bytes : List ℕ) → at + 512 ≤ length places → length bytes ≡ 512 → length (take (at + 512 - at) (drop at places)) ≡ length bytes
-part-long at places bytes h e = mid-len at (at + 512) places h ∙ omega arith
-
--- put back as the bytes, it is the block pasted
-put-paste : (at : ℕ) (places bytes : List ℕ) → length bytes ≡ 512 → putMid at (at + 512 - at) places bytes ≡ paste places at bytes 512
-put-paste at places bytes h =
-    let e : at + 512 - at ≡ 512 = omega arith in
-    rw (e, drop-drop 512 at places, take-all 512 bytes (omega arith)) (sym (append-assoc (take at places) bytes (drop (at + 512) places)))
-
 pub deliver-kept : (m : Memory) (bytes : List ℕ) (n : ℕ) → n ≡ deliverRefusal m bytes → n ≡ 0 → (h : Header) → h ≡ headerOf bytes
     → (at : ℕ) → at ≡ placeStart (m .group .replicas) (h .slot) → (ys : List ℕ) → ys ≡ bytes
-    → outcome kept (withBlocks m (record { places = putMid at (at + 512 - at) (m .blocks .places) ys; outbox = m .blocks .outbox })) ≡ deliverStep m bytes
+    → outcome kept (withBlocks m (record { places = putMid at (at + 512 - at) (m .blocks .places) ys; outbox = m .blocks .outbox; window = m .blocks .window })) ≡ deliverStep m bytes
 unfolding deliverStep deliverNow
 deliver-kept m bytes n e z h head at place ys q =
     let k = deliver-passed m bytes (sym e ∙ z) in

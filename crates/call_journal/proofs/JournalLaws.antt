@@ -14,6 +14,7 @@ use Rattle.block.specs.Answers.{headerOf}
 use Rattle.block.proofs.BoolLaws.{both}
 use Rattle.block.proofs.ListLaws.{lent}
 use Rattle.memory.specs.Notices.{Notice}
+use Rattle.memory.specs.Window.{keeping, keepingAll}
 use Rattle.engine.specs.Restart.{Replayed, isGood, blocksFrom, blocksIn, writesetsIn, commitAll, commitBlocks, isFrom, highestOwn, ownWritesets, lastOwn}
 use Rattle.engine.proofs.Tests.{bool-by}
 use Rattle.engine.proofs.BlockFacts.{taken-block}
@@ -63,11 +64,12 @@ last-cons : (own : ℕ) (notices : List Notice) (d b : List ℕ) (bs : List (Lis
 unfolding lastOwn
 last-cons own notices d b bs e = subst (λ (k : ℕ). lastOwn own notices d (b ∷ bs) ≡ lastOwn own notices (cond (isGiven own notices k b) b d) bs) e refl
 
--- all blocks come to what the blocks still to be read come to on top of the tally, of values and stamps as they are now
-pub record Replaying (n own : ℕ) (journal : List ℕ) (notices : List Notice) (before : Replayed) (values : List ℤ) (stamps : List ℕ) (t : JournalTally) : Type 0 where
+-- all blocks come to what the blocks still to be read come to on top of the tally, of values, stamps and window as they are now
+pub record Replaying (n own : ℕ) (journal : List ℕ) (notices : List Notice) (before : Replayed) (held : List ℕ) (values : List ℤ) (stamps window : List ℕ) (t : JournalTally) : Type 0 where
   pub there : t .blocks ≤ length journal / 512
   pub blocks : length (blocksIn n journal) ≡ t .blocks + length (rest n journal (t .blocks))
   pub store : commitBlocks before (blocksIn n journal) ≡ commitBlocks (replayed (t .commits) values stamps) (rest n journal (t .blocks))
+  pub window-kept : keepingAll held 0 (blocksIn n journal) ≡ keepingAll window (t .blocks) (rest n journal (t .blocks))
   pub highest : highestOwn own (blocksIn n journal) ≡ max (t .highest) (highestOwn own (rest n journal (t .blocks)))
   pub committed : ownWritesets own (blocksIn n journal) ≡ t .committed + ownWritesets own (rest n journal (t .blocks))
   pub last : lastNumber own notices 0 0 (blocksIn n journal) ≡ lastNumber own notices (t .last) (t .blocks) (rest n journal (t .blocks))
@@ -75,15 +77,16 @@ pub record Replaying (n own : ℕ) (journal : List ℕ) (notices : List Notice) 
   pub last-there : t .last ≤ t .blocks
 
 module _ (n own : ℕ) (journal : List ℕ) (notices : List Notice) where
-  pub replay-start : (values : List ℤ) (stamps : List ℕ)
-      → Replaying n own journal notices (replayed 0 values stamps) values stamps (record { blocks = 0; commits = 0; highest = 0; committed = 0; last = 0 })
+  pub replay-start : (values : List ℤ) (stamps window : List ℕ)
+      → Replaying n own journal notices (replayed 0 values stamps) window values stamps window (record { blocks = 0; commits = 0; highest = 0; committed = 0; last = 0 })
   unfolding blockNumber
-  replay-start values stamps =
+  replay-start values stamps window =
       let k : length journal / 512 - 0 ≡ length journal / 512 = omega arith in
       record {
         there = omega arith;
         blocks = rw k (omega arith);
         store = rw k;
+        window-kept = rw k;
         highest = rw k (omega arith);
         committed = rw k (omega arith);
         last = rw k;
@@ -91,12 +94,13 @@ module _ (n own : ℕ) (journal : List ℕ) (notices : List Notice) where
         last-there = omega arith;
       }
 
-  module _ (before : Replayed) (values : List ℤ) (stamps : List ℕ) (t : JournalTally) (p : Replaying n own journal notices before values stamps t) where
-    pub replay-end : rest n journal (t .blocks) ≡ [] → Replays n own journal notices before values stamps t
-    unfolding commitBlocks highestOwn ownWritesets lastOwn lastNumber
+  module _ (before : Replayed) (held : List ℕ) (values : List ℤ) (stamps window : List ℕ) (t : JournalTally) (p : Replaying n own journal notices before held values stamps window t) where
+    pub replay-end : rest n journal (t .blocks) ≡ [] → Replays n own journal notices before held values stamps window t
+    unfolding commitBlocks keepingAll highestOwn ownWritesets lastOwn lastNumber
     replay-end e = record {
       blocks = sym (rw e at (p .blocks) ∙ omega arith);
       store = sym (rw e at (p .store));
+      window-kept = sym (rw e at (p .window-kept));
       highest = sym (rw e at (p .highest) ∙ omega arith);
       committed = sym (rw e at (p .committed) ∙ omega arith);
       last = sym (rw e at (p .last));
@@ -115,10 +119,10 @@ module _ (n own : ℕ) (journal : List ℕ) (notices : List Notice) where
           let k = taken-block (blockAt journal (t .blocks)) (good-taken n (blockAt journal (t .blocks)) (both _ _ next .left)) .count in
           (omega arith, omega arith)
 
-      pub replay-turn : (c : ℕ) (v : List ℤ) (s : List ℕ) → replayed c v s ≡ commitAll (replayed (t .commits) values stamps) (writesetsIn (blockAt journal (t .blocks)))
-          → Replaying n own journal notices before v s (tallied own notices t c (blockAt journal (t .blocks)))
-      unfolding tallied commitBlocks highestOwn ownWritesets lastOwn lastNumber blockNumber
-      replay-turn c v s did =
+      pub replay-turn : (c : ℕ) (v : List ℤ) (s w : List ℕ) → replayed c v s ≡ commitAll (replayed (t .commits) values stamps) (writesetsIn (blockAt journal (t .blocks)))
+          → w ≡ keeping window (t .blocks) (blockAt journal (t .blocks)) → Replaying n own journal notices before held v s w (tallied own notices t c (blockAt journal (t .blocks)))
+      unfolding tallied commitBlocks keepingAll highestOwn ownWritesets lastOwn lastNumber blockNumber
+      replay-turn c v s w did keeps =
           let b = blockAt journal (t .blocks) in
           let e = rest-cons n journal (t .blocks) more next in
           let slot : headerOf b .slot ≡ t .blocks = eqb-true (headerOf b .slot) (t .blocks) (both (isGood n b) _ next .right) in
@@ -126,6 +130,7 @@ module _ (n own : ℕ) (journal : List ℕ) (notices : List Notice) where
             there = omega arith;
             blocks = rw e at (p .blocks) ∙ omega arith;
             store = rw e at (p .store) ∙ ap (λ (r : Replayed). commitBlocks r (rest n journal (t .blocks + 1))) (sym did);
+            window-kept = rw e at (p .window-kept) ∙ rw (keeps, add-one (t .blocks));
             highest = rw e at (p .highest) ∙ bool-by (isFrom own b) (λ f. rw f (omega arith)) (λ f. rw f (omega arith));
             committed = rw e at (p .committed) ∙ bool-by (isFrom own b) (λ f. rw f (omega arith)) (λ f. rw f (omega arith));
             last = rw e at (p .last);

@@ -6,6 +6,7 @@ use mathlib.Core.List.{List, [], _∷_}
 use lib.IntN.{ℤ}
 use lib.ListN.{length, getD, take, drop, replicate}
 use Rattle.memory.specs.Notices.{Notice, putsOut}
+use Rattle.memory.specs.Window.{keepingAll}
 use Rattle.engine.specs.Restart.{Replayed, blocksIn, writesetsIn, commitBlocks, isFrom, highestTicket, highestOwn, ownWritesets, lastOwn}
 use Rattle.call_journal.specs.declared.JournalTally.{JournalTally}
 
@@ -37,10 +38,11 @@ tallied own notices r commits b = record {
   last = cond (isGiven own notices (r .blocks) b) (r .blocks + 1) (r .last);
 }
 
--- all blocks of a journal, from the values and stamps before them
-pub record Replays (n own : ℕ) (journal : List ℕ) (notices : List Notice) (before : Replayed) (values : List ℤ) (stamps : List ℕ) (r : JournalTally) : Type 0 where
+-- all blocks of a journal, from the values, stamps and window before them
+pub record Replays (n own : ℕ) (journal : List ℕ) (notices : List Notice) (before : Replayed) (held : List ℕ) (values : List ℤ) (stamps window : List ℕ) (r : JournalTally) : Type 0 where
   pub blocks : r .blocks ≡ length (blocksIn n journal)
   pub store : replayed (r .commits) values stamps ≡ commitBlocks before (blocksIn n journal)
+  pub window-kept : window ≡ keepingAll held 0 (blocksIn n journal)
   pub highest : r .highest ≡ highestOwn own (blocksIn n journal)
   pub committed : r .committed ≡ ownWritesets own (blocksIn n journal)
   pub last : r .last ≡ lastNumber own notices 0 0 (blocksIn n journal)

@@ -1,4 +1,4 @@
-// A journal read: the blocks that it has in slot order are committed, and tallied. The contracts are in the words of engine's `specs/Restart.antt` and of
+// A journal read: the blocks that it has in slot order are committed, kept in the window, and tallied. The contracts are in the words of engine's `specs/Restart.antt` and of
 // `specs/Replays.antt`.
 ghost use mathlib.Core.Path.{_≡_};
 ghost use mathlib.Core.Bool.{_&&_};
@@ -6,6 +6,7 @@ ghost use lib.Dec.{eqb};
 ghost use lib.ListN.{length, getD};
 ghost use Prim.Native.Nat.{_+_, _≤_, _<_, max};
 ghost use Rattle.block.specs.Answers.{headerOf};
+ghost use Rattle.memory.specs.Memory.{windowBytes};
 ghost use Rattle.engine.specs.Restart.{isGood, writesetsIn, commitAll, highestTicket};
 ghost use Rattle.call_reply.specs.Notices.{noticesIn};
 ghost use Rattle.call_journal.specs.Replays.{replayed, tallied, Replays};
@@ -14,6 +15,7 @@ use block_reader::read_block;
 use block_reader::record_at;
 use call_commit::apply;
 use memory::rows::bump;
+use memory::window::keep;
 
 pub mod notices;
 
@@ -105,7 +107,7 @@ fn count_block(
     after
 }
 
-// The journal's blocks, each read and committed where it lies, up to one that is not the next good one.
+// The journal's blocks, each read and committed where it lies and kept in the window, up to one that is not the next good one.
 pub fn read_journal(
     n: u32,
     own: u32,
@@ -113,8 +115,11 @@ pub fn read_journal(
     notices: &[u32],
     values: &mut [i32],
     stamps: &mut [u32],
+    window: &mut [u8],
 ) -> JournalTally
-    ensures { λ r. ⌜ Replays n own (now (journal .entry)) (noticesIn (now (notices .entry))) (replayed 0 (now (values .entry)) (now (stamps .entry))) (now (values .exit)) (now (stamps .exit)) r ⌝ }
+    requires { ⌜ length (now window) ≡ windowBytes ⌝ }
+    ensures { λ r. ⌜ Replays n own (now (journal .entry)) (noticesIn (now (notices .entry))) (replayed 0 (now (values .entry)) (now (stamps .entry))) (now (window .entry))
+        (now (values .exit)) (now (stamps .exit)) (now (window .exit)) r ⌝ }
 {
     let most = journal.len() / 512;
     let mut tally = JournalTally {
@@ -131,6 +136,7 @@ pub fn read_journal(
             return tally;
         }
         let commits = commit_block(&mut *values, &mut *stamps, block, tally.commits);
+        keep(&mut *window, tally.blocks, block);
         let after = count_block(tally, commits, own, block, notices);
         tally = after;
     }

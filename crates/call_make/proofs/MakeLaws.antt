@@ -16,8 +16,9 @@ use Rattle.memory.specs.declared.Counts.{Counts}
 use Rattle.memory.specs.declared.Group.{Group}
 use Rattle.memory.specs.declared.Turn.{Turn}
 use Rattle.memory.specs.declared.Txn.{Txn}
-use Rattle.memory.specs.Memory.{Memory, groupOf}
+use Rattle.memory.specs.Memory.{Memory, windowBytes, groupOf}
 use Rattle.memory.specs.Rows.{closed}
+use Rattle.memory.specs.Window.{emptyWindow}
 use Rattle.engine.proofs.Tests.{passes}
 use Rattle.engine.specs.Answers.{outcome}
 use Rattle.engine.specs.Answers.Answer.{refused, made}
@@ -34,6 +35,7 @@ pub record Long (m : Memory) : Type 0 where
   pub stamps : length (m .store .stamps) ≡ 128
   pub classes : length (m .store .classes) ≡ 128
   pub outbox : length (m .blocks .outbox) ≡ 512
+  pub window : length (m .blocks .window) ≡ windowBytes
 
 pub slices-long : (m : Memory) → slicesFit m ≡ true → Long m
 slices-long m h =
@@ -44,6 +46,7 @@ slices-long m h =
     let e = both _ _ (d .right) in
     let f = both _ _ (e .right) in
     let g = both _ _ (f .right) in
+    let k = both _ _ (g .right) in
     record {
       queue = eqb-true _ 6 (a .left);
       items = eqb-true _ 48 (b .left);
@@ -52,18 +55,24 @@ slices-long m h =
       values = eqb-true _ 128 (e .left);
       stamps = eqb-true _ 128 (f .left);
       classes = eqb-true _ 128 (g .left);
-      outbox = eqb-true _ 512 (g .right);
+      outbox = eqb-true _ 512 (k .left);
+      window = eqb-true _ windowBytes (k .right);
     }
 
 -- 128 values copied over 128
 paste-whole : (d l : List ℤ) → length d ≡ 128 → length l ≡ 128 → paste d 0 l (min (length l) (length d)) ≡ l
 paste-whole d l h k = rw (k, h, take-all 128 l (omega arith), drop-of-length-le d {i = 128} (omega arith)) (append-nil l)
 
-made-is : (n own : ℕ) (values : List ℤ) {q i : List ℕ} {w s v : List ℤ} {t k p o : List ℕ} → q ≡ replicate 6 0 → i ≡ replicate 48 0 → w ≡ replicate 48 (pos 0)
-    → s ≡ replicate 768 (pos 0) → v ≡ values → t ≡ replicate 128 0 → k ≡ replicate 128 0 → p ≡ replicate (512 * n) 0 → o ≡ replicate 512 0
-    → allParts (groupOf n own) turnZero countsZero (replicate 6 closed) q i w s v t k p o ≡ madeMemory n own values
+made-is : (n own : ℕ) (values : List ℤ) {q i : List ℕ} {w s v : List ℤ} {t k p o l : List ℕ} → q ≡ replicate 6 0 → i ≡ replicate 48 0 → w ≡ replicate 48 (pos 0)
+    → s ≡ replicate 768 (pos 0) → v ≡ values → t ≡ replicate 128 0 → k ≡ replicate 128 0 → p ≡ replicate (512 * n) 0 → o ≡ replicate 512 0 → l ≡ emptyWindow
+    → allParts (groupOf n own) turnZero countsZero (replicate 6 closed) q i w s v t k p o l ≡ madeMemory n own values
 unfolding madeMemory
-made-is n own values eq ei ew es ev et ek ep eo = λ z. allParts (groupOf n own) turnZero countsZero (replicate 6 closed) (eq z) (ei z) (ew z) (es z) (ev z) (et z) (ek z) (ep z) (eo z)
+made-is n own values eq ei ew es ev et ek ep eo el = λ z. allParts (groupOf n own) turnZero countsZero (replicate 6 closed) (eq z) (ei z) (ew z) (es z) (ev z) (et z) (ek z) (ep z) (eo z) (el z)
+
+-- zeros, as many as a window has
+cleared : (k : ℕ) → k ≡ windowBytes → replicate k 0 ≡ emptyWindow
+unfolding emptyWindow
+cleared k e = ap (λ (z : ℕ). replicate z 0) e
 
 module _ (m : Memory) (n own : ℕ) (values : List ℤ) where
   pub make-start : (length values ≡ 128 → ⊥) → 1 ≡ makeRefusal m n own values
@@ -138,31 +147,32 @@ module _ (m : Memory) (n own : ℕ) (values : List ℤ) (k : ℕ) (number : k �
   pub make-refused : (k ≡ 0 → ⊥) → (group : Group) (turn : Turn) (counts : Counts) (rows : List Txn)
       → outcome (refused k)
       (allParts (ifMade k group (m .group)) (ifMade k turn (m .turn)) (ifMade k counts (m .counts)) (ifMade k rows (m .txns .table)) (m .txns .queue) (m .txns .items) (m .txns .writes) (m .txns .snapshots)
-      (m .store .values) (m .store .stamps) (m .store .classes) (m .blocks .places) (m .blocks .outbox))
+      (m .store .values) (m .store .stamps) (m .store .classes) (m .blocks .places) (m .blocks .outbox) (m .blocks .window))
       ≡ makeStep m n own values
   unfolding makeStep
   make-refused h group turn counts rows = rw (← number, ne-eqb k 0 h)
 
   -- what the functions that clear and copy leave of the lent slices
-  pub make-taken : k ≡ 0 → (q i : List ℕ) (w s v : List ℤ) (t x p o : List ℕ)
+  pub make-taken : k ≡ 0 → (q i : List ℕ) (w s v : List ℤ) (t x p o l : List ℕ)
       → q ≡ replicate (length (m .txns .queue)) 0 → i ≡ replicate (length (m .txns .items)) 0
       → w ≡ replicate (length (m .txns .writes)) (pos 0) → s ≡ replicate (length (m .txns .snapshots)) (pos 0)
       → v ≡ paste (m .store .values) 0 values (min (length values) (length (m .store .values))) → t ≡ replicate (length (m .store .stamps)) 0 → x ≡ replicate (length (m .store .classes)) 0
-      → p ≡ replicate (length (m .blocks .places)) 0 → o ≡ replicate (length (m .blocks .outbox)) 0
-      → outcome made (allParts (groupOf n own) turnZero countsZero (replicate 6 closed) q i w s v t x p o) ≡ makeStep m n own values
+      → p ≡ replicate (length (m .blocks .places)) 0 → o ≡ replicate (length (m .blocks .outbox)) 0 → l ≡ replicate (length (m .blocks .window)) 0
+      → outcome made (allParts (groupOf n own) turnZero countsZero (replicate 6 closed) q i w s v t x p o l) ≡ makeStep m n own values
   unfolding makeStep
-  make-taken h q i w s v t x p o eq ei ew es ev et ex ep eo =
+  make-taken h q i w s v t x p o l eq ei ew es ev et ex ep eo el =
       let g = given m n own values (sym number ∙ h) in
-      let l = g .long in
+      let f = g .long in
       rw (← number, h)
       (ap (outcome made)
       (made-is n own values
-      (eq ∙ ap (λ (z : ℕ). replicate z 0) (l .queue))
-      (ei ∙ ap (λ (z : ℕ). replicate z 0) (l .items))
-      (ew ∙ ap (λ (z : ℕ). replicate z (pos 0)) (l .writes))
-      (es ∙ ap (λ (z : ℕ). replicate z (pos 0)) (l .snapshots))
-      (ev ∙ paste-whole (m .store .values) values (l .values) (g .start))
-      (et ∙ ap (λ (z : ℕ). replicate z 0) (l .stamps))
-      (ex ∙ ap (λ (z : ℕ). replicate z 0) (l .classes))
+      (eq ∙ ap (λ (z : ℕ). replicate z 0) (f .queue))
+      (ei ∙ ap (λ (z : ℕ). replicate z 0) (f .items))
+      (ew ∙ ap (λ (z : ℕ). replicate z (pos 0)) (f .writes))
+      (es ∙ ap (λ (z : ℕ). replicate z (pos 0)) (f .snapshots))
+      (ev ∙ paste-whole (m .store .values) values (f .values) (g .start))
+      (et ∙ ap (λ (z : ℕ). replicate z 0) (f .stamps))
+      (ex ∙ ap (λ (z : ℕ). replicate z 0) (f .classes))
       (ep ∙ ap (λ (z : ℕ). replicate z 0) (g .places))
-      (eo ∙ ap (λ (z : ℕ). replicate z 0) (l .outbox))))
+      (eo ∙ ap (λ (z : ℕ). replicate z 0) (f .outbox))
+      (el ∙ cleared _ (f .window))))

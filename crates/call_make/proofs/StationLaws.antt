@@ -25,9 +25,9 @@ made-memory : (m : Memory) (n : ℕ) (values : List ℤ) → makeRefusal m n 0 v
 unfolding makeStep
 made-memory m n values e = rw (eq-eqb (makeRefusal m n 0 values) 0 e)
 
-module _ (m : Memory) (n : ℕ) (values : List ℤ) (d : Made) (q i : List ℕ) (w s v : List ℤ) (t x p o : List ℕ) where
+module _ (m : Memory) (n : ℕ) (values : List ℤ) (d : Made) (q i : List ℕ) (w s v : List ℤ) (t x p o l : List ℕ) where
   abbrev left : Made → Memory
-  left r = allParts (ifMade (r .number) (r .group) (m .group)) (ifMade (r .number) (r .turn) (m .turn)) (ifMade (r .number) (r .counts) (m .counts)) (ifMade (r .number) (replicate 6 closed) (m .txns .table)) q i w s v t x p o
+  left r = allParts (ifMade (r .number) (r .group) (m .group)) (ifMade (r .number) (r .turn) (m .turn)) (ifMade (r .number) (r .counts) (m .counts)) (ifMade (r .number) (replicate 6 closed) (m .txns .table)) q i w s v t x p o l
 
   abbrev numberless : Made
   numberless = ifMade (d .number) (record { number = 0; group = groupOf (d .group .replicas) noNumber; turn = turnZero; counts = countsZero }) d

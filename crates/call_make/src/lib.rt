@@ -11,7 +11,7 @@ ghost use Rattle.memory.specs.declared.Counts.{Counts};
 ghost use Rattle.memory.specs.declared.Group.{Group};
 ghost use Rattle.memory.specs.declared.Turn.{Turn};
 ghost use Rattle.memory.specs.declared.Txn.{Txn};
-ghost use Rattle.memory.specs.Memory.{Memory, noNumber, groupOf};
+ghost use Rattle.memory.specs.Memory.{Memory, noNumber, windowBytes, groupOf};
 ghost use Rattle.memory.specs.Rows.{closed};
 ghost use Rattle.engine.specs.Make.{turnZero, countsZero, placesFit, slicesFit, makeRefusal, makeStep};
 ghost use Rattle.engine.specs.Station.{stationStep};
@@ -23,6 +23,7 @@ use memory::Counts;
 use memory::Group;
 use memory::NO_NUMBER;
 use memory::Turn;
+use memory::WINDOW_BYTES;
 use memory::rows::clear_bytes;
 use memory::rows::clear_numbers;
 use memory::rows::clear_values;
@@ -80,6 +81,7 @@ fn parts_fit(
     stamps: usize,
     classes: usize,
     outbox: usize,
+    window: usize,
 ) -> bool
     ensures { λ r. ⌜ r
         ≡ (eqb queue 6
@@ -89,7 +91,8 @@ fn parts_fit(
         && (eqb values 128
         && (eqb stamps 128
         && (eqb classes 128
-        && eqb outbox 512))))))) ⌝ }
+        && (eqb outbox 512
+        && eqb window windowBytes)))))))) ⌝ }
 {
     if queue != 6 {
         return false;
@@ -112,7 +115,10 @@ fn parts_fit(
     if classes != 128 {
         return false;
     }
-    outbox == 512
+    if outbox != 512 {
+        return false;
+    }
+    window == WINDOW_BYTES
 }
 
 // Why a make is refused, 0 where it is not: by the number of starting values and by whether the parts and the places have their lengths.
@@ -156,17 +162,18 @@ pub fn make(
     classes: &mut [u8],
     places: &mut [u8],
     outbox: &mut [u8],
+    window: &mut [u8],
 ) -> Made
     ensures { λ r. ⌜ ((group : Group) (turn : Turn) (counts : Counts) (rows : List Txn) →
         Gives number
         (makeStep
         (allParts group turn counts rows (now (queue .entry)) (now (items .entry)) (now (writes .entry)) (now (snapshots .entry))
-        (now (values .entry)) (now (stamps .entry)) (now (classes .entry)) (now (places .entry)) (now (outbox .entry)))
+        (now (values .entry)) (now (stamps .entry)) (now (classes .entry)) (now (places .entry)) (now (outbox .entry)) (now (window .entry)))
         n own (now (start .entry)))
         (r .number)
         (allParts (ifMade (r .number) (r .group) group) (ifMade (r .number) (r .turn) turn) (ifMade (r .number) (r .counts) counts) (ifMade (r .number) (replicate 6 closed) rows)
         (now (queue .exit)) (now (items .exit)) (now (writes .exit)) (now (snapshots .exit))
-        (now (values .exit)) (now (stamps .exit)) (now (classes .exit)) (now (places .exit)) (now (outbox .exit))))
+        (now (values .exit)) (now (stamps .exit)) (now (classes .exit)) (now (places .exit)) (now (outbox .exit)) (now (window .exit))))
         × (r .group ≡ ifMade (r .number) (groupOf n own) (groupOf 0 0))
         × (r .turn ≡ turnZero)
         × (r .counts ≡ countsZero) ⌝ }
@@ -180,6 +187,7 @@ pub fn make(
         stamps.len(),
         classes.len(),
         outbox.len(),
+        window.len(),
     );
     let room = places_fit(places.len(), n);
     let number = refusal(n, own, start.len(), parts, room);
@@ -195,6 +203,7 @@ pub fn make(
     clear_bytes(&mut *classes);
     clear_bytes(&mut *places);
     clear_bytes(&mut *outbox);
+    clear_bytes(&mut *window);
     answer(0, n as u8, own as u8)
 }
 
@@ -222,17 +231,18 @@ pub fn make_station(
     classes: &mut [u8],
     places: &mut [u8],
     outbox: &mut [u8],
+    window: &mut [u8],
 ) -> Made
     ensures { λ r. ⌜ ((group : Group) (turn : Turn) (counts : Counts) (rows : List Txn) →
         Gives number
         (stationStep
         (allParts group turn counts rows (now (queue .entry)) (now (items .entry)) (now (writes .entry)) (now (snapshots .entry))
-        (now (values .entry)) (now (stamps .entry)) (now (classes .entry)) (now (places .entry)) (now (outbox .entry)))
+        (now (values .entry)) (now (stamps .entry)) (now (classes .entry)) (now (places .entry)) (now (outbox .entry)) (now (window .entry)))
         n (now (start .entry)))
         (r .number)
         (allParts (ifMade (r .number) (r .group) group) (ifMade (r .number) (r .turn) turn) (ifMade (r .number) (r .counts) counts) (ifMade (r .number) (replicate 6 closed) rows)
         (now (queue .exit)) (now (items .exit)) (now (writes .exit)) (now (snapshots .exit))
-        (now (values .exit)) (now (stamps .exit)) (now (classes .exit)) (now (places .exit)) (now (outbox .exit))))
+        (now (values .exit)) (now (stamps .exit)) (now (classes .exit)) (now (places .exit)) (now (outbox .exit)) (now (window .exit))))
         × (r .group ≡ ifMade (r .number) (groupOf n noNumber) (groupOf 0 0))
         × (r .turn ≡ turnZero)
         × (r .counts ≡ countsZero) ⌝ }
@@ -250,6 +260,7 @@ pub fn make_station(
         classes,
         places,
         outbox,
+        window,
     );
     without_number(done)
 }

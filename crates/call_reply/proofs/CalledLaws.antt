@@ -1,13 +1,11 @@
--- A call with a table of six rows, or with 512 bytes for a block, is its step, with any other it is refused by 1. Assumes nothing.
-use Prim.Native.Nat.{ℕ}
+-- A call with a table of six rows is its step, with any other it is refused by 1. Assumes nothing.
 use mathlib.Core.Path.{_≡_}
-use mathlib.Core.List.{List}
 use borrow.Author.Tests.{eq-eqb, ne-eqb}
 use lib.ListN.{length}
 use Rattle.memory.specs.Memory.{Memory}
 use Rattle.engine.specs.Answers.{Outcome, outcome}
 use Rattle.engine.specs.Answers.Answer.{refused}
-use Rattle.call_reply.specs.Called.{called, withBlock}
+use Rattle.call_reply.specs.Called.{called}
 
 module _ (step : Memory → Outcome) (m : Memory) where
   pub called-six : length (m .txns .table) ≡ 6 → called step m ≡ step m
@@ -17,12 +15,3 @@ module _ (step : Memory → Outcome) (m : Memory) where
   pub called-other : (length (m .txns .table) ≡ 6 → ⊥) → called step m ≡ outcome (refused 1) m
   unfolding called
   called-other h = rw (ne-eqb (length (m .txns .table)) 6 h)
-
-  module _ (lent : List ℕ) where
-    pub block-512 : length lent ≡ 512 → withBlock lent step m ≡ step m
-    unfolding withBlock
-    block-512 h = rw (eq-eqb (length lent) 512 h)
-
-    pub block-other : (length lent ≡ 512 → ⊥) → withBlock lent step m ≡ outcome (refused 1) m
-    unfolding withBlock
-    block-other h = rw (ne-eqb (length lent) 512 h)

@@ -1,4 +1,4 @@
--- Replies from outcomes, calls with a lent table or with bytes lent for a block, and notices lent.
+-- Replies from outcomes, calls with a lent table, and notices lent.
 pub mod ReplyLaws
 pub mod CalledLaws
 pub mod NoticeLaws

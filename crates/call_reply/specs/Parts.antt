@@ -9,14 +9,14 @@ use Rattle.memory.specs.declared.Txn.{Txn}
 use Rattle.memory.specs.Memory.{Memory}
 
 -- all of them: what a make is lent
-abbrev pub allParts : Group → Turn → Counts → List Txn → List ℕ → List ℕ → List ℤ → List ℤ → List ℤ → List ℕ → List ℕ → List ℕ → List ℕ → Memory
-allParts group turn counts table queue items writes snapshots values stamps classes places outbox = record {
+abbrev pub allParts : Group → Turn → Counts → List Txn → List ℕ → List ℕ → List ℤ → List ℤ → List ℤ → List ℕ → List ℕ → List ℕ → List ℕ → List ℕ → Memory
+allParts group turn counts table queue items writes snapshots values stamps classes places outbox window = record {
   group = group;
   turn = turn;
   counts = counts;
   txns = record { table = table; queue = queue; items = items; writes = writes; snapshots = snapshots };
   store = record { values = values; stamps = stamps; classes = classes };
-  blocks = record { places = places; outbox = outbox };
+  blocks = record { places = places; outbox = outbox; window = window };
 }
 
 abbrev pub beginParts : Memory → List Txn → Counts → List ℤ → List ℤ → Memory
@@ -46,7 +46,7 @@ writeParts m group turn counts table items writes stamps classes places = record
   counts = counts;
   txns = record { table = table; queue = m .txns .queue; items = items; writes = writes; snapshots = m .txns .snapshots };
   store = record { values = m .store .values; stamps = stamps; classes = classes };
-  blocks = record { places = places; outbox = m .blocks .outbox };
+  blocks = record { places = places; outbox = m .blocks .outbox; window = m .blocks .window };
 }
 
 abbrev pub askParts : Memory → Counts → List Txn → List ℕ → Memory
@@ -79,7 +79,7 @@ sendParts m group turn table queue items writes outbox = record {
   counts = m .counts;
   txns = record { table = table; queue = queue; items = items; writes = writes; snapshots = m .txns .snapshots };
   store = m .store;
-  blocks = record { places = m .blocks .places; outbox = outbox };
+  blocks = record { places = m .blocks .places; outbox = outbox; window = m .blocks .window };
 }
 
 abbrev pub deliverParts : Memory → Group → Turn → List ℕ → List ℕ → Memory
@@ -89,17 +89,17 @@ deliverParts m group turn places outbox = record {
   counts = m .counts;
   txns = m .txns;
   store = m .store;
-  blocks = record { places = places; outbox = outbox };
+  blocks = record { places = places; outbox = outbox; window = m .blocks .window };
 }
 
-abbrev pub workParts : Memory → Group → Turn → Counts → List Txn → List ℕ → List ℕ → List ℤ → List ℕ → List ℕ → Memory
-workParts m group turn counts table queue items values stamps places = record {
+abbrev pub workParts : Memory → Group → Turn → Counts → List Txn → List ℕ → List ℕ → List ℤ → List ℕ → List ℕ → List ℕ → Memory
+workParts m group turn counts table queue items values stamps places window = record {
   group = group;
   turn = turn;
   counts = counts;
   txns = record { table = table; queue = queue; items = items; writes = m .txns .writes; snapshots = m .txns .snapshots };
   store = record { values = values; stamps = stamps; classes = m .store .classes };
-  blocks = record { places = places; outbox = m .blocks .outbox };
+  blocks = record { places = places; outbox = m .blocks .outbox; window = window };
 }
 
 abbrev pub noticeParts : Memory → Group → Turn → List ℕ → Memory
@@ -109,7 +109,7 @@ noticeParts m group turn places = record {
   counts = m .counts;
   txns = m .txns;
   store = m .store;
-  blocks = record { places = places; outbox = m .blocks .outbox };
+  blocks = record { places = places; outbox = m .blocks .outbox; window = m .blocks .window };
 }
 
 abbrev pub loadParts : Memory → Turn → List ℕ → Memory

@@ -1,7 +1,7 @@
 -- What a call hands a host beside the memory: each reply is a function of the call's outcome.
 use Prim.Native.Nat.{ℕ, _-_}
 use mathlib.Core.Path.{_≡_}
-use mathlib.Core.Bool.{Bool, true, false, cond, not}
+use mathlib.Core.Bool.{Bool, true, false, not}
 use mathlib.Core.List.{List, [], _++_}
 use lib.Dec.{eqb}
 use lib.IntN.{ℤ, pos}
@@ -171,11 +171,10 @@ restartReply o = record { number = number o; count = countIn (o .answer) }
 abbrev pub Gives : {R : Type 0} → (Outcome → R) → Outcome → R → Memory → Type 0
 Gives of o r left = (r ≡ of o) × (left ≡ o .memory)
 
--- a send, a restart and a work with a block to append also leave a block in the lent bytes; any other answer leaves what was there
+-- a send and a restart also leave a block in the lent bytes; any other answer leaves what was there
 abbrev pub blockLeft : Answer → List ℕ → List ℕ
 blockLeft (sent b) old = b
 blockLeft (restarted c b) old = b
-blockLeft (worked s) old = cond (eqb (length (s .append)) 0) old (s .append)
 blockLeft (refused n) old = old
 blockLeft made old = old
 blockLeft (began t) old = old
@@ -186,6 +185,7 @@ blockLeft readOnly old = old
 blockLeft withdrew old = old
 blockLeft (reported r) old = old
 blockLeft kept old = old
+blockLeft (worked s) old = old
 blockLeft loaded old = old
 blockLeft noticed old = old
 

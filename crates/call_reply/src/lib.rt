@@ -35,8 +35,8 @@ pub struct ReportReply {
     pub report: Report,
 }
 
-// Whose writeset was committed (ticket 0 for a *next*, or for an out slot), whether the turn moved, the tickets aborted, rising, zeros behind the first `count`, and whether the lent
-// bytes now hold a block to append to the journal.
+// Whose writeset was committed (ticket 0 for a *next*, or for an out slot), whether the turn moved, the tickets aborted, rising, zeros behind the first `count`, and whether the block
+// of the slot that the turn left, which the window now holds, is to be appended to the journal.
 #[repr(C)]
 pub struct WorkReply {
     pub number: u8,

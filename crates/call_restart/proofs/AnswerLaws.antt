@@ -5,7 +5,7 @@ use mathlib.Core.Bool.{Bool, true, false, _&&_, and-false}
 use mathlib.Core.List.{List}
 use lib.Dec.{eqb}
 use lib.IntN.{ℤ}
-use lib.ListN.{length, replicate}
+use lib.ListN.{length, replicate, length-replicate}
 use borrow.Author.Tests.{eq-eqb, ne-eqb, eqb-true}
 use Rattle.block.specs.Answers.{firstOf}
 use Rattle.block.proofs.BoolLaws.{both}
@@ -13,13 +13,14 @@ use Rattle.memory.specs.declared.Counts.{Counts}
 use Rattle.memory.specs.declared.Group.{Group}
 use Rattle.memory.specs.declared.Turn.{Turn}
 use Rattle.memory.specs.declared.Txn.{Txn}
-use Rattle.memory.specs.Memory.{Store, Memory, groupOf}
+use Rattle.memory.specs.Memory.{Store, Memory, windowBytes, groupOf}
 use Rattle.memory.specs.Notices.{withNotices}
 use Rattle.memory.specs.Rows.{closed}
+use Rattle.memory.specs.Window.{emptyWindow}
 use Rattle.engine.specs.Answers.{Outcome, outcome}
 use Rattle.engine.specs.Answers.Answer.{refused, restarted}
 use Rattle.engine.specs.Make.{madeMemory, makeRefusal, makeStep}
-use Rattle.engine.specs.Restart.{Replayed, blocksIn, commitBlocks, startReplay, restartRefusal, restartedMemory, restartStep}
+use Rattle.engine.specs.Restart.{Replayed, blocksIn, commitBlocks, startReplay, refilled, restartRefusal, restartedMemory, restartStep}
 use Rattle.engine.proofs.Tests.{cond-by, bool-by}
 use Rattle.call_reply.specs.Parts.{allParts}
 use Rattle.call_reply.specs.declared.Restarted.{Restarted}
@@ -64,7 +65,7 @@ module _ (m : Memory) (n own : ℕ) (start : List ℤ) (journal notices block : 
     pub restart-refused : (k ≡ 0 → ⊥) → (group : Group) (turn : Turn) (counts : Counts) (rows : List Txn)
         → outcome (refused k)
         (allParts (ifMade k group (m .group)) (ifMade k turn (m .turn)) (ifMade k counts (m .counts)) (ifMade k rows (m .txns .table)) (left .txns .queue) (left .txns .items) (left .txns .writes) (left .txns .snapshots)
-        (left .store .values) (left .store .stamps) (left .store .classes) (left .blocks .places) (left .blocks .outbox))
+        (left .store .values) (left .store .stamps) (left .store .classes) (left .blocks .places) (left .blocks .outbox) (left .blocks .window))
         ≡ restartLent m n own start journal notices block
     unfolding restartLent restartStep makeStep
     restart-refused h group turn counts rows =
@@ -76,7 +77,12 @@ module _ (m : Memory) (n own : ℕ) (start : List ℤ) (journal notices block : 
       unfolding makeStep
       is-made = rw (← is-refusal, free) at (make .1)
 
-      module _ (t : JournalTally) (v : List ℤ) (s : List ℕ) (p : Replays n own journal (noticesIn notices) (replayed 0 (left .store .values) (left .store .stamps)) v s t) where
+      -- the window that the make cleared has its length
+      pub restart-window : length (left .blocks .window) ≡ windowBytes
+      unfolding madeMemory emptyWindow
+      restart-window = rw is-made (length-replicate {A = ℕ} windowBytes 0)
+
+      module _ (t : JournalTally) (v : List ℤ) (s w : List ℕ) (p : Replays n own journal (noticesIn notices) (replayed 0 (left .store .values) (left .store .stamps)) (left .blocks .window) v s w t) where
         -- nobody is out but by the notices
         abbrev pub noticed : Restarted
         noticed = answered (withNotices (groupOf n own) (noticesIn notices)) t
@@ -85,18 +91,22 @@ module _ (m : Memory) (n own : ℕ) (start : List ℤ) (journal notices block : 
         unfolding madeMemory
         same-replay = rw is-made at (p .store)
 
+        same-window : w ≡ refilled (blocksIn n journal)
+        unfolding madeMemory
+        same-window = rw is-made at (p .window-kept)
+
         same-commits : t .commits ≡ commitBlocks (startReplay start) (blocksIn n journal) .commits
         same-commits = ap (λ (x : Replayed). x .commits) same-replay
 
-        -- the parts that the make cleared stay, and the blocks' values and stamps are added
+        -- the parts that the make cleared stay, and the blocks' values and stamps are added, and they themselves in the window
         pub restart-taken : outcome (restarted (t .blocks) (blockNumber (t .last) journal))
             (allParts (noticed .group) (noticed .turn) (noticed .counts) (replicate 6 closed) (left .txns .queue) (left .txns .items) (left .txns .writes) (left .txns .snapshots)
-            v s (left .store .classes) (left .blocks .places) (left .blocks .outbox))
+            v s (left .store .classes) (left .blocks .places) (left .blocks .outbox) w)
             ≡ restartLent m n own start journal notices block
         unfolding restartLent restartStep restartedMemory madeMemory answered
         restart-taken =
             let a : _≡_ {A = Store} (record { values = v; stamps = s; classes = replicate 128 0 }) (commitBlocks (startReplay start) (blocksIn n journal) .store) = ap (λ (x : Replayed). x .store) same-replay in
-            rw (threes fits, same-refusal, ← is-refusal, free, is-made, p .blocks, p .last-block, p .highest, p .committed, same-commits, a)
+            rw (threes fits, same-refusal, ← is-refusal, free, is-made, p .blocks, p .last-block, p .highest, p .committed, same-commits, same-window, a)
 
         -- turn and counts of the answer by themselves
         pub restart-turn : noticed .turn ≡ restartedMemory n own start (noticesIn notices) (blocksIn n journal) .turn

@@ -1,4 +1,4 @@
-// A restart from a journal: the blocks that it has in slot order are committed, and the last own one outside out slots is given back.
+// A restart from a journal: the blocks that it has in slot order are committed, the window is filled with them, and the last own one outside out slots is given back.
 ghost use mathlib.Core.Path.{_≡_};
 ghost use mathlib.Core.Bool.{_&&_};
 ghost use mathlib.Core.List.{List};
@@ -132,6 +132,7 @@ pub fn restart(
     classes: &mut [u8],
     places: &mut [u8],
     outbox: &mut [u8],
+    window: &mut [u8],
     journal: &[u8],
     notices: &[u32],
     block: &mut [u8],
@@ -140,13 +141,13 @@ pub fn restart(
         GivesWith restartReply
         (restartLent
         (allParts group turn counts rows (now (queue .entry)) (now (items .entry)) (now (writes .entry)) (now (snapshots .entry))
-        (now (values .entry)) (now (stamps .entry)) (now (classes .entry)) (now (places .entry)) (now (outbox .entry)))
+        (now (values .entry)) (now (stamps .entry)) (now (classes .entry)) (now (places .entry)) (now (outbox .entry)) (now (window .entry)))
         n own (now (start .entry)) (now (journal .entry)) (now (notices .entry)) (now (block .entry)))
         (now (block .entry))
         (r .reply)
         (allParts (ifMade (r .reply .number) (r .group) group) (ifMade (r .reply .number) (r .turn) turn) (ifMade (r .reply .number) (r .counts) counts) (ifMade (r .reply .number) (replicate 6 closed) rows)
         (now (queue .exit)) (now (items .exit)) (now (writes .exit)) (now (snapshots .exit))
-        (now (values .exit)) (now (stamps .exit)) (now (classes .exit)) (now (places .exit)) (now (outbox .exit)))
+        (now (values .exit)) (now (stamps .exit)) (now (classes .exit)) (now (places .exit)) (now (outbox .exit)) (now (window .exit)))
         (now (block .exit)))
         × (r .group ≡ ifMade (r .reply .number) (withNotices (groupOf n own) (noticesIn (now (notices .entry)))) (groupOf 0 0))
         × (r .turn ≡ ifMade (r .reply .number) (restartedMemory n own (now (start .entry)) (noticesIn (now (notices .entry))) (blocksIn n (now (journal .entry))) .turn) turnZero)
@@ -168,11 +169,20 @@ pub fn restart(
         &mut *classes,
         &mut *places,
         &mut *outbox,
+        &mut *window,
     );
     if made.number != 0 {
         return refused(made.number);
     }
-    let tally = read_journal(n, own, journal, notices, &mut *values, &mut *stamps);
+    let tally = read_journal(
+        n,
+        own,
+        journal,
+        notices,
+        &mut *values,
+        &mut *stamps,
+        &mut *window,
+    );
     give_back(journal, tally.last, &mut *block);
     let group = with_notices(made.group, notices);
     answer(group, tally)

@@ -14,8 +14,9 @@ use Rattle.block_writer.proofs.WholeLaws.{header-written, block-put}
 use Rattle.memory.specs.declared.Turn.{Turn}
 use Rattle.memory.specs.Memory.{Memory, ownerAt, withDone, withTurn}
 use Rattle.memory.specs.Turns.{advance}
+use Rattle.memory.specs.Window.{keeping}
 use Rattle.engine.specs.Moves.{nextAtTurn, passOut}
-use Rattle.call_reply.specs.Replies.{workReply, GivesWith}
+use Rattle.call_reply.specs.Replies.{workReply, Gives}
 
 abbrev pub nextOf : ℕ → ℕ → ℕ → Message
 nextOf sender replicas slot = record { kind = 1; sender = sender; replicas = replicas; slot = slot; records = [] }
@@ -29,14 +30,14 @@ next-put sender replicas slot z a r l hs c e q p w y =
     block-put (nextOf sender replicas slot) 0 refl (omega arith) z r l hs (putMid 0 16 l hs) c e q
     (header-written z l hs e q a (headerFor (nextOf sender replicas slot)) p) (sym (take-append-drop 16 (putMid 0 16 l hs))) w y
 
--- t is the turn after it, k its owner, block what the bytes lent become
+-- t is the turn after it, k its owner, w what the window becomes
 pub out-passed : (m : Memory) (t : Turn) → t ≡ advance (m .turn) → (k : ℕ) → k ≡ ownerAt (m .group) (m .turn .slot)
-    → (lent block : List ℕ) → length block ≡ 512 → block ≡ blockOf (nextOf k (m .group .replicas) (m .turn .slot))
-    → GivesWith workReply (passOut m) lent
+    → (block : List ℕ) → length block ≡ 512 → block ≡ blockOf (nextOf k (m .group .replicas) (m .turn .slot))
+    → (w : List ℕ) → w ≡ keeping (m .blocks .window) (m .turn .slot) block
+    → Gives workReply (passOut m)
     (record { number = 0; sender = k; moved = true; count = 0; ticket = 0; aborted = replicate 6 0; append = true })
-    (withTurn m t (withDone (m .counts) 0) (m .blocks))
-    block
+    (withTurn m t (withDone (m .counts) 0) (record { places = m .blocks .places; outbox = m .blocks .outbox; window = w }))
 unfolding passOut
-out-passed m t e k owner lent block long is =
+out-passed m t e k owner block long is w ew =
     let same : block ≡ blockOf (nextAtTurn m) = rw owner at is in
-    rw (e, owner, ← same, long) ((refl, refl), refl)
+    rw (e, owner, ew, ← same, long) (refl, refl)

@@ -7,14 +7,14 @@ ghost use lib.Dec.{eqb, leb};
 ghost use lib.ListN.{length, getD, set, replicate};
 ghost use lib.Seq.{slice};
 ghost use Rattle.block.specs.Bytes.{blockOf};
-ghost use Rattle.memory.specs.Memory.{Memory, span, withDone};
+ghost use Rattle.memory.specs.Memory.{Memory, span, windowBytes, withDone};
 ghost use Rattle.memory.specs.Notices.{isOut};
 ghost use Rattle.memory.specs.Rows.{endRows};
 ghost use Rattle.memory.specs.Turns.{advance, placeStart};
+ghost use Rattle.memory.specs.Window.{keeping};
 ghost use Rattle.engine.specs.Moves.{workLent, outAtTurn, workRefusal, passOut, passNext, workStep};
 ghost use Rattle.call_reply.specs.Parts.{workParts};
-ghost use Rattle.call_reply.specs.Replies.{workReply, GivesWith};
-ghost use Rattle.call_reply.specs.Called.{withBlock};
+ghost use Rattle.call_reply.specs.Replies.{workReply, Gives};
 ghost use Rattle.call_ending.specs.Writesets.{noMarks};
 ghost use Rattle.call_work.specs.Works.{turnParts, endedMarks};
 use block::Header;
@@ -29,23 +29,26 @@ use memory::Counts;
 use memory::Group;
 use memory::Turn;
 use memory::Txn;
+use memory::WINDOW_BYTES;
+use memory::WINDOW_SLOTS;
 use memory::bytes::byte_at;
-use memory::bytes::copy_bytes;
 use memory::cursor::owner_at;
 use memory::cursor::place_start;
 use memory::notices::is_out;
 use memory::rows::clear_bytes;
+use memory::window::keep;
 
 // Whether the slices lent have their lengths.
-fn lengths_fit(
+pub fn lengths_fit(
     replicas: u8,
     queue: usize,
     items: usize,
     values: usize,
     stamps: usize,
     places: usize,
+    window: usize,
 ) -> bool
-    ensures { λ r. ⌜ r ≡ (eqb places (512 * replicas) && (eqb items 48 && (eqb queue 6 && (eqb values 128 && eqb stamps 128)))) ⌝ }
+    ensures { λ r. ⌜ r ≡ (eqb places (512 * replicas) && (eqb items 48 && (eqb queue 6 && (eqb values 128 && (eqb stamps 128 && eqb window windowBytes))))) ⌝ }
 {
     if places != 512 * replicas as usize {
         return false;
@@ -59,7 +62,10 @@ fn lengths_fit(
     if values != 128 {
         return false;
     }
-    stamps == 128
+    if stamps != 128 {
+        return false;
+    }
+    window == WINDOW_BYTES
 }
 
 // Why a work is refused, 0 where it is not; `fits` where what it is lent has its lengths, `out` where the turn's slot is out, `at` where its place starts.
@@ -97,7 +103,7 @@ fn unchanged(number: u8, turn: Turn, counts: Counts) -> Worked
     }
 }
 
-// The *next* of a slot, written into the bytes lent for the journal.
+// The *next* of a slot, written into 512 bytes.
 fn put_next(sender: u8, replicas: u8, slot: u32, block: &mut [u8])
     requires { ⌜ length (now block) ≡ 512 ⌝ }
     ensures { λ _. ⌜ now (block .exit) ≡ blockOf (record { kind = 1; sender = sender; replicas = replicas; slot = slot; records = [] }) ⌝ }
@@ -114,20 +120,20 @@ fn put_next(sender: u8, replicas: u8, slot: u32, block: &mut [u8])
     write_check(&mut *block);
 }
 
-// An out slot passed: its *next* is handed out, also where it is the replica's own, the turn advances, and no row ends.
-fn pass_out(group: Group, turn: Turn, counts: Counts, block: &mut [u8]) -> Worked
-    requires { ⌜ (isOut group (turn .slot) ≡ true) × (length (now block) ≡ 512) ⌝ }
+// An out slot passed: the window gets its *next*, which is handed out, also where it is the replica's own, the turn advances, and no row ends.
+fn pass_out(group: Group, turn: Turn, counts: Counts, window: &mut [u8]) -> Worked
+    requires { ⌜ (isOut group (turn .slot) ≡ true) × (length (now window) ≡ windowBytes) ⌝ }
     ensures { λ r. ⌜ ((m : Memory) →
-        GivesWith workReply
-        (passOut (turnParts m group turn counts (m .txns .table) (m .blocks .places)))
-        (now (block .entry))
+        Gives workReply
+        (passOut (turnParts m group turn counts (m .txns .table) (m .blocks .places) (now (window .entry))))
         (r .reply)
-        (turnParts m group (r .turn) (r .counts) (m .txns .table) (m .blocks .places))
-        (now (block .exit)))
+        (turnParts m group (r .turn) (r .counts) (m .txns .table) (m .blocks .places) (now (window .exit))))
         × (r .ended ≡ noMarks) ⌝ }
 {
     let sender = owner_at(group, turn.slot) as u8;
-    put_next(sender, group.replicas, turn.slot, &mut *block);
+    let at = place_start(WINDOW_SLOTS, turn.slot);
+    let end = at + 512;
+    put_next(sender, group.replicas, turn.slot, &mut window[at..end]);
     let mut after = counts;
     after.done = 0;
     Worked {
@@ -146,41 +152,26 @@ fn pass_out(group: Group, turn: Turn, counts: Counts, block: &mut [u8]) -> Worke
     }
 }
 
-// Hands out the block that the turn leaves, for the journal, where another sent it: the replica's own is in the journal since its send. Whether it did.
-fn hand_out(sender: u8, own: u8, place: &[u8], block: &mut [u8]) -> bool
-    requires { ⌜ length (now block) ≡ length (now place) ⌝ }
-    ensures { λ r. ⌜ (let other = not (eqb sender own) in
-        (r ≡ other) × (now (block .exit) ≡ cond other (now (place .entry)) (now (block .entry)))) ⌝ }
-{
-    if sender == own {
-        return false;
-    }
-    copy_bytes(place, &mut *block);
-    true
-}
-
-// A *next* passed: its block is handed out, the place empties, the turn advances, and no row ends.
+// A *next* passed: the window keeps its block, the place empties, the turn advances, and no row ends. The block is handed out where another sent it: the replica's own is in the journal since its send.
 fn pass_next(
     group: Group,
     turn: Turn,
     counts: Counts,
     places: &mut [u8],
     at: usize,
-    block: &mut [u8],
+    window: &mut [u8],
 ) -> Worked
-    requires { ⌜ (at ≡ placeStart (span group) (turn .slot)) × (at + 512 ≤ length (now places)) × (length (now block) ≡ 512) ⌝ }
+    requires { ⌜ (at ≡ placeStart (span group) (turn .slot)) × (at + 512 ≤ length (now places)) × (length (now window) ≡ windowBytes) ⌝ }
     ensures { λ r. ⌜ ((m : Memory) →
-        GivesWith workReply
-        (passNext (turnParts m group turn counts (m .txns .table) (now (places .entry))))
-        (now (block .entry))
+        Gives workReply
+        (passNext (turnParts m group turn counts (m .txns .table) (now (places .entry)) (now (window .entry))))
         (r .reply)
-        (turnParts m group (r .turn) (r .counts) (m .txns .table) (now (places .exit)))
-        (now (block .exit)))
+        (turnParts m group (r .turn) (r .counts) (m .txns .table) (now (places .exit)) (now (window .exit))))
         × (r .ended ≡ noMarks) ⌝ }
 {
     let sender = places[at + 1];
     let end = at + 512;
-    let append = hand_out(sender, group.own, &places[at..end], &mut *block);
+    keep(&mut *window, turn.slot, &places[at..end]);
     places[at] = 0;
     let mut after = counts;
     after.done = 0;
@@ -192,7 +183,7 @@ fn pass_next(
             count: 0,
             ticket: 0,
             aborted: [0; 6],
-            append: append,
+            append: sender != group.own,
         },
         turn: turn.advance(),
         counts: after,
@@ -243,11 +234,10 @@ fn answered(
     }
 }
 
-// After a writeset: with its block's last one the block is handed out, the place empties and the turn advances.
-fn pass_writeset(ended: Ended, own: u8, places: &mut [u8], at: usize, block: &mut [u8]) -> Worked
-    requires { ⌜ (at + 512 ≤ length (now places)) × (length (now block) ≡ 512) ⌝ }
+// After a writeset: with its block's last one the window keeps the block, the place empties and the turn advances; the block is handed out where another sent it.
+fn pass_writeset(ended: Ended, own: u8, places: &mut [u8], at: usize, window: &mut [u8]) -> Worked
+    requires { ⌜ (at + 512 ≤ length (now places)) × (length (now window) ≡ windowBytes) ⌝ }
     ensures { λ r. ⌜ (let last = leb (getD (now (places .entry)) (at + 3) 0) (ended .counts .done + 1) in
-        let append = last && not (eqb (getD (now (places .entry)) (at + 1) 0) own) in
         (r
         ≡ record {
           reply = record {
@@ -257,14 +247,14 @@ fn pass_writeset(ended: Ended, own: u8, places: &mut [u8], at: usize, block: &mu
             count = ended .count;
             ticket = ended .ticket;
             aborted = ended .aborted;
-            append = append;
+            append = last && not (eqb (getD (now (places .entry)) (at + 1) 0) own);
           };
           turn = cond last (advance (ended .turn)) (ended .turn);
           counts = withDone (ended .counts) (cond last 0 (ended .counts .done + 1));
           ended = ended .marks;
         })
         × (now (places .exit) ≡ cond last (set (now (places .entry)) at 0) (now (places .entry)))
-        × (now (block .exit) ≡ cond append (slice at (at + 512) (now (places .entry))) (now (block .entry)))) ⌝ }
+        × (now (window .exit) ≡ cond last (keeping (now (window .entry)) (ended .turn .slot) (slice at (at + 512) (now (places .entry)))) (now (window .entry)))) ⌝ }
 {
     let sender = places[at + 1];
     let count = places[at + 3];
@@ -273,17 +263,17 @@ fn pass_writeset(ended: Ended, own: u8, places: &mut [u8], at: usize, block: &mu
     let next = counts.done as u32 + 1;
     if count as u32 <= next {
         let end = at + 512;
-        let append = hand_out(sender, own, &places[at..end], &mut *block);
+        keep(&mut *window, turn.slot, &places[at..end]);
         places[at] = 0;
         counts.done = 0;
         let advanced = turn.advance();
-        return answered(sender, true, append, advanced, counts, ended);
+        return answered(sender, true, sender != own, advanced, counts, ended);
     }
     counts.done = next as u8;
     answered(sender, false, false, turn, counts, ended)
 }
 
-// Processes the next step at the turn: an out slot, a *next*, or one writeset. The block lent last is for the journal: another's, where the turn leaves its slot, or the *next* of an out slot.
+// Processes the next step at the turn: an out slot, a *next*, or one writeset. Where the turn leaves its slot, the window has the slot's block: the one that waited, or the *next* of an out slot.
 pub fn work(
     rows: [Txn; 6],
     group: Group,
@@ -294,21 +284,16 @@ pub fn work(
     values: &mut [i32],
     stamps: &mut [u32],
     places: &mut [u8],
-    block: &mut [u8],
+    window: &mut [u8],
 ) -> Worked
     ensures { λ r. ⌜ ((m : Memory) →
-        let before = workParts m group turn counts rows (now (queue .entry)) (now (items .entry)) (now (values .entry)) (now (stamps .entry)) (now (places .entry)) in
-        GivesWith workReply
-        (withBlock (now (block .entry)) workStep before)
-        (now (block .entry))
+        let before = workParts m group turn counts rows (now (queue .entry)) (now (items .entry)) (now (values .entry)) (now (stamps .entry)) (now (places .entry)) (now (window .entry)) in
+        Gives workReply
+        (workStep before)
         (r .reply)
-        (workParts m group (r .turn) (r .counts) (endRows (r .ended) rows) (now (queue .exit)) (now (items .entry)) (now (values .exit)) (now (stamps .exit)) (now (places .exit)))
-        (now (block .exit))
-        × (r .ended ≡ endedMarks (now (block .entry)) before)) ⌝ }
+        (workParts m group (r .turn) (r .counts) (endRows (r .ended) rows) (now (queue .exit)) (now (items .entry)) (now (values .exit)) (now (stamps .exit)) (now (places .exit)) (now (window .exit)))
+        × (r .ended ≡ endedMarks before)) ⌝ }
 {
-    if block.len() != 512 {
-        return unchanged(1, turn, counts);
-    }
     let fits = lengths_fit(
         group.replicas,
         queue.len(),
@@ -316,6 +301,7 @@ pub fn work(
         values.len(),
         stamps.len(),
         places.len(),
+        window.len(),
     );
     let out = is_out(group, turn.slot);
     let at = place_start(group.replicas, turn.slot);
@@ -324,10 +310,10 @@ pub fn work(
         return unchanged(number, turn, counts);
     }
     if out {
-        return pass_out(group, turn, counts, &mut *block);
+        return pass_out(group, turn, counts, &mut *window);
     }
     if places[at] == 1 {
-        return pass_next(group, turn, counts, &mut *places, at, &mut *block);
+        return pass_next(group, turn, counts, &mut *places, at, &mut *window);
     }
     let end = at + 512;
     let ended = end_writeset(
@@ -341,5 +327,5 @@ pub fn work(
         &mut *stamps,
         &places[at..end],
     );
-    pass_writeset(ended, group.own, &mut *places, at, &mut *block)
+    pass_writeset(ended, group.own, &mut *places, at, &mut *window)
 }

@@ -177,6 +177,7 @@ send-frame m =
       counts = refl;
       store = refl;
       places = refl;
+      window = refl;
       items = refl;
       writes = refl;
       snapshots = refl;
@@ -193,6 +194,7 @@ send-same m = record {
   counts = refl;
   store = refl;
   places = refl;
+  window = refl;
   items = refl;
   writes = refl;
   snapshots = refl;
@@ -210,11 +212,12 @@ deliver-frame m b p =
     record {
       rest = refl;
       outbox = refl;
+      window = refl;
       places = paste-but 0 (m .blocks .places) b (placeStart r s) 512 (omega (arith, mod-lt s {m = r} (omega arith))) (omega arith);
     }
 
 deliver-same : (m : Memory) (s : ℕ) → DeliverFrame m m s
-deliver-same m s = record { rest = refl; outbox = refl; places = λ i h. refl }
+deliver-same m s = record { rest = refl; outbox = refl; window = refl; places = λ i h. refl }
 
 -- ---- notice
 
@@ -254,7 +257,7 @@ frames = record {
   delivers = λ m b. deliver-by (λ o. DeliverFrame m (o .memory) (headerOf b .slot)) m b
       (λ e. deliver-frame m b (deliver-passed m b e))
       (λ e. deliver-same m (headerOf b .slot));
-  works = λ m. work-by (λ o. WorkFrame m (o .memory)) m (λ e u. out-frame m) (λ e k. pass-frame m) (λ e k. commit-frame m _) (λ e. work-same m);
+  works = λ m. work-by (λ o. WorkFrame m (o .memory)) m (λ e u. out-frame m e) (λ a k. pass-frame m a) (λ a k. commit-frame m a _) (λ e. work-same m);
   loads = λ m l. load-by (λ o. o .memory ≡ withClasses m (o .memory .store .classes)) m l (λ e. refl) (λ e. refl);
   notices = λ m a. notice-by (λ o. NoticeFrame m (o .memory) (a .about)) m a (λ e. notice-frame m a) (λ e. notice-same m (a .about));
 }

@@ -33,7 +33,7 @@ has-rising t x (y ∷ ys) = go (ltb x y) (has-rising t x ys)
     go true ih = refl
     go false ih = rw ih (swap (eqb y t) (eqb x t) (has t ys))
 
-length-rising : (x : ℕ) (l : List ℕ) → length (insertRising x l) ≡ suc (length l)
+pub length-rising : (x : ℕ) (l : List ℕ) → length (insertRising x l) ≡ suc (length l)
 unfolding insertRising
 length-rising x [] = refl
 length-rising x (y ∷ ys) =

@@ -1,7 +1,7 @@
 -- what is computed from the definitions
 pub mod Worked
 -- What belongs to no one function. Laws over plain lists and numbers: tests and refusals, what a list has, its parts, the rows, the rows hit, the
--- queue, the places, a block that the reader takes.
+-- queue, the places, the window, a block that the reader takes.
 pub mod Tests
 pub mod HasLaws
 pub mod PartLaws
@@ -9,6 +9,7 @@ pub mod RowLaws
 pub mod HitLaws
 pub mod QueueLaws
 pub mod PlaceLaws
+pub mod RingLaws
 pub mod BlockFacts
 pub mod NoticeLaws
 -- what a call does, and what its tests say
@@ -54,6 +55,8 @@ pub mod Restarts
 pub mod Tickets
 -- out slots, and what a notice leaves alone
 pub mod NoticeClaims
+-- the window after each call
+pub mod Window
 -- with restarts among the calls: own writesets that a work meets
 pub mod Reached
 -- a station; a replica is none; a write with no table of classes, and the lock before staleness

@@ -19,7 +19,7 @@ use Rattle.memory.specs.Notices.{Notice, isOut, withNotice, putsOut}
 use Rattle.memory.specs.Turns.{advance}
 use Rattle.engine.specs.Answers.{WorkDone, Outcome}
 use Rattle.engine.specs.Answers.Answer.{worked, restarted}
-use Rattle.engine.specs.Moves.{outAtTurn, workLent, workRefusal, nextAtTurn, passOut}
+use Rattle.engine.specs.Moves.{outAtTurn, workLent, workRefusal, nextAtTurn, outBlocks, passOut}
 use Rattle.engine.specs.Notices.{noticeRefusal}
 use Rattle.engine.specs.Calls.{step}
 use Rattle.engine.specs.Calls.Call.{work, notice}
@@ -48,17 +48,17 @@ module _ {over : ℕ} (m : Memory) (S : Shape over m) (u : outAtTurn m ≡ true)
   lent-all : workLent m ≡ true
   lent-all =
       let l = S .lengths in
-      joined (eq-eqb _ _ (l .places)) (joined (eq-eqb _ _ (l .items)) (joined (eq-eqb _ _ (l .queue)) (joined (eq-eqb _ _ (l .values)) (eq-eqb _ _ (l .stamps)))))
+      joined (eq-eqb _ _ (l .places)) (joined (eq-eqb _ _ (l .items)) (joined (eq-eqb _ _ (l .queue)) (joined (eq-eqb _ _ (l .values)) (joined (eq-eqb _ _ (l .stamps)) (eq-eqb _ _ (l .window))))))
 
   -- a work there is not refused
   pub out-worked : workRefusal m ≡ 0
   unfolding workRefusal firstOf
   out-worked = rw (lent-all, u) refl
 
-  left-out : step m work .memory ≡ withTurn m (advance (m .turn)) (withDone (m .counts) 0) (m .blocks)
+  left-out : step m work .memory ≡ withTurn m (advance (m .turn)) (withDone (m .counts) 0) (outBlocks m)
   unfolding passOut
   left-out =
-      work-by (λ (o : Outcome). o .memory ≡ withTurn m (advance (m .turn)) (withDone (m .counts) 0) (m .blocks)) m (λ e v. refl)
+      work-by (λ (o : Outcome). o .memory ≡ withTurn m (advance (m .turn)) (withDone (m .counts) 0) (outBlocks m)) m (λ e v. refl)
       (λ a k. clash u (a .live)) (λ a k. clash u (a .live)) (λ z. absurd (z out-worked))
 
   passes-out : (s : WorkDone) × (passOut m .answer ≡ worked s) × OutPassed m s

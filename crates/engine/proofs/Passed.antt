@@ -1,28 +1,30 @@
 -- What a call's tests say where it is not refused. Assumes nothing.
 use Prim.Native.Nat.{ℕ, _+_, _*_, _≤_, _<_}
-use mathlib.Core.Path.{_≡_, refl}
+use mathlib.Core.Path.{_≡_, refl, _∙_}
 use mathlib.Core.Bool.{Bool, true, false, cond, not, _&&_, _||_}
 use mathlib.Core.List.{List}
 use native.Mathlib.Omega.{arith}
 use lib.Dec.{eqb, ltb, leb}
 use lib.IntN.{ℤ}
-use lib.ListN.{length, getD}
+use lib.ListN.{length, getD, List·getD-eq-default}
+use lib.Seq.{length-slice}
 use borrow.Author.Tests.{eqb-true, eqb-false, eq-eqb, ltb-false, leb-false, not-false}
 use Rattle.block.proofs.AnswerLaws.{not-refused}
 use Rattle.block.proofs.BoolLaws.{Both, both, is-within}
 use Rattle.block.specs.Answers.{blockRefusal, headerOf}
 use Rattle.block.specs.Message.{ownerOf, within, maxTicket}
-use Rattle.memory.specs.Memory.{Memory, span, slotLimit}
+use Rattle.memory.specs.Memory.{Memory, span, slotLimit, windowBytes, queueLent, itemsLent, valuesLent, stampsLent, placesLent}
 use Rattle.memory.specs.Notices.{Notice, isOut}
 use Rattle.memory.specs.Rows.{freeRow, writeCount}
-use Rattle.memory.specs.Turns.{isEmpty}
+use Rattle.memory.specs.Turns.{placeStart, isEmpty}
 use Rattle.engine.specs.Classes.{loadRefusal}
 use Rattle.engine.specs.Client.{freeNo, rowNo, rowIn, isOwn, noRow, notActive, heldByOther, beginRefusal, writeRefusal, askRefusal, withdrawRefusal}
-use Rattle.engine.specs.Moves.{outAtTurn, sentAlready, sendRefusal, sameBytes, isOwnBlock, deliverRefusal, workRefusal}
+use Rattle.engine.specs.Moves.{outAtTurn, sentAlready, sendRefusal, sameBytes, isOwnBlock, deliverRefusal, blockAtTurn, workRefusal}
 use Rattle.engine.specs.Notices.{placedFrom, sentFrom, barsOut, barsBack, noticeRefusal}
 use Rattle.engine.specs.Make.{SettingOf, placesFit, slicesFit, partsFit, sizeOut, makeRefusal}
 use Rattle.engine.specs.Restart.{restartRefusal}
-use Rattle.engine.proofs.Tests.{bool-by, clash, passes}
+use Rattle.engine.proofs.Tests.{bool-by, less-by, clash, passes}
+use Rattle.engine.proofs.PlaceLaws.{place-fits}
 use Rattle.engine.proofs.Steps.{Awaited}
 
 -- two tests joined, where their joint denial does not hold
@@ -187,10 +189,34 @@ deliver-passed m b e =
 
 -- ---- work
 
+pub record WorkLent (m : Memory) : Type 0 where
+  pub places : length (m .blocks .places) ≡ 512 * m .group .replicas
+  pub window : length (m .blocks .window) ≡ windowBytes
+
+pub work-lent : (m : Memory) → workRefusal m ≡ 0 → WorkLent m
+unfolding workRefusal
+work-lent m e =
+    let a = both-so (placesLent m) _ (passes _ _ refl e .0) in
+    let b = both (itemsLent m) _ (a .right) in
+    let c = both (queueLent m) _ (b .right) in
+    let d = both (valuesLent m) _ (c .right) in
+    let f = both (stampsLent m) _ (d .right) in
+    record { places = eqb-true _ _ (a .left); window = eqb-true _ _ (f .right) }
+
 -- a block waits at the turn
 pub work-passed : (m : Memory) → Awaited m → isEmpty (m .group .replicas) (m .turn .slot) (m .blocks .places) ≡ false
 unfolding workRefusal
 work-passed m a = let e = passes _ _ refl (passes _ _ refl (a .passed) .1) .0 in rw (a .live) at e
+
+-- of 512 bytes: with no replicas there would be no place, and none waits
+pub work-long : (m : Memory) → Awaited m → length (blockAtTurn m) ≡ 512
+work-long m a =
+    let n = m .group .replicas in
+    let s = m .turn .slot in
+    let l = work-lent m (a .passed) .places in
+    less-by 0 n
+    (λ h. let f = place-fits n s h in length-slice (placeStart n s) (placeStart n s + 512) (m .blocks .places) (omega arith) ∙ omega arith)
+    (λ h. clash (eq-eqb _ 0 (List·getD-eq-default (m .blocks .places) 0 (omega arith))) (work-passed m a))
 
 -- ---- notice
 

@@ -12,10 +12,14 @@ use borrow.Author.Tests.{eqb-true}
 use Rattle.block.specs.Message.{Record}
 use Rattle.block.specs.Answers.{blockRefusal, headerOf}
 use Rattle.block.proofs.BoolLaws.{both}
-use Rattle.engine.specs.Restart.{isGood, blocksFrom, firstBlocks, writesetsFrom, writesetsIn, Replayed, commitOne, commitAll, commitBlocks, isFrom, highestTicket, highestOwn, ownWritesets}
+use Rattle.block.proofs.AnswerLaws.{is-taken}
+use Rattle.memory.specs.Memory.{windowBytes}
+use Rattle.memory.specs.Window.{emptyWindow}
+use Rattle.engine.specs.Restart.{isGood, blocksFrom, firstBlocks, writesetsFrom, writesetsIn, Replayed, commitOne, commitAll, commitBlocks, isFrom, highestTicket, highestOwn, ownWritesets, refilled}
 use Rattle.engine.specs.History.{writesetCount}
 use Rattle.engine.proofs.Tests.{cond-by, bump-is}
 use Rattle.engine.proofs.BlockFacts.{taken-block}
+use Rattle.engine.proofs.RingLaws.{length-empty, length-keepingAll}
 use Rattle.engine.proofs.ShapeWriteset.{length-applied, length-stamped}
 
 -- ---- the blocks
@@ -144,3 +148,7 @@ pub blocks-long : (bs : List (List ℕ)) (r : Replayed) → Long r → Long (com
 unfolding commitBlocks
 blocks-long [] r h = h
 blocks-long (b ∷ bs) r h = blocks-long bs (commitAll r (writesetsIn b)) (all-long (writesetsIn b) r h)
+
+-- 32,768 bytes of window too
+pub length-refilled : (n : ℕ) (bs : List (List ℕ)) → AllGood n bs → length (refilled bs) ≡ windowBytes
+length-refilled n bs g = length-keepingAll bs emptyWindow 0 length-empty (λ b q. is-taken b (good-taken n b (g b q)) .long)

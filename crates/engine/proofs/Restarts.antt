@@ -7,6 +7,7 @@ use lib.ListN.{length, replicate}
 use borrow.Author.Tests.{eq-eqb}
 use Rattle.memory.specs.Memory.{Memory}
 use Rattle.memory.specs.Notices.{Notice, withNotices}
+use Rattle.memory.specs.Window.{keepingAll}
 use Rattle.engine.specs.Answers as calls
 use Rattle.engine.specs.Answers.{Outcome, outcome}
 use Rattle.engine.specs.Answers.Answer.{restarted}
@@ -30,5 +31,5 @@ restarts = record {
       restart-by (λ (o : Outcome). o .memory ≡ m) m n own values journal notices block (λ e. absurd (z e)) (λ e. refl);
   any-parts = λ m k n own values journal notices block e f. restart-done m n own values journal notices block e ∙ sym (restart-done k n own values journal notices block f);
   first = λ n journal. reads-first n 0 (length journal / 512) journal;
-  empty = λ n own values. unfold blocksFrom commitBlocks highestOwn ownWritesets withNotices restartedMemory madeMemory in refl;
+  empty = λ n own values. unfold blocksFrom commitBlocks highestOwn ownWritesets withNotices keepingAll restartedMemory madeMemory in refl;
 }

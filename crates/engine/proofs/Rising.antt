@@ -38,7 +38,7 @@ rises-at (x ∷ xs) r j zero h u = absurd (not-suc-le-zero h)
 rises-at (x ∷ xs) r zero (suc k) h u = r .0 (getD xs k 0) (has-at _ xs k (le-of-suc-le-suc u) refl)
 rises-at (x ∷ xs) r (suc j) (suc k) h u = rises-at xs (r .1) j k (le-of-suc-le-suc h) (le-of-suc-le-suc u)
 
-rises-insert : (x : ℕ) (l : List ℕ) → has x l ≡ false → Rises l → Rises (insertRising x l)
+pub rises-insert : (x : ℕ) (l : List ℕ) → has x l ≡ false → Rises l → Rises (insertRising x l)
 unfolding Rises insertRising has
 rises-insert x [] n r = ((λ z h. clash {b = false} h refl), tt)
 rises-insert x (y ∷ ys) n r =

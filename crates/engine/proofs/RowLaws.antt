@@ -123,7 +123,7 @@ pub open-close : (l : List Txn) (r : ℕ) → r < length l → (rowAt l r .ticke
 open-close l r h z = omega (arith, open-set l r closed h, open-is (rowAt l r) z)
 
 -- all of them, where no row is free
-open-few : (l : List Txn) → openCount l ≤ length l
+pub open-few : (l : List Txn) → openCount l ≤ length l
 open-few [] = unfold openCount in omega arith
 open-few (t ∷ ts) = let h = open-few ts in let e = open-cons t ts in let o = one-few (isOpen t) in omega arith
   where

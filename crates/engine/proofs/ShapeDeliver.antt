@@ -61,6 +61,6 @@ module _ {over : ℕ} (m : Memory) (bytes : List ℕ) (S : Shape over m) (k : De
   unfolding deliverNow
   shape-delivered =
       let f = place-fits n (headerOf bytes .slot) (omega (arith, S .ranges .least)) in
-      shape-besides m S (m .turn) (m .counts .done) new (m .txns .writes)
+      shape-besides m S (m .turn) (m .counts .done) new (m .blocks .window) (m .txns .writes)
       (length-paste old (placeStart n (headerOf bytes .slot)) bytes 512 (omega (arith, S .lengths .places)) (omega (arith, k .long)) ∙ S .lengths .places)
-      (S .lengths .writes) (S .ranges .slot) (S .ranges .commits) places
+      (S .lengths .window) (S .lengths .writes) (S .ranges .slot) (S .ranges .commits) places

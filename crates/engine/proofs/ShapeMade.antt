@@ -16,6 +16,7 @@ use Rattle.engine.specs.Make.{Setting, SettingOf, madeMemory}
 use Rattle.engine.specs.Moves.{waiting}
 use Rattle.engine.specs.Shape.{Shape}
 use Rattle.engine.proofs.Tests.{less-by, clash}
+use Rattle.engine.proofs.RingLaws.{length-empty}
 use Rattle.engine.proofs.Shaping.{row-of-fits, fits-closed, single-of}
 
 -- any element of zeros, and any past them
@@ -37,6 +38,7 @@ shape-numbered n own values setting among = record {
     classes = length-replicate {A = ℕ} 128 0;
     places = length-replicate {A = ℕ} (512 * n) 0;
     outbox = length-replicate {A = ℕ} 512 0;
+    window = length-empty;
     from = refl;
     until = refl;
   };

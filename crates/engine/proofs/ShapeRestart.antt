@@ -20,7 +20,7 @@ use Rattle.engine.proofs.Tests.{clash}
 use Rattle.engine.proofs.Shaping.{row-of-fits, fits-closed, shape-grouped, single-of}
 use Rattle.engine.proofs.NoticeLaws.{notices-kept}
 use Rattle.engine.proofs.ShapeMade.{getD-zeros}
-use Rattle.engine.proofs.RestartLaws.{AllGood, reads-good, reads-few, count-few, own-few, highest-few, blocks-counted, blocks-long}
+use Rattle.engine.proofs.RestartLaws.{AllGood, reads-good, reads-few, count-few, own-few, highest-few, blocks-counted, blocks-long, length-refilled}
 
 -- lent no notices
 shape-unnoticed : (n own : ℕ) (values : List ℤ) → SettingOf n own values
@@ -44,6 +44,7 @@ shape-unnoticed n own values setting bs good few =
         classes = l .classes;
         places = length-replicate {A = ℕ} (512 * n) 0;
         outbox = length-replicate {A = ℕ} 512 0;
+        window = length-refilled n bs good;
         from = refl;
         until = refl;
       };

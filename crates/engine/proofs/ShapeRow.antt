@@ -141,6 +141,7 @@ module _ {over : ℕ} (m : Memory) (s : Shape over m) (r : ℕ) (h : r < 6) (t :
         classes = s .lengths .classes;
         places = s .lengths .places;
         outbox = s .lengths .outbox;
+        window = s .lengths .window;
         from = s .lengths .from;
         until = s .lengths .until;
       }

@@ -16,7 +16,7 @@ use Rattle.block.proofs.BlockLaws.{length-recordBytes, length-headerBytes}
 use Rattle.memory.specs.declared.Txn.{Txn}
 use Rattle.memory.specs.Memory.{Transactions, Memory}
 use Rattle.memory.specs.Rows.{openCount, rowOf, rowAt}
-use Rattle.engine.specs.Moves.{waiting, writesetOf, messageFor, sendRow, sendNow}
+use Rattle.engine.specs.Moves.{waiting, writesetOf, messageFor, sendRow, sendNow, nextAtTurn}
 use Rattle.engine.specs.Shape.{RowShape, QueueShape, Shape}
 use Rattle.engine.proofs.Tests.{cond-by}
 use Rattle.engine.proofs.RowLaws.{sent-row}
@@ -50,6 +50,11 @@ length-writesets x (t ∷ ts) = simp (length-append, length-recordBytes (writese
 length-block : (w : Message) (n : ℕ) → length (w .records) ≡ n → n ≤ 6 → length (recordsBytes (w .records)) ≡ 72 * n → length (blockOf w) ≡ 512
 unfolding blockOf bodyBytes
 length-block w n e h l = simp (length-append, length-checkBytes, length-headerBytes, e, l, length-replicate) (omega arith)
+
+-- that of an out slot too
+pub length-next : (m : Memory) → length (blockOf (nextAtTurn m)) ≡ 512
+unfolding recordsBytes
+length-next m = length-block (nextAtTurn m) 0 refl (omega arith) refl
 
 pub length-outbox : (m : Memory) → length (m .txns .queue) ≡ 6 → length (blockOf (messageFor m)) ≡ 512
 unfolding messageFor
@@ -111,6 +116,7 @@ module _ {over : ℕ} (m : Memory) (S : Shape over m) where
       classes = S .lengths .classes;
       places = S .lengths .places;
       outbox = length-outbox m (S .lengths .queue);
+      window = S .lengths .window;
       from = S .lengths .from;
       until = S .lengths .until;
     };

@@ -7,23 +7,27 @@ use native.Mathlib.Omega.{arith}
 use lib.Dec.{eqb}
 use lib.ListN.{length, getD, length-set}
 use Rattle.block.specs.Answers.{blockRefusal, headerOf, recordAt}
-use Rattle.memory.specs.Memory.{Memory, bump}
+use Rattle.block.specs.Bytes.{blockOf}
+use Rattle.memory.specs.Memory.{Memory, windowBytes, bump}
 use Rattle.memory.specs.Notices.{isOut}
 use Rattle.memory.specs.Turns.{advance, placeStart, blockIn, isEmpty, emptied}
-use Rattle.engine.specs.Moves.{outAtTurn, blockAtTurn, passNext, passOut}
+use Rattle.engine.specs.Moves.{outAtTurn, blockAtTurn, windowWith, passNext, nextAtTurn, passOut}
 use Rattle.engine.specs.Shape.{PlaceShape, Shape}
 use Rattle.engine.proofs.Tests.{same-by, clash, bump-is}
 use Rattle.engine.proofs.PlaceLaws.{place-again, empty-same, emptied-empty, emptied-beside}
 use Rattle.engine.proofs.BlockFacts.{taken-block}
 use Rattle.engine.proofs.Steps.{Awaited}
-use Rattle.engine.proofs.Passed.{work-passed}
+use Rattle.engine.proofs.Passed.{work-passed, work-long}
+use Rattle.engine.proofs.RingLaws.{length-keeping}
 use Rattle.engine.proofs.NoticeLaws.{in-outage}
 use Rattle.engine.proofs.Shaping.{shape-besides, bumps}
+use Rattle.engine.proofs.ShapeSend.{length-next}
 
 -- ---- what an accepted work's tests say
 
 pub record Working (m : Memory) : Type 0 where
   pub waits : isEmpty (m .group .replicas) (m .turn .slot) (m .blocks .places) ≡ false
+  pub long : length (blockAtTurn m) ≡ 512
   pub slot : m .turn .slot ≤ 99_999_999
   pub few : getD (blockAtTurn m) 3 0 ≤ 6
   pub next : getD (blockAtTurn m) 0 0 ≡ 1 → m .counts .done ≡ 0
@@ -43,6 +47,7 @@ working m S e =
     let few : n < 6 = same-by n 0 (λ q. omega arith) (λ d. omega (arith, begun d, k .count)) in
     record {
       waits = p;
+      long = work-long m e;
       slot = omega (arith, k .slot, w .1);
       few = k .count;
       next = λ h. same-by n 0 (λ q. q) (λ d. absurd (omega (arith, begun d, k .next h)));
@@ -119,6 +124,10 @@ module _ {over : ℕ} (m : Memory) (S : Shape over m) (w : Working m) where
   pub length-emptied : length new ≡ 512 * n
   length-emptied = length-set old (placeStart n turn) 0 ∙ S .lengths .places
 
+  -- the window has its block
+  pub length-kept : length (windowWith m (blockAtTurn m)) ≡ windowBytes
+  length-kept = length-keeping (m .blocks .window) (S .lengths .window) turn (blockAtTurn m) (w .long)
+
   -- ---- a *next*
   pub shape-next : m .counts .done ≡ 0 → Shape over (passNext m .memory)
   unfolding passNext
@@ -126,7 +135,7 @@ module _ {over : ℕ} (m : Memory) (S : Shape over m) (w : Working m) where
       let l = w .slot in
       let b = bumps m S .slot in
       let c = S .ranges .commits in
-      shape-besides m S (advance (m .turn)) 0 new (m .txns .writes) length-emptied (S .lengths .writes) (omega arith) (omega arith)
+      shape-besides m S (advance (m .turn)) 0 new _ (m .txns .writes) length-emptied length-kept (S .lengths .writes) (omega arith) (omega arith)
       (places-turned (passNext m .memory) refl b refl refl refl)
 
 -- ---- an out slot is passed: nothing waits there, so nothing of it is done
@@ -148,5 +157,6 @@ module _ {over : ℕ} (m : Memory) (S : Shape over m) (u : outAtTurn m ≡ true)
       let b = bumps m S .slot in
       let c = S .ranges .commits in
       let d = out-none-done in
-      shape-besides m S (advance (m .turn)) 0 (m .blocks .places) (m .txns .writes) (S .lengths .places) (S .lengths .writes) (omega arith) (omega arith)
+      shape-besides m S (advance (m .turn)) 0 (m .blocks .places) _ (m .txns .writes) (S .lengths .places)
+      (length-keeping (m .blocks .window) (S .lengths .window) (m .turn .slot) (blockOf (nextAtTurn m)) (length-next m)) (S .lengths .writes) (omega arith) (omega arith)
       (places-up m S (m .blocks .places) out-again (λ s p q. refl) (passOut m .memory) refl b refl refl refl)

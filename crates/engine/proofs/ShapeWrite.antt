@@ -27,7 +27,7 @@ use Rattle.engine.proofs.ShapeRow.{Parts, Apart, partsWith, Change, apa
 pub shape-rewritten : {over : ℕ} (m : Memory) (r k : ℕ) (v : ℤ) → Shape over m → Shape over (rewriteAt m r k v .memory)
 unfolding rewriteAt
 shape-rewritten m r k v s =
-    shape-besides m s (m .turn) (m .counts .done) (m .blocks .places) _ (s .lengths .places)
+    shape-besides m s (m .turn) (m .counts .done) (m .blocks .places) (m .blocks .window) _ (s .lengths .places) (s .lengths .window)
     (length-set (m .txns .writes) (8 * r + k) v ∙ s .lengths .writes) (s .ranges .slot) (s .ranges .commits)
     (record { waits = s .places .waits; clear = s .places .clear; done = s .places .done; applying = s .places .applying })
 

@@ -10,14 +10,14 @@ use borrow.Author.Tests.{leb-false}
 use Rattle.block.specs.declared.Entry.{Entry}
 use Rattle.block.specs.Message.{Record}
 use Rattle.memory.specs.declared.Txn.{Txn}
-use Rattle.memory.specs.Memory.{Memory, bump, withDone, withCommit}
+use Rattle.memory.specs.Memory.{Memory, windowBytes, bump, withDone, withCommit}
 use Rattle.memory.specs.Rows.{closed, openCount, rowOf, rowAt, itemsOf, has}
 use Rattle.memory.specs.Turns.{markApplying, advance}
 use Rattle.engine.specs.Moves.{blockAtTurn, applied, stamped, afterAborts, hitTickets, queueWithout, sentAmong, endsOwn, turnBlocks, isLast, commitWriteset}
 use Rattle.engine.specs.Shape.{Lengths, RowShape, QueueShape, PlaceShape, Shape}
 use Rattle.engine.proofs.Tests.{bool-by}
 use Rattle.engine.proofs.Shaping.{bumps}
-use Rattle.engine.proofs.ShapeTurn.{Working, places-turned, places-done, length-emptied}
+use Rattle.engine.proofs.ShapeTurn.{Working, places-turned, places-done, length-emptied, length-kept}
 
 -- `mine` where the replica sent it itself, `ends` where its own transaction ends with it, `last` where it is the block's last
 abbrev pub committed : Memory → Bool → Bool → Bool → Record → Memory
@@ -79,8 +79,8 @@ length-stamped n (e ∷ es) l = length-stamped n es (set l (e .item) n) ∙ leng
 module _ {over : ℕ} (m : Memory) (S : Shape over m) (k : Working m) (more : m .counts .done < getD (blockAtTurn m) 3 0) where
   lengths-of : (mine ends last : Bool) (w : Record) → TxnShape over (committed m mine ends last w)
       → length (committed m mine ends last w .blocks .places) ≡ 512 * m .group .replicas
-      → length (committed m mine ends last w .blocks .outbox) ≡ 512 → Lengths (committed m mine ends last w)
-  lengths-of mine ends last w t p o = record {
+      → length (committed m mine ends last w .blocks .outbox) ≡ 512 → length (committed m mine ends last w .blocks .window) ≡ windowBytes → Lengths (committed m mine ends last w)
+  lengths-of mine ends last w t p o v = record {
     table = t .table;
     queue = t .waiting;
     items = S .lengths .items;
@@ -91,6 +91,7 @@ module _ {over : ℕ} (m : Memory) (S : Shape over m) (k : Working m) (more : m 
     classes = S .lengths .classes;
     places = p;
     outbox = o;
+    window = v;
     from = S .lengths .from;
     until = S .lengths .until;
   }
@@ -129,7 +130,7 @@ module _ {over : ℕ} (m : Memory) (S : Shape over m) (k : Working m) (more : m 
       let b = k .commits in
       let c = k .few in
       let d = k .slot in
-      shape-of mine ends true w t (lengths-of mine ends true w t (length-emptied m S k) (S .lengths .outbox)) (omega arith) (omega arith)
+      shape-of mine ends true w t (lengths-of mine ends true w t (length-emptied m S k) (S .lengths .outbox) (length-kept m S k)) (omega arith) (omega arith)
       (places-turned m S k (committed m mine ends true w) refl u refl refl refl)
   by-last mine ends false w e t =
       let u = slot-stays mine ends w in
@@ -137,7 +138,7 @@ module _ {over : ℕ} (m : Memory) (S : Shape over m) (k : Working m) (more : m 
       let b = k .commits in
       let c = S .ranges .slot in
       let l = leb-false (getD (blockAtTurn m) 3 0) (m .counts .done + 1) e in
-      shape-of mine ends false w t (lengths-of mine ends false w t (S .lengths .places) (S .lengths .outbox)) (omega arith) (omega arith)
+      shape-of mine ends false w t (lengths-of mine ends false w t (S .lengths .places) (S .lengths .outbox) (S .lengths .window)) (omega arith) (omega arith)
       (places-done m S k (committed m mine ends false w) refl u refl refl l)
 
   pub shape-writeset : (mine : Bool) (w : Record) → TxnShape over (committed m mine (endsOwn mine (m .txns .table) (w .ticket)) (isLast m) w) → Shape over (commitWriteset m mine w .memory)

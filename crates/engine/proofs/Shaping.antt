@@ -9,7 +9,7 @@ use lib.ListN.{length, getD}
 use Rattle.memory.specs.declared.Group.{Group}
 use Rattle.memory.specs.declared.Turn.{Turn}
 use Rattle.memory.specs.declared.Txn.{Txn}
-use Rattle.memory.specs.Memory.{Memory, span, slotLimit, bump, withGroup, withDone, withClasses}
+use Rattle.memory.specs.Memory.{Memory, span, slotLimit, windowBytes, bump, withGroup, withDone, withClasses}
 use Rattle.memory.specs.Notices.{isOut}
 use Rattle.memory.specs.Rows.{closed, rowAt, writeCount, itemsOf, has}
 use Rattle.memory.specs.Turns.{isEmpty}
@@ -91,20 +91,21 @@ fits-closed n c f = fits-empty closed n c f refl refl (λ e. refl) (omega arith)
 
 -- ---- the same rows
 
--- the turn, the writesets done, the places and the values written alone are others
-abbrev pub besides : Memory → Turn → ℕ → List ℕ → List ℤ → Memory
-besides m t d places writes = record {
+-- the turn, the writesets done, places and window, and the values written alone are others
+abbrev pub besides : Memory → Turn → ℕ → List ℕ → List ℕ → List ℤ → Memory
+besides m t d places window writes = record {
   group = m .group;
   turn = t;
   counts = withDone (m .counts) d;
   txns = record { table = m .txns .table; queue = m .txns .queue; items = m .txns .items; writes = writes; snapshots = m .txns .snapshots };
   store = m .store;
-  blocks = record { places = places; outbox = m .blocks .outbox };
+  blocks = record { places = places; outbox = m .blocks .outbox; window = window };
 }
 
-pub shape-besides : {over : ℕ} (m : Memory) → Shape over m → (t : Turn) (d : ℕ) (places : List ℕ) (writes : List ℤ)
-    → length places ≡ 512 * m .group .replicas → length writes ≡ 48 → t .slot ≤ slotLimit → m .counts .commits ≤ 6 * t .slot + d → PlaceShape (besides m t d places writes) → Shape over (besides m t d places writes)
-shape-besides m s t d places writes p w slot commits waits = record {
+pub shape-besides : {over : ℕ} (m : Memory) → Shape over m → (t : Turn) (d : ℕ) (places window : List ℕ) (writes : List ℤ)
+    → length places ≡ 512 * m .group .replicas → length window ≡ windowBytes → length writes ≡ 48 → t .slot ≤ slotLimit → m .counts .commits ≤ 6 * t .slot + d
+    → PlaceShape (besides m t d places window writes) → Shape over (besides m t d places window writes)
+shape-besides m s t d places window writes p v w slot commits waits = record {
   lengths = record {
     table = s .lengths .table;
     queue = s .lengths .queue;
@@ -116,6 +117,7 @@ shape-besides m s t d places writes p w slot commits waits = record {
     classes = s .lengths .classes;
     places = p;
     outbox = s .lengths .outbox;
+    window = v;
     from = s .lengths .from;
     until = s .lengths .until;
   };
@@ -129,7 +131,7 @@ shape-besides m s t d places writes p w slot commits waits = record {
     repeats = s .ranges .repeats;
     endings = s .ranges .endings;
   };
-  rows = λ r h. row-of-fits (besides m t d places writes) r (fits-of m r (s .rows r h));
+  rows = λ r h. row-of-fits (besides m t d places window writes) r (fits-of m r (s .rows r h));
   distinct = s .distinct;
   queue = record { zeros = s .queue .zeros; asked = s .queue .asked; queued = s .queue .queued; once = s .queue .once };
   places = waits;
@@ -150,6 +152,7 @@ shape-loaded m s classes long = record {
     classes = long;
     places = s .lengths .places;
     outbox = s .lengths .outbox;
+    window = s .lengths .window;
     from = s .lengths .from;
     until = s .lengths .until;
   };
@@ -185,6 +188,7 @@ shape-grouped m s g k clear = record {
     classes = s .lengths .classes;
     places = rw (k .replicas) (s .lengths .places);
     outbox = s .lengths .outbox;
+    window = s .lengths .window;
     from = k .from ∙ s .lengths .from;
     until = k .until ∙ s .lengths .until;
   };

@@ -10,17 +10,22 @@ use lib.IntN.{ℤ, pos}
 use lib.ListN.{length, set, length-set, List·getD-eq-default}
 use lib.Seq.{getD-set-same, getD-set-other}
 use Rattle.block.specs.declared.Entry.{Entry}
+use Rattle.block.specs.Bytes.{blockOf}
 use Rattle.memory.specs.declared.Turn.{Turn}
 use Rattle.memory.specs.declared.Txn.{Txn}
-use Rattle.memory.specs.Memory.{Blocks, Memory, bump, withDone, withTurn}
+use Rattle.memory.specs.Memory.{Blocks, Memory, windowSlots, bump, withDone, withTurn}
 use Rattle.memory.specs.Rows.{closed, rowOf, rowAt}
 use Rattle.memory.specs.Turns.{markApplying, advance, placeStart}
-use Rattle.engine.specs.Moves.{blockAtTurn, writesetAt, applied, stamped, isHit, afterAborts, endsOwn, turnBlocks, isLast, passNext, commitWriteset, passOut}
+use Rattle.engine.specs.Moves.{blockAtTurn, writesetAt, applied, stamped, isHit, afterAborts, endsOwn, workRefusal, windowWith, turnBlocks, isLast, passNext, commitWriteset, nextAtTurn, outBlocks, passOut}
 use Rattle.engine.specs.Frames.{SameBut, SameButItems, WorkFrame}
 use Rattle.engine.proofs.Tests.{cond-by, same-by, less-by}
 use Rattle.engine.proofs.HasLaws.{has-not}
 use Rattle.engine.proofs.PartLaws.{set-but}
 use Rattle.engine.proofs.RowLaws.{others}
+use Rattle.engine.proofs.RingLaws.{keeping-but}
+use Rattle.engine.proofs.Steps.{Awaited}
+use Rattle.engine.proofs.Passed.{work-lent, work-long}
+use Rattle.engine.proofs.ShapeSend.{length-next}
 use Rattle.engine.proofs.HitLaws.{length-aborts, aborts-at}
 
 -- ---- values and stamps
@@ -64,10 +69,11 @@ place-but m = let p = placeStart (m .group .replicas) (m .turn .slot) in set-but
 
 -- nothing is committed, and the turn leaves its slot
 moved-frame : (m : Memory) (b : Blocks) → SameBut 0 (placeStart (m .group .replicas) (m .turn .slot)) 1 (m .blocks .places) (b .places) → b .outbox ≡ m .blocks .outbox
-    → WorkFrame m (withTurn m (advance (m .turn)) (withDone (m .counts) 0) b)
-moved-frame m b p o = record {
+    → SameBut 0 (placeStart windowSlots (m .turn .slot)) 512 (m .blocks .window) (b .window) → WorkFrame m (withTurn m (advance (m .turn)) (withDone (m .counts) 0) b)
+moved-frame m b p o w = record {
   turn = inr (inr refl);
   places = p;
+  window = w;
   values = λ i h. refl;
   stamps = λ i h. refl;
   classes = refl;
@@ -82,25 +88,32 @@ moved-frame m b p o = record {
   withdrawn = refl;
 }
 
-pub pass-frame : (m : Memory) → WorkFrame m (passNext m .memory)
-unfolding passNext
-pass-frame m = moved-frame m (turnBlocks m) (place-but m) refl
+window-but : (m : Memory) → workRefusal m ≡ 0 → (b : List ℕ) → length b ≡ 512
+    → SameBut 0 (placeStart windowSlots (m .turn .slot)) 512 (m .blocks .window) (windowWith m b)
+window-but m e b h = keeping-but (m .blocks .window) (work-lent m e .window) (m .turn .slot) b h
 
-pub out-frame : (m : Memory) → WorkFrame m (passOut m .memory)
+pub pass-frame : (m : Memory) → Awaited m → WorkFrame m (passNext m .memory)
+unfolding passNext
+pass-frame m a = moved-frame m (turnBlocks m) (place-but m) refl (window-but m (a .passed) (blockAtTurn m) (work-long m a))
+
+pub out-frame : (m : Memory) → workRefusal m ≡ 0 → WorkFrame m (passOut m .memory)
 unfolding passOut
-out-frame m = moved-frame m (m .blocks) (λ i s. refl) refl
+out-frame m e = moved-frame m (outBlocks m) (λ i s. refl) refl (window-but m e (blockOf (nextAtTurn m)) (length-next m))
 
 abbrev TurnMoves : Memory → Turn → Type 0
 TurnMoves m t = (t ≡ m .turn) ⊎ ((t ≡ markApplying (m .turn)) ⊎ (t ≡ advance (m .turn)))
 
-pub commit-frame : (m : Memory) (mine : Bool) → WorkFrame m (commitWriteset m mine (writesetAt (blockAtTurn m) (m .counts .done)) .memory)
+pub commit-frame : (m : Memory) → Awaited m → (mine : Bool) → WorkFrame m (commitWriteset m mine (writesetAt (blockAtTurn m) (m .counts .done)) .memory)
 unfolding commitWriteset
-commit-frame m mine =
+commit-frame m a mine =
     let w = writesetAt (blockAtTurn m) (m .counts .done) in
     record {
       turn = cond-by (TurnMoves m) (isLast m) (λ e. inr (inr refl)) (λ e. cond-by (TurnMoves m) mine (λ d. inl refl) (λ d. inr (inl refl)));
       places = cond-by (λ (b : Blocks). SameBut 0 (placeStart (m .group .replicas) (m .turn .slot)) 1 (m .blocks .places) (b .places)) (isLast m)
           (λ e. place-but m)
+          (λ e i s. refl);
+      window = cond-by (λ (b : Blocks). SameBut 0 (placeStart windowSlots (m .turn .slot)) 512 (m .blocks .window) (b .window)) (isLast m)
+          (λ e. window-but m (a .passed) (blockAtTurn m) (work-long m a))
           (λ e i s. refl);
       values = applied-but (w .entries) (m .store .values);
       stamps = stamped-but (bump (m .counts .commits)) (w .entries) (m .store .stamps);
@@ -124,6 +137,7 @@ pub work-same : (m : Memory) → WorkFrame m m
 work-same m = record {
   turn = inl refl;
   places = λ i s. refl;
+  window = λ i s. refl;
   values = λ i h. refl;
   stamps = λ i h. refl;
   classes = refl;

@@ -8,7 +8,7 @@ use lib.IntN.{ℤ, pos}
 use lib.ListN.{length, getD, set}
 use Rattle.block.specs.declared.Entry.{Entry}
 use Rattle.block.specs.Answers.{headerOf}
-use Rattle.memory.specs.Memory.{Memory, span, bump, withGroup, withTickets, withReadOnly, withAborted, withWithdrawn, withTable, withTxns, withBlocks, withClasses}
+use Rattle.memory.specs.Memory.{Memory, span, windowSlots, bump, withGroup, withTickets, withReadOnly, withAborted, withWithdrawn, withTable, withTxns, withBlocks, withClasses}
 use Rattle.memory.specs.Notices.{Notice}
 use Rattle.memory.specs.Rows.{closed, openCount, freeRow, rowAt, indexOf, has}
 use Rattle.memory.specs.Turns.{markApplying, advance, placeStart}
@@ -60,7 +60,7 @@ SameButItems d es l k = (i : ℕ) → has i (map (λ (e : Entry). e .item) es) �
 abbrev pub RowsBut : Memory → Memory → ℕ → Type 0
 RowsBut m n r = (i : ℕ) → (i ≡ r → ⊥) → rowAt (n .txns .table) i ≡ rowAt (m .txns .table) i
 
--- group, turn, values, stamps, classes, places and the block sent last are as they were
+-- group, turn, values, stamps, classes, places, the block sent last and the window are as they were
 pub record TurnKept (m n : Memory) : Type 0 where
   pub group : n .group ≡ m .group
   pub turn : n .turn ≡ m .turn
@@ -115,6 +115,7 @@ pub record SendFrame (m n : Memory) : Type 0 where
   pub counts : n .counts ≡ m .counts
   pub store : n .store ≡ m .store
   pub places : n .blocks .places ≡ m .blocks .places
+  pub window : n .blocks .window ≡ m .blocks .window
   pub items : n .txns .items ≡ m .txns .items
   pub writes : n .txns .writes ≡ m .txns .writes
   pub snapshots : n .txns .snapshots ≡ m .txns .snapshots
@@ -126,6 +127,7 @@ pub record SendFrame (m n : Memory) : Type 0 where
 pub record DeliverFrame (m n : Memory) (slot : ℕ) : Type 0 where
   pub rest : n ≡ withBlocks m (n .blocks)
   pub outbox : n .blocks .outbox ≡ m .blocks .outbox
+  pub window : n .blocks .window ≡ m .blocks .window
   pub places : SameBut 0 (placeStart (span (m .group)) slot) 512 (m .blocks .places) (n .blocks .places)
 
 -- a notice the outage of the replica that it is about
@@ -136,12 +138,13 @@ pub record NoticeFrame (m n : Memory) (k : ℕ) : Type 0 where
   pub from : SameBut 0 k 1 (m .group .from) (n .group .from)
   pub until : SameBut 0 k 1 (m .group .until) (n .group .until)
 
--- a work may set the applying mark or move the turn by one, and change one byte of the places, values and stamps of the items of the writeset to commit, rows by closing them, the
+-- a work may set the applying mark or move the turn by one, and change one byte of the places, one block of the window, values and stamps of the items of the writeset to commit, rows by closing them, the
 -- queue, and of the counts commits, done, committed and aborted
 pub record WorkFrame (m n : Memory) : Type 0 where
   -- the slot is the same, or one more with both marks off
   pub turn : (n .turn ≡ m .turn) ⊎ ((n .turn ≡ markApplying (m .turn)) ⊎ (n .turn ≡ advance (m .turn)))
   pub places : SameBut 0 (placeStart (span (m .group)) (m .turn .slot)) 1 (m .blocks .places) (n .blocks .places)
+  pub window : SameBut 0 (placeStart windowSlots (m .turn .slot)) 512 (m .blocks .window) (n .blocks .window)
   pub values : SameButItems (pos 0) (writesetAt (blockAtTurn m) (m .counts .done) .entries) (m .store .values) (n .store .values)
   pub stamps : SameButItems 0 (writesetAt (blockAtTurn m) (m .counts .done) .entries) (m .store .stamps) (n .store .stamps)
   pub classes : n .store .classes ≡ m .store .classes

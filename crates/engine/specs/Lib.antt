@@ -21,3 +21,4 @@ pub mod Station
 pub mod Restarts
 pub mod Tickets
 pub mod NoticeClaims
+pub mod Window

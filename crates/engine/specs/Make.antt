@@ -10,8 +10,9 @@ use Rattle.block.specs.Answers.{Refusal, refuse, firstOf}
 use Rattle.block.specs.Message.{within}
 use Rattle.memory.specs.declared.Counts.{Counts}
 use Rattle.memory.specs.declared.Turn.{Turn}
-use Rattle.memory.specs.Memory.{Transactions, Store, Blocks, Memory, groupOf, span, queueLent, itemsLent, snapshotsLent, valuesLent, stampsLent, classesLent, outboxLent}
+use Rattle.memory.specs.Memory.{Transactions, Store, Blocks, Memory, groupOf, span, queueLent, itemsLent, snapshotsLent, valuesLent, stampsLent, classesLent, outboxLent, windowLent}
 use Rattle.memory.specs.Rows.{closed}
+use Rattle.memory.specs.Window.{emptyWindow}
 use Rattle.engine.specs.Answers.{Outcome, outcome, unless}
 use Rattle.engine.specs.Answers.Answer.{made}
 
@@ -40,7 +41,7 @@ countsZero = record {
   withdrawn = 0;
 }
 
--- turn, counts and stamps 0, places empty, marks off, the starting values; no table of classes is loaded
+-- turn, counts and stamps 0, places and window empty, marks off, the starting values; no table of classes is loaded
 unfoldable pub madeMemory : ℕ → ℕ → List ℤ → Memory
 madeMemory n own values = record {
   group = groupOf n own;
@@ -54,7 +55,7 @@ madeMemory n own values = record {
     snapshots = replicate 768 (pos 0);
   };
   store = record { values = values; stamps = replicate 128 0; classes = replicate 128 0 };
-  blocks = record { places = replicate (512 * span (groupOf n own)) 0; outbox = replicate 512 0 };
+  blocks = record { places = replicate (512 * span (groupOf n own)) 0; outbox = replicate 512 0; window = emptyWindow };
 }
 
 -- a block for each place of a group of n; an n out of range gives the places no length
@@ -65,7 +66,7 @@ placesFit places n = not (within 2 6 n) || eqb (length places) (512 * n)
 abbrev pub slicesFit : Memory → Bool
 slicesFit m =
     queueLent m
-    && (itemsLent m && (eqb (length (m .txns .writes)) 48 && (snapshotsLent m && (valuesLent m && (stampsLent m && (classesLent m && outboxLent m))))))
+    && (itemsLent m && (eqb (length (m .txns .writes)) 48 && (snapshotsLent m && (valuesLent m && (stampsLent m && (classesLent m && (outboxLent m && windowLent m)))))))
 
 unfoldable pub partsFit : Memory → ℕ → Bool
 partsFit m n = slicesFit m && placesFit (m .blocks .places) n

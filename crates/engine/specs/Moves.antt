@@ -16,10 +16,11 @@ use Rattle.block.specs.Writing.{entriesFrom}
 use Rattle.memory.specs.declared.Counts.{Counts}
 use Rattle.memory.specs.declared.Turn.{Turn}
 use Rattle.memory.specs.declared.Txn.{Txn}
-use Rattle.memory.specs.Memory.{Transactions, Store, Blocks, Memory, ownerAt, span, slotLimit, bump, isBlock, queueLent, itemsLent, writesLent, valuesLent, stampsLent, placesLent, outboxLent, withDone, withCommit, withTable, withTxns, withBlocks, withTurn}
+use Rattle.memory.specs.Memory.{Transactions, Store, Blocks, Memory, ownerAt, span, slotLimit, bump, isBlock, queueLent, itemsLent, writesLent, valuesLent, stampsLent, placesLent, outboxLent, windowLent, withDone, withCommit, withTable, withTxns, withBlocks, withTurn}
 use Rattle.memory.specs.Notices.{isOut}
 use Rattle.memory.specs.Rows.{closed, isOpen, rowOf, rowAt, writeCount, itemsOf, has}
 use Rattle.memory.specs.Turns.{isOn, markSent, advance, stepTurn, placeStart, blockIn, isEmpty, emptied}
+use Rattle.memory.specs.Window.{keeping}
 use Rattle.engine.specs.Answers.{WorkDone, Outcome, outcome, unless}
 use Rattle.engine.specs.Answers.Answer.{sent, kept, worked}
 
@@ -91,7 +92,7 @@ sendNow m =
       counts = m .counts;
       txns = record { table = map sendRow (x .table); queue = replicate 6 0; items = x .items; writes = x .writes; snapshots = x .snapshots };
       store = m .store;
-      blocks = record { places = m .blocks .places; outbox = block };
+      blocks = record { places = m .blocks .places; outbox = block; window = m .blocks .window };
     })
 
 unfoldable pub sendStep : Memory → List ℕ → Outcome
@@ -157,6 +158,7 @@ deliverNow m bytes =
     (record {
       places = paste (m .blocks .places) (placeStart (span (m .group)) (headerOf bytes .slot)) bytes 512;
       outbox = m .blocks .outbox;
+      window = m .blocks .window;
     }))
 
 unfoldable pub deliverStep : Memory → List ℕ → Outcome
@@ -233,7 +235,7 @@ abbrev pub endsOwn : Bool → List Txn → ℕ → Bool
 endsOwn mine table ticket = mine && sentAmong table ticket
 
 abbrev pub workLent : Memory → Bool
-workLent m = placesLent m && (itemsLent m && (queueLent m && (valuesLent m && stampsLent m)))
+workLent m = placesLent m && (itemsLent m && (queueLent m && (valuesLent m && (stampsLent m && windowLent m))))
 
 -- the turn's place is empty
 abbrev pub nothingWaits : Memory → Bool
@@ -243,11 +245,19 @@ nothingWaits m = isEmpty (span (m .group)) (m .turn .slot) (m .blocks .places)
 unfoldable pub workRefusal : Memory → ℕ
 workRefusal m = firstOf (refuse 1 (not (workLent m)) ∷ refuse 21 (not (outAtTurn m) && nothingWaits m) ∷ [])
 
--- after the last writeset, or a *next*, the place empties
-abbrev pub turnBlocks : Memory → Blocks
-turnBlocks m = record { places = emptied (span (m .group)) (m .turn .slot) (m .blocks .places); outbox = m .blocks .outbox }
+-- the window keeps a block for the slot that the turn leaves
+abbrev pub windowWith : Memory → List ℕ → List ℕ
+windowWith m block = keeping (m .blocks .window) (m .turn .slot) block
 
--- the turn leaves its slot: the place empties, the turn advances, and of the next block nothing is done
+-- after the last writeset, or a *next*, the place empties and the window has its block, own or another's
+abbrev pub turnBlocks : Memory → Blocks
+turnBlocks m = record {
+  places = emptied (span (m .group)) (m .turn .slot) (m .blocks .places);
+  outbox = m .blocks .outbox;
+  window = windowWith m (blockAtTurn m);
+}
+
+-- the turn leaves its slot: the place empties, the window keeps its block, the turn advances, and of the next block nothing is done
 abbrev pub leaveSlot : Memory → Memory
 leaveSlot m = withTurn m (advance (m .turn)) (withDone (m .counts) 0) (turnBlocks m)
 
@@ -296,11 +306,15 @@ commitWriteset m mine w =
 abbrev pub nextAtTurn : Memory → Message
 nextAtTurn m = record { kind = 1; sender = ownerAt (m .group) (m .turn .slot); replicas = m .group .replicas; slot = m .turn .slot; records = [] }
 
--- an out slot is passed: no block is needed, and the journal gets its *next*, also where the slot is the replica's own
+-- there the window keeps that *next*
+abbrev pub outBlocks : Memory → Blocks
+outBlocks m = record { places = m .blocks .places; outbox = m .blocks .outbox; window = windowWith m (blockOf (nextAtTurn m)) }
+
+-- an out slot is passed: no block is needed, and journal and window get its *next*, also where the slot is the replica's own
 unfoldable pub passOut : Memory → Outcome
 passOut m =
     outcome (worked (record { sender = ownerAt (m .group) (m .turn .slot); ticket = 0; moved = true; aborted = []; append = blockOf (nextAtTurn m) }))
-    (withTurn m (advance (m .turn)) (withDone (m .counts) 0) (m .blocks))
+    (withTurn m (advance (m .turn)) (withDone (m .counts) 0) (outBlocks m))
 
 -- what waits at the turn: a *next*, or one writeset
 unfoldable pub passBlock : Memory → Outcome

@@ -11,14 +11,14 @@ use Rattle.memory.specs.Notices.{Notice, isOut, putsOut}
 use Rattle.memory.specs.Turns.{advance}
 use Rattle.engine.specs.Answers.{WorkDone}
 use Rattle.engine.specs.Answers.Answer.{worked, restarted}
-use Rattle.engine.specs.Moves.{outAtTurn}
+use Rattle.engine.specs.Moves.{outAtTurn, outBlocks}
 use Rattle.engine.specs.Notices.{noticeRefusal}
 use Rattle.engine.specs.Calls.{step}
 use Rattle.engine.specs.Calls.Call.{work, notice}
 use Rattle.engine.specs.Restart.{blocksIn, isFrom, restartRefusal, restartStep}
 use Rattle.engine.specs.Shape.{Shape}
 
--- the *next* of the slot's owner, be it the replica itself, is journaled; the reader takes it; the turn moves and nothing else changes, the asked list neither
+-- the *next* of the slot's owner, be it the replica itself, is journaled and kept in the window; the reader takes it; the turn moves and nothing else changes, the asked list neither
 pub record OutPassed (m : Memory) (s : WorkDone) : Type 0 where
   pub sender : s .sender ≡ ownerAt (m .group) (m .turn .slot)
   pub ticket : s .ticket ≡ 0
@@ -26,7 +26,7 @@ pub record OutPassed (m : Memory) (s : WorkDone) : Type 0 where
   pub aborted : s .aborted ≡ []
   pub taken : blockRefusal (s .append) ≡ 0
   pub header : headerOf (s .append) ≡ record { kind = 1; sender = ownerAt (m .group) (m .turn .slot); replicas = m .group .replicas; count = 0; slot = m .turn .slot }
-  pub memory : step m work .memory ≡ withTurn m (advance (m .turn)) (withDone (m .counts) 0) (m .blocks)
+  pub memory : step m work .memory ≡ withTurn m (advance (m .turn)) (withDone (m .counts) 0) (outBlocks m)
 
 -- every own one of the blocks is of a slot that the notices put out
 abbrev pub AllOut : List Notice → ℕ → List (List ℕ) → Type 0

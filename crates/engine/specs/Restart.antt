@@ -10,6 +10,7 @@ use Rattle.block.specs.Answers.{refuse, firstOf, blockRefusal, headerOf}
 use Rattle.memory.specs.Memory.{Store, Memory, groupOf, span, isBlock, bump}
 use Rattle.memory.specs.Notices.{Notice, withNotices, putsOut}
 use Rattle.memory.specs.Rows.{closed}
+use Rattle.memory.specs.Window.{emptyWindow, keepingAll}
 use Rattle.engine.specs.Answers.{Outcome, outcome, unless}
 use Rattle.engine.specs.Answers.Answer.{restarted}
 use Rattle.engine.specs.Make.{partsFit, sizeOut}
@@ -93,9 +94,15 @@ lastOwn own notices d (b ∷ bs) = lastOwn own notices (cond (isFrom own b && no
 abbrev pub repeated : ℕ → List (List ℕ) → ℕ
 repeated own bs = ownWritesets own bs - highestOwn own bs
 
+-- ---- the window
+
+-- every block in its place, in order: of each place the last stays, so the last 64
+abbrev pub refilled : List (List ℕ) → List ℕ
+refilled bs = keepingAll emptyWindow 0 bs
+
 -- ---- the call
 
--- the blocks committed, the notices in force, and nothing else there, also no table of classes: tickets up to the highest in own blocks are given, all own writesets committed; aborted is the highest
+-- the blocks committed, the last 64 in the window, the notices in force, and nothing else there, also no table of classes: tickets up to the highest in own blocks are given, all own writesets committed; aborted is the highest
 -- ticket less these, 0 where they are more, which is so only where a ticket stands twice
 unfoldable pub restartedMemory : ℕ → ℕ → List ℤ → List Notice → List (List ℕ) → Memory
 restartedMemory n own values notices bs = record {
@@ -118,7 +125,7 @@ restartedMemory n own values notices bs = record {
     snapshots = replicate 768 (pos 0);
   };
   store = commitBlocks (startReplay values) bs .store;
-  blocks = record { places = replicate (512 * span (groupOf n own)) 0; outbox = replicate 512 0 };
+  blocks = record { places = replicate (512 * span (groupOf n own)) 0; outbox = replicate 512 0; window = refilled bs };
 }
 
 -- Make's; 1 also for the lent block, never for the journal

@@ -7,7 +7,7 @@ use lib.IntN.{ℤ}
 use lib.ListN.{length, getD, replicate}
 use Rattle.block.specs.Answers.{blockRefusal, headerOf}
 use Rattle.block.specs.Message.{maxTicket}
-use Rattle.memory.specs.Memory.{Memory, span, slotLimit, isStation}
+use Rattle.memory.specs.Memory.{Memory, span, slotLimit, windowBytes, isStation}
 use Rattle.memory.specs.Notices.{Notice, isOut}
 use Rattle.memory.specs.Rows.{closed, openCount, rowOf, rowAt, writeCount, itemsOf, has}
 use Rattle.memory.specs.Turns.{isOn, blockIn, isEmpty}
@@ -28,6 +28,7 @@ pub record Lengths (m : Memory) : Type 0 where
   pub classes : length (m .store .classes) ≡ 128
   pub places : length (m .blocks .places) ≡ 512 * span (m .group)
   pub outbox : length (m .blocks .outbox) ≡ 512
+  pub window : length (m .blocks .window) ≡ windowBytes
   pub from : length (m .group .from) ≡ 6
   pub until : length (m .group .until) ≡ 6
 

@@ -10,12 +10,13 @@ use Rattle.block.specs.Message.{Message}
 use Rattle.block.specs.Bytes.{blockOf}
 use Rattle.memory.specs.Memory.{Memory, withBlocks}
 use Rattle.memory.specs.Notices.{Notice}
+use Rattle.memory.specs.Window.{emptyWindow, keptBlock}
 use Rattle.engine.specs.Answers.{Answer, Outcome, numberOf}
 use Rattle.engine.specs.Answers.Answer.{refused, began, got, wrote, queued, reported, sent, kept, worked, noticed, restarted}
 use Rattle.engine.specs.Make.{madeMemory}
 use Rattle.engine.specs.Restart.{restartStep}
 use Rattle.engine.specs.Station.{stationMemory, stationStep}
-use Rattle.engine.specs.Calls.{Call, step}
+use Rattle.engine.specs.Calls.{Call, step, after}
 use Rattle.engine.specs.Calls.Call.{begin, read, write, ask, report, send, deliver, work, load, notice}
 
 -- what each call of a list answers, one after the other
@@ -66,7 +67,7 @@ threeWritesets = blockOf (record {
 
 -- replica 0 of 2 with `twoThenOne` at its turn, which it never sent: an altered state
 abbrev pub neverSent : Memory
-neverSent = withBlocks (fresh 2 0) (record { places = twoThenOne ++ replicate 512 0; outbox = replicate 512 0 })
+neverSent = withBlocks (fresh 2 0) (record { places = twoThenOne ++ replicate 512 0; outbox = replicate 512 0; window = emptyWindow })
 
 -- the calls by which replica 1 of 3, with those classes and an item of class 1 held by ticket 2, comes to that block
 abbrev pub toThree : List Call
@@ -149,6 +150,10 @@ closedAndBack =
 abbrev pub restartNoticed : List Notice → Outcome
 restartNoticed notices =
     restartStep (fresh 2 1) 2 1 zeros (nextBlock 2 0 0 ++ (nextBlock 2 1 1 ++ (nextBlock 2 0 2 ++ nextBlock 2 1 3))) notices (replicate 512 0)
+
+-- what a window has for slots 0 to 3
+abbrev pub firstFour : Memory → List (List ℕ)
+firstFour m = map (keptBlock (m .blocks .window)) (0 ∷ 1 ∷ 2 ∷ 3 ∷ [])
 
 pub record RightAnswers : Type 0 where
   -- another's block: the asked transaction that wrote an item of its second writeset is aborted by that one, another is not, and meets 9 at the item
@@ -234,3 +239,7 @@ pub record RightAnswers : Type 0 where
       ∷ []
   -- 11 is before 29
   pub restart-in-force : numbers (restartNoticed (outFrom 0 4 ∷ []) .memory) (send (replicate 512 0) ∷ work ∷ work ∷ []) ≡ 11 ∷ 0 ∷ 21 ∷ []
+  -- document 02's Req 11: the window has the blocks of the slots that the turn has left, an own one, another's, and the *next* of an own slot passed as out; a restart refills it
+  pub window : firstFour (after (fresh 2 0) (toStaleAndHeld ++ (notice (outFrom 0 2) ∷ work ∷ [])))
+      ≡ nextBlock 2 0 0 ∷ fromOther ∷ nextBlock 2 0 2 ∷ replicate 512 0 ∷ []
+  pub restart-window : firstFour (restartOfTwo .memory) ≡ twoThenOne ∷ nextBlock 2 1 1 ∷ replicate 512 0 ∷ replicate 512 0 ∷ []

@@ -9,6 +9,7 @@ use Rattle.block.specs.Answers.{firstOf, blockRefusal, headerOf, recordAt, entr
 use Rattle.memory.specs.Memory.{bump}
 use Rattle.memory.specs.Notices.{withNotices, putsOut}
 use Rattle.memory.specs.Rows.{openCount}
+use Rattle.memory.specs.Window.{emptyWindow, keepingAll}
 use Rattle.engine.specs.Make.{madeMemory, placesFit, partsFit}
 use Rattle.engine.specs.Client.{reportOf}
 use Rattle.engine.specs.Moves.{entriesFor, applied, stamped}
@@ -16,7 +17,7 @@ use Rattle.engine.specs.Restart.{isGood, blocksFrom, writesetsFrom, commitAll, 
 use Rattle.engine_runs.specs.Journals.{WorkedRestarts}
 
 pub worked-restarts : WorkedRestarts
-unfolding bytesOf numberFrom valueBytes valueOf word sumTo weightedTo firstCheck secondCheck checkBytes checkMatches ownerOf within kindFits entriesFit recordFits recordsFit ticketAbsent ticketsDiffer valid entryBytes entriesBytes recordBytes recordsBytes headerFor headerBytes bodyBytes blockOf entryOf entriesOf recordOf recordsOf messageOf allZero entriesPadded recordPadded recordsPadded padded wellFormed firstOf blockRefusal headerOf recordAt entryAt bump openCount madeMemory placesFit partsFit reportOf entriesFor applied stamped isGood blocksFrom writesetsFrom commitAll commitBlocks highestTicket highestOwn ownWritesets lastOwn restartedMemory restartRefusal restartStep withNotices putsOut
+unfolding bytesOf numberFrom valueBytes valueOf word sumTo weightedTo firstCheck secondCheck checkBytes checkMatches ownerOf within kindFits entriesFit recordFits recordsFit ticketAbsent ticketsDiffer valid entryBytes entriesBytes recordBytes recordsBytes headerFor headerBytes bodyBytes blockOf entryOf entriesOf recordOf recordsOf messageOf allZero entriesPadded recordPadded recordsPadded padded wellFormed firstOf blockRefusal headerOf recordAt entryAt bump openCount madeMemory placesFit partsFit reportOf entriesFor applied stamped isGood blocksFrom writesetsFrom commitAll commitBlocks highestTicket highestOwn ownWritesets lastOwn restartedMemory restartRefusal restartStep withNotices putsOut emptyWindow keepingAll
 worked-restarts = record {
   empty = refl;
   long = refl;

@@ -2,3 +2,4 @@
 pub mod RowLaws
 pub mod ByteLaws
 pub mod NoticeLaws
+pub mod WindowLaws

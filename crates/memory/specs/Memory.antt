@@ -26,10 +26,11 @@ pub record Store : Type 0 where
   pub stamps : List ℕ
   pub classes : List ℕ
 
--- document 01's *places*, N blocks, the first byte 0 where one is empty; and the block sent last
+-- document 01's *places*, N blocks, the first byte 0 where one is empty; the block sent last; and document 02's *window*, 64 blocks (`Window.antt`)
 pub record Blocks : Type 0 where
   pub places : List ℕ
   pub outbox : List ℕ
+  pub window : List ℕ
 
 pub record Memory : Type 0 where
   pub group : Group
@@ -64,6 +65,13 @@ ownerAt g slot = ownerOf (g .replicas) slot
 -- how many places there are: blocks of so many slots, from the turn's on, are kept
 abbrev pub span : Group → ℕ
 span g = g .replicas
+
+-- how many blocks a window has, and how many bytes
+abbrev pub windowSlots : ℕ
+windowSlots = 64
+
+abbrev pub windowBytes : ℕ
+windowBytes = 32_768
 
 -- one more; at its type's limit, where no list of calls leads, a count stays
 unfoldable pub bump : ℕ → ℕ
@@ -102,6 +110,12 @@ placesLent m = eqb (length (m .blocks .places)) (512 * span (m .group))
 
 abbrev pub outboxLent : Memory → Bool
 outboxLent m = isBlock (m .blocks .outbox)
+
+abbrev pub isWindow : List ℕ → Bool
+isWindow bytes = eqb (length bytes) windowBytes
+
+abbrev pub windowLent : Memory → Bool
+windowLent m = isWindow (m .blocks .window)
 
 -- ---- a number or a part put in place of another
 

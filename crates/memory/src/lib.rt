@@ -3,6 +3,7 @@ pub mod bytes;
 pub mod cursor;
 pub mod notices;
 pub mod rows;
+pub mod window;
 
 // Document 01's record of an open transaction; ticket 0 is a free row. Stage 0 is active, 1 asked, 2 sent. Four numbers of one width: a record has no padding,
 // which the compiler would copy byte by byte.
@@ -28,6 +29,11 @@ pub const SLOT_LIMIT: u32 = 100_000_000;
 
 // In place of an own number where there is none, at a station. No replica has it: own numbers are below the group's size, and that is 6 at most.
 pub const NO_NUMBER: u8 = 255;
+
+// How many blocks a window has, and how many bytes.
+pub const WINDOW_SLOTS: u8 = 64;
+
+pub const WINDOW_BYTES: usize = 32_768;
 
 // What a replica knows of its group: how many replicas it has, which of them it is, NO_NUMBER at a station, and the last outage of each: its slots from `from` on, below `until`, are out. Both
 // are 0 where there was none; until its end is known `until` is SLOT_LIMIT. A make or a restart sets all of it, a notice one outage, and no other call anything.

@@ -2,7 +2,7 @@
 use Prim.Native.Nat.{ℕ, _≤_, min}
 use mathlib.Core.Path.{_≡_, refl, sym, ap, subst, _∙_}
 use mathlib.Core.Bool.{Bool, true, false, cond}
-use mathlib.Core.List.{List}
+use mathlib.Core.List.{List, []}
 use mathlib.Core.Logic.{_⊎_, inl, inr}
 use native.Mathlib.Omega.{arith}
 use borrow.Author.Tests.{eq-eqb, ne-eqb}
@@ -10,15 +10,15 @@ use lib.Dec.{eqb}
 use lib.IntN.{ℤ}
 use lib.ListN.{length, take, replicate}
 use lib.Seq.{paste}
-use Rattle.replay_journal.specs.Journals.{journalOf}
-use Rattle.replay_journal.specs.Taken.{takenOf}
 use Rattle.replay_parse.specs.declared.Call.{Call}
 use Rattle.replay_print.specs.Text.{answerText, unknownText, Holds}
+use Rattle.replay_replica.specs.declared.Replica.{Replica}
 use Rattle.replay_replica.specs.Effects.{Effect}
 use Rattle.replay.specs.declared.Place.{Place}
 use Rattle.replay.specs.declared.Placed.{Placed}
-use Rattle.replay.specs.Places.{isAnswered, PlaysAt}
-use Rattle.replay.specs.Answers.{shownIf, showsBlock, blockShown, isSent, keptAfter, Says, SaysOf, AnswersAt, Replies}
+use Rattle.replay.specs.Places.{PlaysAt}
+use Rattle.replay.specs.Givings.{GivesAt}
+use Rattle.replay.specs.Answers.{shownIf, showsBlock, blockShown, isSent, keptAfter, Says, SaysOf, AnswersAt, GivesLine, isAskedAt, Replies}
 
 module _ (letter number : ℕ) where
   pub shows-first : (letter ≡ 74) ⊎ (letter ≡ 89) → shownIf number ≡ blockShown letter number
@@ -89,14 +89,34 @@ answers-at c named place page {kept = kept} {out = out} {left = left} {keptLeft 
       says = subst (λ (e : Effect). SaysOf (c .letter) e kept out n sent keptLeft outLeft) q s;
     }
 
+-- so of a giving, lent a block of zeros that it does not show
+pub gives-line : (told lent : List ℕ) (place : Place) (page : List ℕ) {kept out left keptLeft outLeft : List ℕ} {p : Placed} {n : ℕ} {sent : Bool}
+    → GivesAt told lent place page p left
+    → Says 71 (p .played .number) (take (p .played .count) (p .played .numbers)) (take (p .played .shown) (p .played .values)) (replicate 512 0) kept out n sent keptLeft outLeft
+    → GivesLine told lent place page kept out (record { replica = p .played .replica; held = p .held; taken = p .taken }) n sent left keptLeft outLeft
+gives-line told lent place page {kept = kept} {out = out} {keptLeft = keptLeft} {outLeft = outLeft} {n = n} {sent = sent} h s =
+    let q = h .plays (replicate 512 0) in
+    record {
+      memory = ap (λ (e : Effect). e .memory) (q .is);
+      rest = q .rest;
+      journal = h .journal;
+      notices = h .notices;
+      says = subst (λ (e : Effect). SaysOf 71 e kept out n sent keptLeft outLeft) (q .is) s;
+    }
+
 -- ---- a line
 
-module _ (known : Bool) (c : Call) (named : List ℕ) (place : Place) (page kept out : List ℕ) {b : Bool} (e : b ≡ isAnswered known c (place .replica .group) (journalOf (place .held) page) (takenOf (place .taken))) where
-  pub reply-played : {after : Place} {left keptLeft outLeft : List ℕ} {n : ℕ} {sent : Bool} → b ≡ true → AnswersAt c named place page kept out after n sent left keptLeft outLeft
-      → Replies known c named place page kept out after n sent left keptLeft outLeft
-  reply-played t h = record { does = inl (sym e ∙ t, h); within = h .says .within }
+module _ (known : Bool) (c : Call) (named told : List ℕ) (lender : Replica) (place : Place) (page kept out : List ℕ) {b : Bool} (e : b ≡ isAskedAt known c told lender place page) where
+  module _ {after : Place} {left keptLeft outLeft : List ℕ} {n : ℕ} {sent : Bool} (t : b ≡ true) where
+    pub reply-played : told ≡ [] → AnswersAt c named place page kept out after n sent left keptLeft outLeft
+        → Replies known c named told lender place page kept out after n sent left keptLeft outLeft
+    reply-played z h = record { does = inl (sym e ∙ t, inl (z, h)); within = h .says .within }
+
+    pub reply-given : (told ≡ [] → ⊥) → GivesLine told (lender .window) place page kept out after n sent left keptLeft outLeft
+        → Replies known c named told lender place page kept out after n sent left keptLeft outLeft
+    reply-given z h = record { does = inl (sym e ∙ t, inr (z, h)); within = h .says .within }
 
   pub reply-passed : {outLeft : List ℕ} {n : ℕ} → b ≡ false → Holds out unknownText outLeft n → length outLeft ≡ length out
-      → Replies known c named place page kept out place n false page kept outLeft
+      → Replies known c named told lender place page kept out place n false page kept outLeft
   reply-passed t h l =
       record { does = inr (sym e ∙ t, record { stays = refl; journal = refl; text = h; sends = refl; keeps = refl }); within = omega (arith, h .count, l) }

@@ -2,7 +2,7 @@
 use Prim.Native.Nat.{ℕ, _≤_, min}
 use mathlib.Core.Path.{_≡_}
 use mathlib.Core.Bool.{Bool, true, false, cond, _&&_, _||_}
-use mathlib.Core.List.{List}
+use mathlib.Core.List.{List, []}
 use mathlib.Core.Logic.{_⊎_}
 use lib.Dec.{eqb}
 use lib.IntN.{ℤ}
@@ -12,9 +12,12 @@ use Rattle.replay_journal.specs.declared.Held.the-variants.{Bytes}
 use Rattle.replay_journal.specs.Journals.{journalOf, Keeps}
 use Rattle.replay_journal.specs.Taken.{noneTaken, takenOf, KeepsTaken}
 use Rattle.replay_parse.specs.declared.Call.{Call}
-use Rattle.replay_replica.specs.Effects.{noReplica, memoryOf, Effect}
+use Rattle.replay_replica.specs.declared.Replica.{Replica}
+use Rattle.replay_replica.specs.Effects.{placesSize, noReplica, memoryOf, Effect}
+use Rattle.replay_give.specs.Kept.{CatchesUp}
 use Rattle.replay_print.specs.Text.{answerText, unknownText, Holds}
-use Rattle.replay.specs.Places.{isAnswered, sizeAt, givenAt, effectAt}
+use Rattle.replay.specs.Places.{sizeAt, givenAt, effectAt}
+use Rattle.replay.specs.Givings.{isAsked, givingAt, leftAt}
 use Rattle.replay.specs.declared.Place.{Place}
 
 -- where nothing was made
@@ -66,7 +69,15 @@ pub record AnswersAt (c : Call) (named : List ℕ) (place : Place) (page kept ou
   pub notices : KeepsTaken c (effectFor c named place page .number) (place .taken) (after .taken)
   pub says : SaysOf (c .letter) (effectFor c named place page) kept out n sent keptLeft outLeft
 
--- no call: all stays, and the answer is the line of what is none
+-- the giving at its place, and its answer; G is 71
+pub record GivesLine (told lent : List ℕ) (place : Place) (page kept out : List ℕ) (after : Place) (n : ℕ) (sent : Bool) (left keptLeft outLeft : List ℕ) : Type 0 where
+  pub memory : memoryOf (placesSize (place .replica .group .replicas)) (after .replica) ≡ leftAt told lent place
+  pub rest : drop (placesSize (place .replica .group .replicas)) (after .replica .places) ≡ drop (placesSize (place .replica .group .replicas)) (place .replica .places)
+  pub journal : CatchesUp (leftAt told lent place .blocks .window) (leftAt told lent place .turn .slot) (place .held) page (after .held) left
+  pub notices : after .taken ≡ place .taken
+  pub says : SaysOf 71 (givingAt (replicate 512 0) told lent place) kept out n sent keptLeft outLeft
+
+-- neither: all stays, and the answer is the line of what is none
 pub record Unanswered (place : Place) (page kept out : List ℕ) (after : Place) (n : ℕ) (sent : Bool) (left keptLeft outLeft : List ℕ) : Type 0 where
   pub stays : after ≡ place
   pub journal : left ≡ page
@@ -74,8 +85,17 @@ pub record Unanswered (place : Place) (page kept out : List ℕ) (after : Place)
   pub sends : sent ≡ false
   pub keeps : keptLeft ≡ kept
 
+-- what a line does that is answered: its call where it tells no turns, else a giving, which is lent the window of the one at the giver's place
+abbrev pub Does : Call → (named told : List ℕ) → Replica → Place → (page kept out : List ℕ) → Place → ℕ → Bool → (left keptLeft outLeft : List ℕ) → Type 0
+Does c named told lender place page kept out after n sent left keptLeft outLeft =
+    ((told ≡ []) × AnswersAt c named place page kept out after n sent left keptLeft outLeft)
+    ⊎ ((told ≡ [] → ⊥) × GivesLine told (lender .window) place page kept out after n sent left keptLeft outLeft)
+
+abbrev pub isAskedAt : Bool → Call → List ℕ → Replica → Place → List ℕ → Bool
+isAskedAt known c told lender place page = isAsked known c told (place .replica .group) (lender .group) (journalOf (place .held) page) (takenOf (place .taken))
+
 -- the one or the other
-pub record Replies (known : Bool) (c : Call) (named : List ℕ) (place : Place) (page kept out : List ℕ) (after : Place) (n : ℕ) (sent : Bool) (left keptLeft outLeft : List ℕ) : Type 0 where
-  pub does : ((isAnswered known c (place .replica .group) (journalOf (place .held) page) (takenOf (place .taken)) ≡ true) × AnswersAt c named place page kept out after n sent left keptLeft outLeft)
-      ⊎ ((isAnswered known c (place .replica .group) (journalOf (place .held) page) (takenOf (place .taken)) ≡ false) × Unanswered place page kept out after n sent left keptLeft outLeft)
+pub record Replies (known : Bool) (c : Call) (named told : List ℕ) (lender : Replica) (place : Place) (page kept out : List ℕ) (after : Place) (n : ℕ) (sent : Bool) (left keptLeft outLeft : List ℕ) : Type 0 where
+  pub does : ((isAskedAt known c told lender place page ≡ true) × Does c named told lender place page kept out after n sent left keptLeft outLeft)
+      ⊎ ((isAskedAt known c told lender place page ≡ false) × Unanswered place page kept out after n sent left keptLeft outLeft)
   pub within : n ≤ length outLeft

@@ -5,8 +5,10 @@ ghost use mathlib.Core.Bool.{cond, _&&_};
 ghost use lib.Dec.{ltb};
 ghost use lib.ListN.{length, take};
 ghost use Rattle.replay_print.specs.Text.{answerText, Holds};
-ghost use Rattle.replay.specs.Answers.{noPlace, shownIf, blockShown, isSent, keptAfter, Says, AnswersAt, Replies};
+ghost use Rattle.replay.specs.Answers.{noPlace, shownIf, blockShown, isSent, keptAfter, Says, AnswersAt, GivesLine, Replies};
 use memory::bytes::copy_bytes;
+use replay_give::told::Told;
+use replay_give::told::turns_of;
 use replay_journal::Held;
 use replay_journal::notices::Taken;
 use replay_journal::notices::none;
@@ -22,6 +24,7 @@ use text_lines::output::nothing;
 use text_lines::output::with_line;
 use text_lines::output::with_room;
 
+mod givings;
 mod places;
 mod usage;
 
@@ -39,13 +42,14 @@ pub struct Placed {
     pub taken: Taken,
 }
 
-// The place of a call, the call, and the first `count` bytes for it; not `known` where the line names no place, or no bytes.
+// The place of a call, the call, and the first `count` bytes for it, or the turns that a giving is told; not `known` where the line names no place, or no bytes.
 struct Request {
     place: usize,
     known: bool,
     call: Call,
     count: usize,
     bytes: [u8; 2100],
+    told: Told,
 }
 
 // What the next line asks, unless the input has ended.
@@ -102,26 +106,28 @@ fn is_known(place: usize, known: bool) -> bool
 // What the line asks. `kept` are the blocks sent last.
 fn request_of(line: &[u8], sent: u64, kept: &[u8]) -> Request
     requires { ⌜ length (now kept) ≡ 32768 ⌝ }
-    ensures { λ r. ⌜ (r .place < 8) × (r .count ≤ 2100) ⌝ }
+    ensures { λ r. ⌜ (r .place < 8) × (r .count ≤ 2100) × (r .told .count ≤ 6) ⌝ }
 {
     let place = replay_parse::place_named(line);
     let call = replay_parse::call_of(line);
     let from = replay_delivery::start_of(call.first as u64);
     let delivery = replay_delivery::delivered(call, line, sent, &kept[from..from + 512]);
     let bytes = delivery.bytes;
+    let told = turns_of(line);
     Request {
         place: at_most_seven(place),
         known: is_known(place, delivery.known),
         call: call,
         count: delivery.count,
         bytes: bytes,
+        told: told,
     }
 }
 
 // What the next line of the input asks.
 fn next_request(source: Source, sent: u64, buffer: &mut [u8], kept: &[u8]) -> Asked
     requires { ⌜ length (now kept) ≡ 32768 ⌝ }
-    ensures { λ r. ⌜ (r .request .place < 8) × (r .request .count ≤ 2100) ⌝ }
+    ensures { λ r. ⌜ (r .request .place < 8) × (r .request .count ≤ 2100) × (r .request .told .count ≤ 6) ⌝ }
 {
     // One byte more than the longest call has, `Y k `, three numbers and 2,100 bytes: a longer line is no call.
     let mut line = [0u8; 4239];
@@ -229,29 +235,66 @@ fn play_line(
     }
 }
 
-// The call, where there is an answer to it.
-fn answer(
-    request: Request,
+// The giving at its place, and the answer put.
+fn give_line(
+    told: Told,
     place: Place,
+    lender: Place,
     page: &mut [u8],
     kept: &mut [u8],
     out: &mut [u8],
 ) -> Answered
-    requires { ⌜ request .count ≤ 2100 ⌝ }
-    ensures { λ r. ⌜ Replies (request .known) (request .call) (take (request .count) (request .bytes)) place (now (page .entry)) (now (kept .entry)) (now (out .entry))
+    requires { ⌜ told .count ≤ 6 ⌝ }
+    ensures { λ r. ⌜ GivesLine (take (told .count) (told .turns)) (lender .replica .window) place (now (page .entry)) (now (kept .entry)) (now (out .entry))
+        (r .place) (r .said .length) (r .said .sent) (now (page .exit)) (now (kept .exit)) (now (out .exit)) ⌝ }
+{
+    let placed = givings::run(told, place, lender, &mut *page);
+    let block = [0u8; 512];
+    let played = placed.played;
+    let after = played.replica;
+    let left = placed.held;
+    let notices = placed.taken;
+    Answered {
+        place: Place {
+            replica: after,
+            held: left,
+            taken: notices,
+        },
+        said: put_answer(b'G', played, &block, &mut *kept, &mut *out),
+    }
+}
+
+// The call or the giving, where there is an answer to it. The lender stands at the place of the giver.
+fn answer(
+    request: Request,
+    place: Place,
+    lender: Place,
+    page: &mut [u8],
+    kept: &mut [u8],
+    out: &mut [u8],
+) -> Answered
+    requires { ⌜ (request .count ≤ 2100) × (request .told .count ≤ 6) ⌝ }
+    ensures { λ r. ⌜ Replies (request .known) (request .call) (take (request .count) (request .bytes)) (take (request .told .count) (request .told .turns)) (lender .replica) place
+        (now (page .entry)) (now (kept .entry)) (now (out .entry))
         (r .place) (r .said .length) (r .said .sent) (now (page .exit)) (now (kept .exit)) (now (out .exit)) ⌝ }
 {
     let call = request.call;
-    if places::is_answered(request.known, call, place, &*page) {
+    let told = request.told;
+    let other = lender.replica;
+    let group = other.group;
+    if !givings::is_asked(request.known, call, told, place, group, &*page) {
+        return Answered {
+            place: place,
+            said: Said {
+                length: replay_print::put_unknown(&mut *out),
+                sent: false,
+            },
+        };
+    }
+    if told.count == 0 {
         return play_line(request, place, &mut *page, &mut *kept, &mut *out);
     }
-    Answered {
-        place: place,
-        said: Said {
-            length: replay_print::put_unknown(&mut *out),
-            sent: false,
-        },
-    }
+    give_line(told, place, lender, &mut *page, &mut *kept, &mut *out)
 }
 
 // How many blocks were sent, with one more where one was.
@@ -269,13 +312,14 @@ fn counted(sent: u64, more: bool) -> u64
 fn reply(
     request: Request,
     place: Place,
+    lender: Place,
     output: Output,
     sent: u64,
     pages: &mut [u8],
     kept: &mut [u8],
     out: &mut [u8],
 ) -> Replied
-    requires { ⌜ (request .place < 8) × (request .count ≤ 2100) × (output .held ≤ 65536)
+    requires { ⌜ (request .place < 8) × (request .count ≤ 2100) × (request .told .count ≤ 6) × (output .held ≤ 65536)
         × (length (now pages) ≡ 524288) × (length (now kept) ≡ 32768) × (length (now out) ≡ 65536) ⌝ }
     ensures { λ r. ⌜ r .output .held ≤ 65536 ⌝ }
 {
@@ -285,6 +329,7 @@ fn reply(
     let next = answer(
         request,
         place,
+        lender,
         &mut pages[page..page + 65536],
         &mut kept[slot..slot + 512],
         &mut out[end..],
@@ -296,6 +341,17 @@ fn reply(
         output: with_line(output, said.length),
         sent: counted(sent, said.sent),
     }
+}
+
+// The place of the giver that the line names, any where it names none.
+fn lender_of(request: Request, place: Place) -> usize
+    requires { ⌜ request .told .count ≤ 6 ⌝ }
+    ensures { λ r. ⌜ r < 8 ⌝ }
+{
+    let told = request.told;
+    let replica = place.replica;
+    let group = replica.group;
+    givings::place_of(group, told)
 }
 
 // Every line of the input, in its order.
@@ -324,9 +380,12 @@ fn play() {
         let request = asked.request;
         let at = request.place;
         let place = places[at];
+        let from = lender_of(request, place);
+        let lender = places[from];
         let next = reply(
             request,
             place,
+            lender,
             output,
             sent,
             &mut pages,

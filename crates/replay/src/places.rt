@@ -19,7 +19,7 @@ use replay_replica::Played;
 use replay_replica::Replica;
 use replay_replica::is_station;
 
-fn is_replica(group: Group) -> bool
+pub fn is_replica(group: Group) -> bool
     ensures { λ r. ⌜ r ≡ isReplica group ⌝ }
 {
     if is_station(group) {

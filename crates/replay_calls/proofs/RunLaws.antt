@@ -17,7 +17,6 @@ use Rattle.engine.specs.Moves.{deliverStep, workStep}
 use Rattle.engine.specs.Notices.{noticeStep}
 use Rattle.engine.specs.Restart.{restartStep}
 use Rattle.engine.specs.Station.{stationStep}
-use Rattle.call_reply.specs.Called.{withBlock}
 use Rattle.replay_parse.specs.declared.Call.{Call}
 use Rattle.replay_replica.specs.declared.Played.{Played}
 use Rattle.replay_replica.specs.declared.Replica.{Replica}
@@ -79,9 +78,9 @@ module _ (c : Call) (replica : Replica) (p : Played) (bytes lent : List ℕ) whe
   run-deliver (inr (inr e)) h = rw e (h lent)
 
   pub run-work : (left : List ℕ) → c .letter ≡ 75
-      → Plays (placesSize (replica .group .replicas)) replica p left (effect lent (withBlock lent workStep (memoryOf (placesSize (replica .group .replicas)) replica)))
+      → Plays (placesSize (replica .group .replicas)) replica p left (effect lent (workStep (memoryOf (placesSize (replica .group .replicas)) replica)))
       → Runs left
-  unfolding played
+  unfolding played step
   run-work left e h = rw e h
 
   pub run-restart : (left : List ℕ) → c .letter ≡ 89

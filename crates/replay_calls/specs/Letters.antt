@@ -1,22 +1,19 @@
 -- What a call at a replica or a station does, by its letter.
-use Prim.Native.Nat.{ℕ, min}
+use Prim.Native.Nat.{ℕ}
 use mathlib.Core.Bool.{Bool, true, false, cond, _||_}
 use mathlib.Core.List.{List, []}
 use lib.Dec.{eqb}
-use lib.ListN.{length, replicate}
-use lib.Seq.{paste}
+use lib.ListN.{replicate}
 use Rattle.memory.specs.declared.Group.{Group}
 use Rattle.memory.specs.Memory.{Memory}
 use Rattle.engine.specs.Make.{makeStep}
-use Rattle.engine.specs.Moves.{workStep}
 use Rattle.engine.specs.Restart.{restartStep}
 use Rattle.engine.specs.Station.{stationStep}
 use Rattle.engine.specs.Calls.{step}
-use Rattle.engine.specs.Calls.Call.{begin, read, write, ask, withdraw, report, send, deliver, load, notice}
-use Rattle.call_reply.specs.Called.{withBlock}
+use Rattle.engine.specs.Calls.Call.{begin, read, write, ask, withdraw, report, send, deliver, work, load, notice}
 use Rattle.replay_parse.specs.declared.Call.{Call}
 use Rattle.replay_journal.specs.declared.Change.the-variants.{Stays}
-use Rattle.replay_replica.specs.Effects.{placesSize, Effect, effect}
+use Rattle.replay_replica.specs.Effects.{placesSize, over, Effect, effect}
 
 -- ---- the places that it is lent
 
@@ -40,7 +37,7 @@ show bytes lent m = record {
   number = 0;
   numbers = [];
   values = [];
-  block = paste lent 0 bytes (min (length bytes) (length lent));
+  block = over lent bytes;
   memory = m;
   change = Stays;
 }
@@ -57,7 +54,7 @@ played c bytes lent m =
     (cond (eqb (c .letter) 81) {- Q -} (effect lent (step m report))
     (cond (eqb (c .letter) 83) {- S -} (effect lent (step m (send lent)))
     (cond (eqb (c .letter) 68 || (eqb (c .letter) 70 || eqb (c .letter) 72)) {- D, F, H -} (effect lent (step m (deliver bytes)))
-    (cond (eqb (c .letter) 75) {- K -} (effect lent (withBlock lent workStep m))
+    (cond (eqb (c .letter) 75) {- K -} (effect lent (step m work))
     (cond (eqb (c .letter) 89) {- Y -} (effect lent (restartStep m (c .first) (c .second) (replicate 128 (c .value)) bytes [] lent))
     (cond (eqb (c .letter) 80) {- P -} (effect lent (step m (load bytes)))
     (cond (eqb (c .letter) 74) {- J -} (show bytes lent m)

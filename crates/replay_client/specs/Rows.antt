@@ -21,4 +21,5 @@ withRow replica counts r t = record {
   classes = replica .classes;
   places = replica .places;
   outbox = replica .outbox;
+  window = replica .window;
 }

@@ -4,15 +4,16 @@ use mathlib.Core.Path.{_≡_, refl, ap}
 use mathlib.Core.Bool.{Bool, true, false, cond, not}
 use mathlib.Core.List.{List, [], _∷_}
 use native.Mathlib.Omega.{arith}
-use borrow.Author.Tests.{eq-eqb, ne-eqb}
+use borrow.Author.Tests.{eq-eqb, ne-eqb, eqb-false}
 use lib.Dec.{eqb}
 use lib.IntN.{ℤ}
-use lib.ListN.{length, getD, take, replicate, length-append, length-replicate}
+use lib.ListN.{length, getD, take, replicate}
 use lib.Seq.{take-append-seam}
 use Rattle.memory.specs.Memory.{Memory, numberless}
 use Rattle.memory.specs.Notices.{Notice}
-use Rattle.engine.specs.Answers.{WorkDone, Outcome, outcome}
-use Rattle.engine.specs.Answers.Answer.{refused, made, worked, restarted}
+use Rattle.memory.specs.Window.{keptBlock}
+use Rattle.engine.specs.Answers.{WorkDone, Answer, Outcome, outcome}
+use Rattle.engine.specs.Answers.Answer.{refused, made, began, got, wrote, queued, readOnly, withdrew, reported, sent, kept, worked, loaded, noticed, restarted}
 use Rattle.engine.specs.Make.{makeRefusal, makeStep}
 use Rattle.engine.specs.Calls.{step}
 use Rattle.engine.specs.Calls.Call.{send}
@@ -20,19 +21,20 @@ use Rattle.engine.specs.Moves.{deliverRefusal, deliverNow, deliverStep, sendRef
 use Rattle.engine.specs.Notices.{noticeRefusal, noticeStep}
 use Rattle.engine.specs.Restart.{restartRefusal, restartStep}
 use Rattle.engine.proofs.Restarts.{restarts}
+use Rattle.engine.proofs.Tests.{bool-by}
+use Rattle.engine.proofs.Window.{window-claims}
 use Rattle.call_reply.specs.declared.Restarted.{Restarted}
 use Rattle.call_reply.specs.declared.RestartReply.{RestartReply}
 use Rattle.call_reply.specs.declared.WorkReply.{WorkReply}
-use Rattle.call_reply.specs.Called.{withBlock}
 use Rattle.call_reply.specs.Notices.{noticesIn, restartLent}
 use Rattle.call_reply.specs.Replies.{stepIn, countIn, number, sixOf, workReply, restartReply, Gives, blockLeft, GivesWith, GivesBlock}
 use Rattle.replay_journal.specs.declared.Change.{Change}
 use Rattle.replay_journal.specs.declared.Change.the-variants.{Stays, Grows, Begins}
 use Rattle.replay_replica.specs.declared.Played.{Played}
 use Rattle.replay_replica.specs.declared.Replica.{Replica}
-use Rattle.replay_replica.specs.Effects.{memoryOf, Effect, effect, Plays}
+use Rattle.replay_replica.specs.Effects.{memoryOf, over, Effect, effect, Plays}
 use Rattle.replay_moves.specs.Makes.{withMade}
-use Rattle.replay_replica.proofs.EffectLaws.{Bare, bare-refused, by-number, unless-by, plays-bare, station-refuses, replica-does}
+use Rattle.replay_replica.proofs.EffectLaws.{Bare, bare-refused, by-number, unless-by, plays-bare, station-refuses, replica-does, six-few}
 
 -- ---- restart
 
@@ -153,20 +155,27 @@ module _ (lent : List ℕ) where
 
 -- ---- work
 
--- six numbers, one by one
-pub six-is : (l : List ℕ) → length l ≡ 6 → getD l 0 0 ∷ (getD l 1 0 ∷ (getD l 2 0 ∷ (getD l 3 0 ∷ (getD l 4 0 ∷ (getD l 5 0 ∷ []))))) ≡ l
-six-is [] h = absurd (omega (arith, h))
-six-is (a ∷ []) h = absurd (omega (arith, h))
-six-is (a ∷ (b ∷ [])) h = absurd (omega (arith, h))
-six-is (a ∷ (b ∷ (c ∷ []))) h = absurd (omega (arith, h))
-six-is (a ∷ (b ∷ (c ∷ (d ∷ [])))) h = absurd (omega (arith, h))
-six-is (a ∷ (b ∷ (c ∷ (d ∷ (e ∷ []))))) h = absurd (omega (arith, h))
-six-is (a ∷ (b ∷ (c ∷ (d ∷ (e ∷ (f ∷ [])))))) h = refl
-six-is (a ∷ (b ∷ (c ∷ (d ∷ (e ∷ (f ∷ (g ∷ l))))))) h = absurd (omega (arith, h))
-
-either-way : (b : Bool) (x y : Change) → cond (not b) x y ≡ cond b y x
+either-way : {A : Type 0} (b : Bool) (x y : A) → cond (not b) x y ≡ cond b y x
 either-way true x y = refl
 either-way false x y = refl
+
+-- only a work has a block for the journal
+appends-worked : (a : Answer) → (stepIn a .append ≡ [] → ⊥) → a ≡ worked (stepIn a)
+appends-worked (worked s) h = refl
+appends-worked (refused n) h = absurd (h refl)
+appends-worked made h = absurd (h refl)
+appends-worked (began t) h = absurd (h refl)
+appends-worked (got v) h = absurd (h refl)
+appends-worked wrote h = absurd (h refl)
+appends-worked queued h = absurd (h refl)
+appends-worked readOnly h = absurd (h refl)
+appends-worked withdrew h = absurd (h refl)
+appends-worked (reported r) h = absurd (h refl)
+appends-worked (sent b) h = absurd (h refl)
+appends-worked kept h = absurd (h refl)
+appends-worked loaded h = absurd (h refl)
+appends-worked noticed h = absurd (h refl)
+appends-worked (restarted c b) h = absurd (h refl)
 
 module _ (m : Memory) (lent : List ℕ) where
   work-shows : (o : Outcome) → Type 0
@@ -176,7 +185,7 @@ module _ (m : Memory) (lent : List ℕ) where
         number = number o;
         numbers = take (cond (eqb (number o) 0) (4 + length (s .aborted)) 0) (s .sender ∷ (s .ticket ∷ (cond (s .moved) 1 0 ∷ (length (s .aborted) ∷ sixOf (s .aborted)))));
         values = [];
-        block = blockLeft (o .answer) lent;
+        block = cond (not (eqb (length (s .append)) 0)) (over lent (s .append)) lent;
         memory = o .memory;
         change = cond (not (eqb (length (s .append)) 0)) Grows Stays;
       } ≡ effect lent o
@@ -186,7 +195,12 @@ module _ (m : Memory) (lent : List ℕ) where
   worked-shows s left =
       let l = s .aborted in
       let e : 4 + length l ≡ suc (suc (suc (suc (length l)))) = omega arith in
-      rw (e, take-append-seam l (replicate (6 - length l) 0), either-way (eqb (length (s .append)) 0) Grows Stays)
+      rw (
+        e,
+        take-append-seam l (replicate (6 - length l) 0),
+        either-way {A = Change} (eqb (length (s .append)) 0) Grows Stays,
+        either-way {A = List ℕ} (eqb (length (s .append)) 0) (over lent (s .append)) lent,
+      )
 
   step-shows : work-shows (workStep m)
   unfolding workStep passOut passBlock passNext commitWriteset work-shows
@@ -199,7 +213,20 @@ module _ (m : Memory) (lent : List ℕ) where
       (λ e. by-number work-shows (eqb (getD (blockAtTurn m) 0 0) 1) (λ f. worked-shows (stepIn (next .answer)) (next .memory)) (λ f. worked-shows (stepIn (commit .answer)) (commit .memory))))
       (λ e. rw e)
 
-  pub work-effect : {r : WorkReply} {left : Memory} {block : List ℕ} → GivesWith workReply (withBlock lent workStep m) lent r left block
+  -- the window has it
+  kept-shows : let s = stepIn (workStep m .answer) in
+      cond (not (eqb (length (s .append)) 0)) (over lent (keptBlock (workStep m .memory .blocks .window) (m .turn .slot))) lent
+      ≡ cond (not (eqb (length (s .append)) 0)) (over lent (s .append)) lent
+  unfolding step
+  kept-shows =
+      let s = stepIn (workStep m .answer) in
+      bool-by (eqb (length (s .append)) 0)
+      (λ e. rw e)
+      (λ e. let some : s .append ≡ [] → ⊥ = λ h. eqb-false (length (s .append)) 0 e (ap (λ (l : List ℕ). length l) h) in
+      rw (window-claims .appends m s (appends-worked (workStep m .answer) some) some))
+
+  pub work-effect : {r : WorkReply} {left : Memory} {block : List ℕ} → Gives workReply (workStep m) r left
+      → block ≡ cond (r .append) (over lent (keptBlock (left .blocks .window) (m .turn .slot))) lent
       → record {
         number = r .number;
         numbers = take (cond (eqb (r .number) 0) (4 + r .count) 0) (r .sender ∷ (r .ticket ∷ (cond (r .moved) 1 0 ∷ (r .count ∷ r .aborted))));
@@ -207,13 +234,10 @@ module _ (m : Memory) (lent : List ℕ) where
         block = block;
         memory = left;
         change = cond (r .append) Grows Stays;
-      } ≡ effect lent (withBlock lent workStep m)
-  unfolding withBlock work-shows
-  work-effect g = rw (g .0 .0, g .0 .1, g .1) (by-number work-shows (eqb (length lent) 512) (λ e. step-shows) (λ e. refl))
+      } ≡ effect lent (workStep m)
+  unfolding work-shows
+  work-effect g b = rw (b, g .0, g .1, kept-shows) step-shows
 
 -- six tickets at most
 pub work-few : (o : Outcome) {r : WorkReply} {left : Memory} → Gives workReply o r left → length (r .aborted) ≡ 6 → r .count ≤ 6
-work-few o g h =
-    let l = stepIn (o .answer) .aborted in
-    let k : length (sixOf l) ≡ 6 = rw (g .0) at h in
-    rw (g .0) (omega (arith, k, length-append l (replicate (6 - length l) 0), length-replicate {A = ℕ} (6 - length l) 0))
+work-few o g h = rw (g .0) (six-few (stepIn (o .answer) .aborted) (rw (g .0) at h))

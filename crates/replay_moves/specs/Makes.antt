@@ -21,6 +21,7 @@ withGroup replica group = record {
   classes = replica .classes;
   places = replica .places;
   outbox = replica .outbox;
+  window = replica .window;
 }
 
 -- with group, turn, counts and free rows by a restart, where it is accepted
@@ -39,4 +40,5 @@ withMade replica r = record {
   classes = replica .classes;
   places = replica .places;
   outbox = replica .outbox;
+  window = replica .window;
 }

@@ -4,26 +4,29 @@ ghost use mathlib.Core.Path.{_≡_};
 ghost use mathlib.Core.Bool.{cond};
 ghost use mathlib.Core.List.{List, [], _∷_};
 ghost use lib.Dec.{eqb};
-ghost use lib.ListN.{replicate};
+ghost use lib.ListN.{length, replicate};
 ghost use Rattle.memory.specs.Rows.{endRows};
 ghost use Rattle.engine.specs.Make.{makeStep};
 ghost use Rattle.engine.specs.Moves.{sendStep, deliverStep, workStep};
 ghost use Rattle.engine.specs.Notices.{noticeStep};
 ghost use Rattle.engine.specs.Restart.{restartStep};
-ghost use Rattle.call_reply.specs.Called.{withBlock};
 ghost use Rattle.call_reply.specs.Notices.{restartLent};
 ghost use Rattle.replay_journal.specs.declared.Change.the-variants.{Stays, Grows};
 ghost use Rattle.engine.specs.Station.{stationStep};
 ghost use Rattle.engine.specs.Calls.{step};
 ghost use Rattle.engine.specs.Calls.Call.{send};
-ghost use Rattle.memory.specs.Memory.{noNumber, groupOf};
-ghost use Rattle.replay_replica.specs.Effects.{placesSize, memoryOf, effect, Plays};
+ghost use Rattle.memory.specs.Memory.{noNumber, windowBytes, groupOf};
+ghost use Rattle.memory.specs.Window.{keptBlock};
+ghost use Rattle.replay_replica.specs.Effects.{placesSize, memoryOf, over, effect, Plays};
 ghost use Rattle.replay_moves.specs.Makes.{withGroup, withMade};
 use call_reply::Restarted;
 use call_reply::WorkReply;
 use memory::Group;
 use memory::NO_NUMBER;
 use memory::Txn;
+use memory::WINDOW_SLOTS;
+use memory::bytes::copy_bytes;
+use memory::cursor::place_start;
 use memory::rows::free;
 use replay_journal::Change;
 use replay_replica::Played;
@@ -83,6 +86,7 @@ pub fn restart(
     let mut classes = replica.classes;
     let mut places = replica.places;
     let mut outbox = replica.outbox;
+    let mut window = replica.window;
     let restarted = call_restart::restart(
         n,
         own,
@@ -96,6 +100,7 @@ pub fn restart(
         &mut classes,
         &mut places[..size],
         &mut outbox,
+        &mut window,
         journal,
         notices,
         &mut *block,
@@ -110,6 +115,7 @@ pub fn restart(
     after.classes = classes;
     after.places = places;
     after.outbox = outbox;
+    after.window = window;
     let reply = restarted.reply;
     let change = changing(reply.number, Change::Begins(reply.count));
     with_number(after, reply.number, reply.count, change)
@@ -274,10 +280,23 @@ fn step_of(replica: Replica, reply: WorkReply) -> Played
     )
 }
 
+// The block that the window has of the slot, put over the bytes lent, where it is to be appended to the journal.
+fn put_kept(append: bool, slot: u32, window: &[u8], block: &mut [u8])
+    requires { ⌜ length (now window) ≡ windowBytes ⌝ }
+    ensures { λ _. ⌜ now (block .exit) ≡ cond append (over (now (block .entry)) (keptBlock (now (window .entry)) slot)) (now (block .entry)) ⌝ }
+{
+    if !append {
+        return;
+    }
+    let at = place_start(WINDOW_SLOTS, slot);
+    let end = at + 512;
+    copy_bytes(&window[at..end], &mut *block);
+}
+
 // A block that is to be appended to the journal goes into the bytes lent.
 pub fn work(replica: Replica, block: &mut [u8]) -> Played
     ensures { λ r. ⌜ Plays (placesSize (replica .group .replicas)) replica r (now (block .exit))
-        (effect (now (block .entry)) (withBlock (now (block .entry)) workStep (memoryOf (placesSize (replica .group .replicas)) replica))) ⌝ }
+        (effect (now (block .entry)) (workStep (memoryOf (placesSize (replica .group .replicas)) replica))) ⌝ }
 {
     let group = replica.group;
     let turn = replica.turn;
@@ -288,6 +307,7 @@ pub fn work(replica: Replica, block: &mut [u8]) -> Played
     let mut values = replica.values;
     let mut stamps = replica.stamps;
     let mut places = replica.places;
+    let mut window = replica.window;
     let size = places_size(group.replicas as u32);
     let worked = call_work::work(
         rows,
@@ -299,9 +319,10 @@ pub fn work(replica: Replica, block: &mut [u8]) -> Played
         &mut values,
         &mut stamps,
         &mut places[..size],
-        &mut *block,
+        &mut window,
     );
     let reply = worked.reply;
+    put_kept(reply.append, turn.slot, &window, &mut *block);
     let numbers = worked.counts;
     let next = worked.turn;
     let ended = worked.ended;
@@ -314,6 +335,7 @@ pub fn work(replica: Replica, block: &mut [u8]) -> Played
     after.values = values;
     after.stamps = stamps;
     after.places = places;
+    after.window = window;
     step_of(after, reply)
 }
 

@@ -1,21 +1,21 @@
 -- What a call's outcome shows, by the reply that the call gives. Assumes nothing.
-use Prim.Native.Nat.{ℕ, _≤_}
+use Prim.Native.Nat.{ℕ, _-_, _≤_}
 use mathlib.Core.Path.{_≡_, refl, ap, _∙_}
 use mathlib.Core.Bool.{Bool, true, false, cond}
-use mathlib.Core.List.{List, [], _∷_}
+use mathlib.Core.List.{List, [], _∷_, _++_}
 use native.Mathlib.Omega.{arith}
 use lib.Dec.{eqb}
 use lib.IntN.{ℤ}
-use lib.ListN.{take, drop}
+use lib.ListN.{length, getD, take, drop, replicate, length-append, length-replicate}
 use Rattle.memory.specs.Memory.{Memory, numberless}
 use Rattle.engine.specs.Answers.{Outcome, outcome, unless, unlessStation}
 use Rattle.engine.specs.Answers.Answer.{refused}
-use Rattle.call_reply.specs.Replies.{number, Gives, blockLeft}
+use Rattle.call_reply.specs.Replies.{number, sixOf, Gives}
 use Rattle.replay_replica.specs.declared.Played.{Played}
 use Rattle.replay_replica.specs.declared.Replica.{Replica}
 use Rattle.replay_journal.specs.declared.Change.{Change}
 use Rattle.replay_journal.specs.declared.Change.the-variants.{Stays}
-use Rattle.replay_replica.specs.Effects.{memoryOf, numbersOf, valuesOf, changeOf, Effect, effect, effectOf, Plays}
+use Rattle.replay_replica.specs.Effects.{memoryOf, numbersOf, valuesOf, changeOf, blockGiven, Effect, effect, effectOf, Plays}
 
 -- ---- refused or done
 
@@ -81,6 +81,21 @@ pub one-few : (b : Bool) → cond b 1 0 ≤ 10
 one-few true = omega arith
 one-few false = omega arith
 
+-- six numbers, one by one, with others behind
+pub six-is : (l rest : List ℕ) → length l ≡ 6 → getD l 0 0 ∷ (getD l 1 0 ∷ (getD l 2 0 ∷ (getD l 3 0 ∷ (getD l 4 0 ∷ (getD l 5 0 ∷ rest))))) ≡ l ++ rest
+six-is [] rest h = absurd (omega (arith, h))
+six-is (a ∷ []) rest h = absurd (omega (arith, h))
+six-is (a ∷ (b ∷ [])) rest h = absurd (omega (arith, h))
+six-is (a ∷ (b ∷ (c ∷ []))) rest h = absurd (omega (arith, h))
+six-is (a ∷ (b ∷ (c ∷ (d ∷ [])))) rest h = absurd (omega (arith, h))
+six-is (a ∷ (b ∷ (c ∷ (d ∷ (e ∷ []))))) rest h = absurd (omega (arith, h))
+six-is (a ∷ (b ∷ (c ∷ (d ∷ (e ∷ (f ∷ [])))))) rest h = refl
+six-is (a ∷ (b ∷ (c ∷ (d ∷ (e ∷ (f ∷ (g ∷ l))))))) rest h = absurd (omega (arith, h))
+
+-- six tickets at most, of six numbers with zeros behind
+pub six-few : (l : List ℕ) → length (sixOf l) ≡ 6 → length l ≤ 6
+six-few l h = omega (arith, h, length-append l (replicate (6 - length l) 0), length-replicate {A = ℕ} (6 - length l) 0)
+
 -- ---- calls that give a number alone
 
 module _ (lent : List ℕ) where
@@ -88,7 +103,7 @@ module _ (lent : List ℕ) where
   pub record Bare (o : Outcome) : Type 0 where
     pub numbers : numbersOf (o .answer) ≡ []
     pub values : valuesOf (o .answer) ≡ []
-    pub block : blockLeft (o .answer) lent ≡ lent
+    pub block : blockGiven (o .answer) lent ≡ lent
     pub change : changeOf (o .answer) ≡ Stays
 
   pub bare-refused : (n : ℕ) (m : Memory) → Bare (outcome (refused n) m)

@@ -6,6 +6,7 @@ use mathlib.Core.List.{List, [], _∷_}
 use lib.Dec.{eqb}
 use lib.IntN.{ℤ, pos}
 use lib.ListN.{length, take, drop, replicate}
+use lib.Seq.{paste}
 use Rattle.memory.specs.Memory.{Memory, groupOf}
 use Rattle.memory.specs.Rows.{closed}
 use Rattle.engine.specs.declared.Report.{Report}
@@ -13,7 +14,7 @@ use Rattle.engine.specs.Answers.{WorkDone, Answer, numberOf, Outcome}
 use Rattle.engine.specs.Answers.Answer.{refused, made, began, got, wrote, queued, readOnly, withdrew, reported, sent, kept, worked, loaded, noticed, restarted}
 use Rattle.engine.specs.Make.{turnZero, countsZero}
 use Rattle.call_reply.specs.Parts.{allParts}
-use Rattle.call_reply.specs.Replies.{blockLeft}
+use Rattle.call_reply.specs.Replies.{stepIn, blockLeft}
 use Rattle.replay_journal.specs.declared.Change.{Change}
 use Rattle.replay_journal.specs.declared.Change.the-variants.{Stays, Grows, Begins}
 use Rattle.replay_replica.specs.declared.Played.{Played}
@@ -41,12 +42,13 @@ noReplica = record {
   classes = replicate 128 0;
   places = replicate 3072 0;
   outbox = replicate 512 0;
+  window = replicate 32_768 0;
 }
 
 -- the memory that a call is lent: of the bytes for places the first `size`
 abbrev pub memoryOf : ℕ → Replica → Memory
 memoryOf size r =
-    allParts (r .group) (r .turn) (r .counts) (r .rows) (r .queue) (r .items) (r .writes) (r .snapshots) (r .values) (r .stamps) (r .classes) (take size (r .places)) (r .outbox)
+    allParts (r .group) (r .turn) (r .counts) (r .rows) (r .queue) (r .items) (r .writes) (r .snapshots) (r .values) (r .stamps) (r .classes) (take size (r .places)) (r .outbox) (r .window)
 
 -- ---- what is printed of an answer, behind its number
 
@@ -112,6 +114,14 @@ changeOf noticed = Stays
 
 -- ---- calls
 
+-- bytes over the first of those lent, as many as there is room for
+abbrev pub over : List ℕ → List ℕ → List ℕ
+over lent bytes = paste lent 0 bytes (min (length bytes) (length lent))
+
+-- what is left in the bytes lent for a block: also the block that a work has for the journal
+abbrev pub blockGiven : Answer → List ℕ → List ℕ
+blockGiven a lent = cond (eqb (length (stepIn a .append)) 0) (blockLeft a lent) (over lent (stepIn a .append))
+
 -- the number, the numbers and values behind it, what is left in the bytes lent for a block, the memory left, and what becomes of the journal
 pub record Effect : Type 0 where
   pub number : ℕ
@@ -126,7 +136,7 @@ effect lent o = record {
   number = numberOf (o .answer);
   numbers = numbersOf (o .answer);
   values = valuesOf (o .answer);
-  block = blockLeft (o .answer) lent;
+  block = blockGiven (o .answer) lent;
   memory = o .memory;
   change = changeOf (o .answer);
 }

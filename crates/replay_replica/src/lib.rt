@@ -27,6 +27,7 @@ pub struct Replica {
     pub classes: [u8; 128],
     pub places: [u8; 3072],
     pub outbox: [u8; 512],
+    pub window: [u8; 32768],
 }
 
 // What a call gives: its number, and behind it the first `count` numbers and the first `shown` values; the replica after it, and what becomes of its
@@ -88,6 +89,7 @@ pub fn nobody() -> Replica
         classes: [0; 128],
         places: [0; 3072],
         outbox: [0; 512],
+        window: [0; 32768],
     }
 }
 

@@ -37,12 +37,13 @@ pub extern "C" fn stemline_make(
     classes: &mut [u8],
     places: &mut [u8],
     outbox: &mut [u8],
+    window: &mut [u8],
 ) -> u8
     ensures { λ r. ⌜ (Gives number
         (called (λ x. makeStep x n own (now (start .entry)))
-        (allParts (now (group .entry)) (now (turn .entry)) (now (counts .entry)) (now (table .entry)) (now (queue .entry)) (now (items .entry)) (now (writes .entry)) (now (snapshots .entry)) (now (values .entry)) (now (stamps .entry)) (now (classes .entry)) (now (places .entry)) (now (outbox .entry))))
+        (allParts (now (group .entry)) (now (turn .entry)) (now (counts .entry)) (now (table .entry)) (now (queue .entry)) (now (items .entry)) (now (writes .entry)) (now (snapshots .entry)) (now (values .entry)) (now (stamps .entry)) (now (classes .entry)) (now (places .entry)) (now (outbox .entry)) (now (window .entry))))
         r
-        (allParts (now (group .exit)) (now (turn .exit)) (now (counts .exit)) (now (table .exit)) (now (queue .exit)) (now (items .exit)) (now (writes .exit)) (now (snapshots .exit)) (now (values .exit)) (now (stamps .exit)) (now (classes .exit)) (now (places .exit)) (now (outbox .exit)))) ⌝ }
+        (allParts (now (group .exit)) (now (turn .exit)) (now (counts .exit)) (now (table .exit)) (now (queue .exit)) (now (items .exit)) (now (writes .exit)) (now (snapshots .exit)) (now (values .exit)) (now (stamps .exit)) (now (classes .exit)) (now (places .exit)) (now (outbox .exit)) (now (window .exit)))) ⌝ }
 {
     if table.len() != 6 {
         return 1;
@@ -60,6 +61,7 @@ pub extern "C" fn stemline_make(
         classes,
         places,
         outbox,
+        window,
     );
     if done.number != 0 {
         return done.number;
@@ -89,16 +91,17 @@ pub extern "C" fn stemline_restart(
     classes: &mut [u8],
     places: &mut [u8],
     outbox: &mut [u8],
+    window: &mut [u8],
     journal: &[u8],
     notices: &[u32],
     block: &mut [u8],
 ) -> RestartReply
     ensures { λ r. ⌜ (GivesWith restartReply
         (called (λ x. restartLent x n own (now (start .entry)) (now (journal .entry)) (now (notices .entry)) (now (block .entry)))
-        (allParts (now (group .entry)) (now (turn .entry)) (now (counts .entry)) (now (table .entry)) (now (queue .entry)) (now (items .entry)) (now (writes .entry)) (now (snapshots .entry)) (now (values .entry)) (now (stamps .entry)) (now (classes .entry)) (now (places .entry)) (now (outbox .entry))))
+        (allParts (now (group .entry)) (now (turn .entry)) (now (counts .entry)) (now (table .entry)) (now (queue .entry)) (now (items .entry)) (now (writes .entry)) (now (snapshots .entry)) (now (values .entry)) (now (stamps .entry)) (now (classes .entry)) (now (places .entry)) (now (outbox .entry)) (now (window .entry))))
         (now (block .entry))
         r
-        (allParts (now (group .exit)) (now (turn .exit)) (now (counts .exit)) (now (table .exit)) (now (queue .exit)) (now (items .exit)) (now (writes .exit)) (now (snapshots .exit)) (now (values .exit)) (now (stamps .exit)) (now (classes .exit)) (now (places .exit)) (now (outbox .exit)))
+        (allParts (now (group .exit)) (now (turn .exit)) (now (counts .exit)) (now (table .exit)) (now (queue .exit)) (now (items .exit)) (now (writes .exit)) (now (snapshots .exit)) (now (values .exit)) (now (stamps .exit)) (now (classes .exit)) (now (places .exit)) (now (outbox .exit)) (now (window .exit)))
         (now (block .exit))) ⌝ }
 {
     if table.len() != 6 {
@@ -117,6 +120,7 @@ pub extern "C" fn stemline_restart(
         classes,
         places,
         outbox,
+        window,
         journal,
         notices,
         block,

@@ -31,12 +31,13 @@ pub extern "C" fn stemline_make_station(
     classes: &mut [u8],
     places: &mut [u8],
     outbox: &mut [u8],
+    window: &mut [u8],
 ) -> u8
     ensures { λ r. ⌜ (Gives number
         (called (λ x. stationStep x n (now (start .entry)))
-        (allParts (now (group .entry)) (now (turn .entry)) (now (counts .entry)) (now (table .entry)) (now (queue .entry)) (now (items .entry)) (now (writes .entry)) (now (snapshots .entry)) (now (values .entry)) (now (stamps .entry)) (now (classes .entry)) (now (places .entry)) (now (outbox .entry))))
+        (allParts (now (group .entry)) (now (turn .entry)) (now (counts .entry)) (now (table .entry)) (now (queue .entry)) (now (items .entry)) (now (writes .entry)) (now (snapshots .entry)) (now (values .entry)) (now (stamps .entry)) (now (classes .entry)) (now (places .entry)) (now (outbox .entry)) (now (window .entry))))
         r
-        (allParts (now (group .exit)) (now (turn .exit)) (now (counts .exit)) (now (table .exit)) (now (queue .exit)) (now (items .exit)) (now (writes .exit)) (now (snapshots .exit)) (now (values .exit)) (now (stamps .exit)) (now (classes .exit)) (now (places .exit)) (now (outbox .exit)))) ⌝ }
+        (allParts (now (group .exit)) (now (turn .exit)) (now (counts .exit)) (now (table .exit)) (now (queue .exit)) (now (items .exit)) (now (writes .exit)) (now (snapshots .exit)) (now (values .exit)) (now (stamps .exit)) (now (classes .exit)) (now (places .exit)) (now (outbox .exit)) (now (window .exit)))) ⌝ }
 {
     if table.len() != 6 {
         return 1;
@@ -53,6 +54,7 @@ pub extern "C" fn stemline_make_station(
         classes,
         places,
         outbox,
+        window,
     );
     if done.number != 0 {
         return done.number;

@@ -19,7 +19,7 @@ use Rattle.call_reply.specs.Replies.{number, workReply, Gives, GivesWith}
 use Rattle.call_reply.specs.declared.WorkReply.{WorkReply}
 use Rattle.call_reply.specs.declared.Sent.{Sent}
 use Rattle.call_reply.specs.declared.Worked.{Worked}
-use Rattle.call_reply.specs.Called.{called, withBlock}
+use Rattle.call_reply.specs.Called.{called}
 use Rattle.call_work.specs.Works.{endedMarks}
 use Rattle.call_reply.proofs.CalledLaws.{called-other}
 
@@ -39,10 +39,10 @@ abbrev pub DeliverOn : Group → Turn → List ℕ → List ℕ → List ℕ →
 DeliverOn group turn places outbox bytes r places′ = (m : Memory) → Gives number (deliverStep (deliverParts m group turn places outbox) bytes) r (deliverParts m group turn places′ outbox)
 
 abbrev pub WorkOn : List Txn → Group → Turn → Counts → List ℕ → List ℕ → List ℤ → List ℕ → List ℕ → List ℕ → Worked → List ℕ → List ℤ → List ℕ → List ℕ → List ℕ → Type 0
-WorkOn rows group turn counts queue items values stamps places block r queue′ values′ stamps′ places′ block′ = (m : Memory) → GivesWith workReply (withBlock block workStep (workParts m group turn counts rows queue items values stamps places)) block (r .reply) (workParts m group (r .turn) (r .counts) (endRows (r .ended) rows) queue′ items values′ stamps′ places′) block′ × (r .ended ≡ endedMarks block (workParts m group turn counts rows queue items values stamps places))
+WorkOn rows group turn counts queue items values stamps places window r queue′ values′ stamps′ places′ window′ = (m : Memory) → Gives workReply (workStep (workParts m group turn counts rows queue items values stamps places window)) (r .reply) (workParts m group (r .turn) (r .counts) (endRows (r .ended) rows) queue′ items values′ stamps′ places′ window′) × (r .ended ≡ endedMarks (workParts m group turn counts rows queue items values stamps places window))
 
 abbrev pub WorkDid : List Txn → Group → Turn → Counts → List ℕ → List ℕ → List ℤ → List ℕ → List ℕ → List ℕ → WorkReply → List Txn → Turn → Counts → List ℕ → List ℤ → List ℕ → List ℕ → List ℕ → Type 0
-WorkDid table group turn counts queue items values stamps places block r table′ turn′ counts′ queue′ values′ stamps′ places′ block′ = (m : Memory) → GivesWith workReply (called (λ (x : Memory). withBlock block workStep x) (workParts m group turn counts table queue items values stamps places)) block (r) (workParts m group turn′ counts′ table′ queue′ items values′ stamps′ places′) block′
+WorkDid table group turn counts queue items values stamps places window r table′ turn′ counts′ queue′ values′ stamps′ places′ window′ = (m : Memory) → Gives workReply (called (λ (x : Memory). workStep x) (workParts m group turn counts table queue items values stamps places window)) (r) (workParts m group turn′ counts′ table′ queue′ items values′ stamps′ places′ window′)
 
-pub work-not : (table : List Txn) (group : Group) (turn : Turn) (counts : Counts) (queue : List ℕ) (items : List ℕ) (values : List ℤ) (stamps : List ℕ) (places : List ℕ) (block : List ℕ) → (length table ≡ 6 → ⊥) → WorkDid table group turn counts queue items values stamps places block (record { number = 1; sender = 0; moved = false; count = 0; ticket = 0; aborted = replicate 6 0; append = false }) table turn counts queue values stamps places block
-work-not table group turn counts queue items values stamps places block other = λ m. rw (called-other (λ (x : Memory). withBlock block workStep x) (workParts m group turn counts table queue items values stamps places) other) ((refl, refl), refl)
+pub work-not : (table : List Txn) (group : Group) (turn : Turn) (counts : Counts) (queue : List ℕ) (items : List ℕ) (values : List ℤ) (stamps : List ℕ) (places : List ℕ) (window : List ℕ) → (length table ≡ 6 → ⊥) → WorkDid table group turn counts queue items values stamps places window (record { number = 1; sender = 0; moved = false; count = 0; ticket = 0; aborted = replicate 6 0; append = false }) table turn counts queue values stamps places window
+work-not table group turn counts queue items values stamps places window other = λ m. rw (called-other (λ (x : Memory). workStep x) (workParts m group turn counts table queue items values stamps places window) other) (refl, refl)

@@ -5,8 +5,8 @@ ghost use Rattle.memory.specs.Memory.{Memory};
 ghost use Rattle.engine.specs.Answers.{unlessStation};
 ghost use Rattle.engine.specs.Moves.{sendStep, deliverStep, workStep};
 ghost use Rattle.call_reply.specs.Parts.{sendParts, deliverParts, workParts};
-ghost use Rattle.call_reply.specs.Replies.{number, workReply, Gives, GivesWith, GivesBlock};
-ghost use Rattle.call_reply.specs.Called.{called, withBlock};
+ghost use Rattle.call_reply.specs.Replies.{number, workReply, Gives, GivesBlock};
+ghost use Rattle.call_reply.specs.Called.{called};
 use call_deliver::deliver;
 use call_reply::WorkReply;
 use call_reply::replies::no_work;
@@ -97,15 +97,13 @@ pub extern "C" fn stemline_work(
     values: &mut [i32],
     stamps: &mut [u32],
     places: &mut [u8],
-    block: &mut [u8],
+    window: &mut [u8],
 ) -> WorkReply
-    ensures { λ r. ⌜ ((m : Memory) → GivesWith workReply
-        (called (withBlock (now (block .entry)) workStep)
-        (workParts m (now (group .entry)) (now (turn .entry)) (now (counts .entry)) (now (table .entry)) (now (queue .entry)) (now (items .entry)) (now (values .entry)) (now (stamps .entry)) (now (places .entry))))
-        (now (block .entry))
+    ensures { λ r. ⌜ ((m : Memory) → Gives workReply
+        (called workStep
+        (workParts m (now (group .entry)) (now (turn .entry)) (now (counts .entry)) (now (table .entry)) (now (queue .entry)) (now (items .entry)) (now (values .entry)) (now (stamps .entry)) (now (places .entry)) (now (window .entry))))
         r
-        (workParts m (now (group .entry)) (now (turn .exit)) (now (counts .exit)) (now (table .exit)) (now (queue .exit)) (now (items .entry)) (now (values .exit)) (now (stamps .exit)) (now (places .exit)))
-        (now (block .exit))) ⌝ }
+        (workParts m (now (group .entry)) (now (turn .exit)) (now (counts .exit)) (now (table .exit)) (now (queue .exit)) (now (items .entry)) (now (values .exit)) (now (stamps .exit)) (now (places .exit)) (now (window .exit)))) ⌝ }
 {
     if table.len() != 6 {
         return no_work(1);
@@ -124,7 +122,7 @@ pub extern "C" fn stemline_work(
         values,
         stamps,
         places,
-        block,
+        window,
     );
     let reply = done.reply;
     if reply.number != 0 {

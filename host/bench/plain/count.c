@@ -18,12 +18,16 @@ typedef plain_replica replica;
 typedef plain_taken taken;
 #define DO(call) plain_##call
 #define TAKE_INTO plain_take
+#define TURN(r) (r)->turn
+#define KEPT(r, slot) plain_kept(r, slot)
 #else
 #include "stemline.h"
 typedef stemline_replica replica;
 typedef stemline_take_reply taken;
 #define DO(call) stemline_replica_##call
 #define TAKE_INTO stemline_replica_take_into
+#define TURN(r) (r)->turn.slot
+#define KEPT(r, slot) stemline_window_block((r)->window, slot)
 #endif
 
 #define APART __attribute__((noinline)) static void
@@ -58,6 +62,9 @@ static void note_replica(const replica *r) {
     stemline_report_values said = DO(report)(r).report;
     note(r->values, sizeof r->values);
     note(&said, sizeof said);
+    if (TURN(r) > 0) {
+        note(KEPT(r, TURN(r) - 1), STEMLINE_BLOCK); /* what the journal gets */
+    }
 }
 
 /* Stops where a call is refused that should not be: then nothing is counted. */
@@ -95,7 +102,6 @@ APART looked(const taken *steps) {
     for (uint32_t i = 0; i < steps->count; i++) {
         note_work(&steps->steps[i]);
     }
-    note(steps->append, STEMLINE_BLOCK * (size_t)steps->append_count);
 }
 
 static inline void send(uint32_t slot, uint32_t count, uint32_t writes) {
@@ -106,7 +112,7 @@ static inline void send(uint32_t slot, uint32_t count, uint32_t writes) {
 /* As a take does. A take itself stands in one place alone, and so becomes part of its caller. */
 static void uncounted(replica *r, const uint8_t *bytes) {
     must(DO(deliver)(r, bytes, STEMLINE_BLOCK));
-    while (DO(work)(r, own_block).number == STEMLINE_ACCEPTED) {
+    while (DO(work)(r).number == STEMLINE_ACCEPTED) {
     }
 }
 
@@ -162,7 +168,7 @@ APART counted_report(replica *r, uint32_t t) { (void)t, got = DO(report)(r).repo
 APART counted_send(replica *r, uint32_t t) { (void)t, got = DO(send)(r, block); }
 APART counted_deliver_own(replica *r, uint32_t t) { (void)t, got = DO(deliver)(r, own_block, STEMLINE_BLOCK); }
 APART counted_deliver(replica *r, uint32_t t) { (void)t, got = DO(deliver)(r, others, STEMLINE_BLOCK); }
-APART counted_work(replica *r, uint32_t t) { (void)t, worked = DO(work)(r, block); }
+APART counted_work(replica *r, uint32_t t) { (void)t, worked = DO(work)(r); }
 APART counted_restart(replica *r) {
     got = DO(restart)(r, N, 0, start, journal[0], sizeof journal, NULL, 0, block).count;
 }

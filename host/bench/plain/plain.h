@@ -66,13 +66,13 @@ typedef struct plain_replica {
     int32_t snapshots[STEMLINE_TABLE][STEMLINE_ITEMS];
     plain_block places[STEMLINE_REPLICAS]; /* by sender; kind 0 where none waits */
     plain_block outbox;                    /* the block sent last */
+    plain_block window[STEMLINE_KEPT];     /* the last blocks that the turn has left, by slot mod 64 */
 } plain_replica;
 
-/* What a take does: the steps, and the blocks for the journal; nothing is said of what is behind. */
+/* What a take does: the steps; nothing is said of what is behind. */
 typedef struct plain_taken {
-    uint8_t number, count, append_count;
+    uint8_t number, count;
     stemline_work_reply steps[PLAIN_STEPS];
-    uint8_t append[PLAIN_LEFT][STEMLINE_BLOCK];
 } plain_taken;
 
 size_t plain_size(void);
@@ -92,10 +92,12 @@ uint8_t plain_withdraw(plain_replica *r, uint32_t ticket);
 stemline_report_reply plain_report(const plain_replica *r);
 uint8_t plain_send(plain_replica *r, uint8_t block[STEMLINE_BLOCK]);
 uint8_t plain_deliver(plain_replica *r, const uint8_t *bytes, size_t length);
-stemline_work_reply plain_work(plain_replica *r, uint8_t block[STEMLINE_BLOCK]);
+stemline_work_reply plain_work(plain_replica *r);
 uint8_t plain_load(plain_replica *r, const uint8_t *classes, size_t length);
 void plain_take(plain_replica *r, const uint8_t *bytes, size_t length, plain_taken *taken);
 const int32_t *plain_values(const plain_replica *r);
+/* What the window has where the block of a slot would be. */
+const uint8_t *plain_kept(const plain_replica *r, uint32_t slot);
 
 /* For tests: as the replica is after so many slots and withdrawn tickets. */
 void plain_fast_forward(plain_replica *r, uint32_t slots, uint32_t tickets);

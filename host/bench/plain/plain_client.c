@@ -9,6 +9,10 @@ const int32_t *plain_values(const plain_replica *r) {
     return r->values;
 }
 
+const uint8_t *plain_kept(const plain_replica *r, uint32_t slot) {
+    return r->window[slot % STEMLINE_KEPT].bytes;
+}
+
 void plain_fast_forward(plain_replica *r, uint32_t slots, uint32_t tickets) {
     r->turn += slots;
     r->tickets += tickets;

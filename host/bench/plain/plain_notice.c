@@ -80,6 +80,7 @@ stemline_restart_reply plain_restart(
         if (next.has.sender == own && !was_out(notices, count, own, next.has.slot)) {
             memcpy(block, &next, sizeof next);
         }
+        memcpy(&r->window[r->turn % STEMLINE_KEPT], &next, sizeof next);
         r->turn++;
     }
     put_notices(r, notices, count);

@@ -78,14 +78,11 @@ uint8_t plain_deliver(plain_replica *r, const uint8_t *bytes, size_t length) {
     return STEMLINE_ACCEPTED;
 }
 
-/* Ends the turn. Another's block goes to the lent one, for the journal. */
-static void leave(
-    plain_replica *r, plain_block *place, uint8_t block[STEMLINE_BLOCK], stemline_work_reply *reply) {
+/* Ends the turn. The block goes to the window, and another's from there to the journal. */
+static void leave(plain_replica *r, plain_block *place, stemline_work_reply *reply) {
     reply->moved = true;
     reply->append = reply->sender != r->own;
-    if (reply->append) {
-        memcpy(block, place, STEMLINE_BLOCK);
-    }
+    memcpy(&r->window[r->turn % STEMLINE_KEPT], place, sizeof *place);
     place->has.kind = 0;
     r->turn++;
     r->done = 0;
@@ -133,13 +130,12 @@ static void end_own(plain_replica *r, uint32_t ticket) {
     r->committed++;
 }
 
-/* Passes a slot that is out: its next goes to the lent block. */
-static void pass(plain_replica *r, uint8_t block[STEMLINE_BLOCK], stemline_work_reply *reply) {
-    plain_block next;
-    begin_block(r, &next, PLAIN_NEXT);
-    plain_put_check(&next);
-    memcpy(block, &next, sizeof next);
-    reply->sender = next.has.sender;
+/* Passes a slot that is out: its next goes to the window. */
+static void pass(plain_replica *r, stemline_work_reply *reply) {
+    plain_block *next = &r->window[r->turn % STEMLINE_KEPT];
+    begin_block(r, next, PLAIN_NEXT);
+    plain_put_check(next);
+    reply->sender = next->has.sender;
     reply->moved = reply->append = true;
     r->turn++;
 }
@@ -149,11 +145,11 @@ static inline bool waits(const plain_replica *r) {
     return r->places[r->turn % r->n].has.kind != 0 || (plain_is_out(r, r->turn) && r->turn < STEMLINE_SLOTS);
 }
 
-stemline_work_reply plain_work(plain_replica *r, uint8_t block[STEMLINE_BLOCK]) {
+stemline_work_reply plain_work(plain_replica *r) {
     stemline_work_reply reply = {STEMLINE_ACCEPTED, 0, false, 0, 0, {0}, false};
     plain_block *place = &r->places[r->turn % r->n];
     if (plain_is_out(r, r->turn) && r->turn < STEMLINE_SLOTS) {
-        pass(r, block, &reply);
+        pass(r, &reply);
         return reply;
     }
     if (place->has.kind == 0) {
@@ -162,7 +158,7 @@ stemline_work_reply plain_work(plain_replica *r, uint8_t block[STEMLINE_BLOCK]) 
     }
     reply.sender = place->has.sender;
     if (place->has.kind == PLAIN_NEXT) {
-        leave(r, place, block, &reply);
+        leave(r, place, &reply);
         return reply;
     }
     const plain_record *record = &place->has.records[r->done++];
@@ -175,13 +171,13 @@ stemline_work_reply plain_work(plain_replica *r, uint8_t block[STEMLINE_BLOCK]) 
     }
     plain_apply(r, record);
     if (r->done == place->has.count) {
-        leave(r, place, block, &reply);
+        leave(r, place, &reply);
     }
     return reply;
 }
 
 void plain_take(plain_replica *r, const uint8_t *bytes, size_t length, plain_taken *taken) {
-    taken->count = taken->append_count = 0;
+    taken->count = 0;
     taken->number = plain_deliver(r, bytes, length);
     if (taken->number != STEMLINE_ACCEPTED) {
         return;
@@ -189,8 +185,7 @@ void plain_take(plain_replica *r, const uint8_t *bytes, size_t length, plain_tak
     int left = 0;
     while (waits(r) && taken->count < PLAIN_STEPS && left < PLAIN_LEFT) {
         stemline_work_reply *step = &taken->steps[taken->count++];
-        *step = plain_work(r, taken->append[taken->append_count]);
+        *step = plain_work(r);
         left += step->moved;
-        taken->append_count = (uint8_t)(taken->append_count + step->append);
     }
 }

@@ -20,6 +20,8 @@ const REPLICAS: usize = 6;
 const OPEN: usize = RECORDS;
 /// In the place of a station's own number.
 const NO_NUMBER: u8 = 255;
+/// The blocks of a window.
+const KEPT: usize = 64;
 
 /// One replica of a group, or a station. Its calls are the model's, and refuse by the same numbers.
 #[derive(Clone)]
@@ -51,6 +53,8 @@ pub struct Replica {
     /// The first byte is 0 where no block waits.
     places: [[u8; BLOCK]; REPLICAS],
     outbox: [u8; BLOCK],
+    /// The last blocks that the turn has left, by slot mod 64.
+    window: Box<[[u8; BLOCK]; KEPT]>,
 }
 
 /// An open transaction; ticket 0 is a free row.
@@ -112,8 +116,9 @@ pub struct Work {
     pub aborted: [u32; OPEN],
     /// How many there are.
     pub count: usize,
-    /// Another's block, whose slot the turn left, or the next of one that is out.
-    pub append: Option<Box<[u8; BLOCK]>>,
+    /// Whether the journal is to get the block of the slot that the turn left: another's, or the next of one that
+    /// is out.
+    pub append: bool,
 }
 
 impl Replica {
@@ -154,12 +159,18 @@ impl Replica {
             classes: [0; ITEMS],
             places: [[0; BLOCK]; REPLICAS],
             outbox: [0; BLOCK],
+            window: Box::new([[0; BLOCK]; KEPT]),
         })
     }
 
     /// The values committed so far.
     pub fn values(&self) -> &[i32; ITEMS] {
         &self.values
+    }
+
+    /// What the window has where the block of a slot would be.
+    pub fn kept(&self, slot: u32) -> &[u8; BLOCK] {
+        &self.window[slot as usize % KEPT]
     }
 
     /// The counts of the calls so far.

@@ -38,7 +38,8 @@ extern "C" {
     fn plain_report(r: *const c_void) -> ReportReply;
     fn plain_send(r: *mut c_void, block: *mut u8) -> u8;
     fn plain_deliver(r: *mut c_void, bytes: *const u8, length: usize) -> u8;
-    fn plain_work(r: *mut c_void, block: *mut u8) -> WorkReply;
+    fn plain_work(r: *mut c_void) -> WorkReply;
+    fn plain_kept(r: *const c_void, slot: u32) -> *const u8;
     fn plain_load(r: *mut c_void, classes: *const u8, length: usize) -> u8;
     fn plain_values(r: *const c_void) -> *const i32;
     fn plain_fast_forward(r: *mut c_void, slots: u32, tickets: u32);
@@ -169,17 +170,21 @@ impl Replica {
         accepted(number, ())
     }
 
-    /// One step with the block at the turn, and the block that the journal is to get.
-    pub fn work(&mut self) -> Result<(Work, Option<[u8; BLOCK]>), u8> {
-        let mut block = [0; BLOCK];
-        let reply = unsafe { plain_work(self.here(), block.as_mut_ptr()) };
+    /// What the window has where the block of a slot would be.
+    pub fn kept(&self, slot: u32) -> &[u8; BLOCK] {
+        unsafe { &*plain_kept(self.there(), slot).cast() }
+    }
+
+    /// One step with the block at the turn, and whether the journal is to get the block of the slot that it left.
+    pub fn work(&mut self) -> Result<(Work, bool), u8> {
+        let reply = unsafe { plain_work(self.here()) };
         let work = Work {
             sender: reply.sender,
             ticket: reply.ticket,
             moved: reply.moved,
             aborted: reply.aborted[..usize::from(reply.count)].to_vec(),
         };
-        accepted(reply.number, (work, reply.append.then_some(block)))
+        accepted(reply.number, (work, reply.append))
     }
 
     /// Gives each item a class.

@@ -56,6 +56,15 @@ impl All {
         assert!(*self.rust.values() == values, "{call}: plain Rust's values");
         assert!(*self.c.values() == values, "{call}: plain C's values");
     }
+
+    /// Stops where windows differ.
+    fn same_windows(&self) {
+        let window = &self.both.model.window;
+        for (slot, block) in window.slots().zip(window.blocks()) {
+            assert!(self.rust.kept(slot) == block, "plain Rust's window");
+            assert!(self.c.kept(slot) == block, "plain C's window");
+        }
+    }
 }
 
 impl Subject for All {
@@ -119,6 +128,7 @@ impl Powered for All {
         assert_eq!(Ok(by_c), due, "plain C");
         (self.rust, self.c) = (rust, c);
         self.same("a restart");
+        self.same_windows();
         due
     }
 }
@@ -155,7 +165,8 @@ fn play_rust(r: &mut plain::Replica, call: &Call, journal: &mut Vec<u8>) -> Resu
         call,
         journal,
         r.work().map(|work| {
-            journal.extend(work.append.iter().flat_map(|block| **block));
+            let left = work.append.then(|| *r.kept(r.report().turn - 1));
+            journal.extend(left.into_iter().flatten());
             Answer::Work(Work {
                 sender: work.sender,
                 ticket: work.ticket,
@@ -172,7 +183,8 @@ fn play_c(r: &mut plain_c::Replica, call: &Call, journal: &mut Vec<u8>) -> Resul
         call,
         journal,
         r.work().map(|(work, append)| {
-            journal.extend(append.into_iter().flatten());
+            let left = append.then(|| *r.kept(r.report().turn - 1));
+            journal.extend(left.into_iter().flatten());
             Answer::Work(work)
         })
     )
@@ -201,6 +213,8 @@ fn run(seed: u64, style: Style, slots: u32, tickets: u32, seen: &mut Seen) {
             peers.feed(&call, &answer);
         }
     }
+    group.members.iter().for_each(All::same_windows);
+    singles.iter().for_each(All::same_windows);
     seen.add(&group.seen);
     peers.iter().for_each(|peers| seen.add(&peers.seen));
 }

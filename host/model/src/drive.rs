@@ -1,8 +1,9 @@
 //! For tests: replicas that are driven by hand or at random. Here whole groups under an observer; in
 //! `power` their cuts and restarts; in `stations` the stations beside them; in `service` the notices of
-//! a membership service, and in `waiting` and `progress` what document 02's Req 06 promises with them;
-//! in `peers` one replica or station among forged peers.
+//! a membership service, and in `waiting` and `progress` what document 02's Req 06 promises with them; in
+//! `givings` those of Req 11; in `peers` one replica or station among forged peers.
 
+mod givings;
 mod peers;
 mod power;
 mod progress;
@@ -19,6 +20,7 @@ use crate::replica::ITEMS;
 use crate::samples::{self, block_of, break_form, damage, Random};
 use crate::trace::{Answer, Call};
 
+pub use self::givings::{Gives, Givings};
 pub use self::peers::Peers;
 pub use self::power::{Machine, Powered};
 pub use self::tally::{Seen, Subject, Tally};
@@ -98,6 +100,10 @@ pub struct Group<S> {
     given: BTreeSet<(usize, u32)>,
     service: Service,
     waits: Waits,
+    /// Per replica its values when it came to its turn.
+    reached: Vec<[i32; ITEMS]>,
+    /// What the givings met, and what was wrong with them.
+    pub givings: Givings,
 }
 
 impl<S: Subject> Group<S> {
@@ -118,26 +124,42 @@ impl<S: Subject> Group<S> {
             given: BTreeSet::new(),
             service: Service::new(members.len()),
             waits: Waits::new(members.len()),
+            reached: members.iter().map(S::values).collect(),
+            givings: Givings::default(),
             members,
         }
     }
 
     /// One call at one member.
     pub fn call(&mut self, k: usize, call: &Call) -> Result<Answer, u8> {
+        let turn = self.tallies[k].report.turn;
         let answer = self.members[k].call(call);
-        self.observer.feed(k, call, &answer);
+        self.feed(k, call, &answer);
+        self.reach(k, turn);
+        answer
+    }
+
+    /// Takes in a call at a member and its answer.
+    fn feed(&mut self, k: usize, call: &Call, answer: &Result<Answer, u8>) {
+        self.observer.feed(k, call, answer);
         let n = self.replicas as u32;
-        self.seen.feed(n, &self.tallies[k], call, &answer);
+        self.seen.feed(n, &self.tallies[k], call, answer);
         let before = (self.tallies[k].report.turn, self.tallies[k].is_out(n));
-        self.tallies[k].feed(call, &answer);
+        self.tallies[k].feed(call, answer);
         self.waits
-            .feed(n, k, before, call, &answer, &self.tallies[k]);
-        self.feed_delivery(k, call, &answer);
-        if let Ok(Answer::Block(block)) = &answer {
+            .feed(n, k, before, call, answer, &self.tallies[k]);
+        self.feed_delivery(k, call, answer);
+        if let Ok(Answer::Block(block)) = answer {
             let slot = block::header(block).slot;
             self.blocks.entry(slot).or_insert_with(|| block.clone());
         }
-        answer
+    }
+
+    /// Keeps the values of a replica that has just come from a turn to another.
+    fn reach(&mut self, k: usize, before: u32) {
+        if k < self.replicas && self.tallies[k].report.turn != before {
+            self.reached[k] = self.members[k].values();
+        }
     }
 
     /// One random call. Blocks arrive late, early, repeated, damaged, or not at all for a while.

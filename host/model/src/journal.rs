@@ -84,6 +84,22 @@ impl Journal {
         &self.bytes
     }
 
+    /// The blocks of the slots that the turn has left.
+    pub fn left(&self) -> &[[u8; BLOCK]] {
+        let (blocks, _) = self.bytes.as_chunks();
+        &blocks[..self.turn() as usize]
+    }
+
+    /// The accepted block of a slot that the turn has not left.
+    pub fn waiting(&self, slot: u32) -> Option<&[u8; BLOCK]> {
+        self.waiting.get(&slot).map(|block| &**block)
+    }
+
+    /// The writesets committed of the turn's block.
+    pub fn done(&self) -> usize {
+        self.done
+    }
+
     /// The bytes that a cut leaves at least: those that were there when the last own block was handed
     /// out, be it by a send or by a restart, when the last notice was taken, and when the last out slot
     /// was passed.

@@ -1,6 +1,7 @@
 //! An observer of a whole group: document 01's sheet ("The sheet beside the group"), with the restarts
 //! of document 02, Req 01, and the stations of Req 05. The loads of Req 02 and the notices of Req 10
-//! change nothing on it; of the notices taken the premise speaks.
+//! change nothing on it; of the notices taken the premise speaks. Each deliver and work of a giving (Req
+//! 11) is fed as a call of its own.
 //!
 //! It is fed member, call and answer of each call and nothing else, a member being a replica or a
 //! station, and says which sentences of document 01's demand 3 the group breaks, and which answers a
@@ -18,6 +19,7 @@ use crate::journal::Journal;
 use crate::refusal::STALE;
 use crate::replica::{Work, ITEMS};
 use crate::trace::{Answer, Call};
+use crate::window::{Window, WINDOW};
 
 use self::notices::Standing;
 
@@ -161,6 +163,19 @@ impl Observer {
             | (Call::Report, Answer::Report(_)) => {}
             _ => panic!("{answer:?} is no answer to {call:?}"),
         }
+    }
+
+    /// The turn of a member, by the calls so far.
+    pub fn turn(&self, member: usize) -> u32 {
+        self.standings[member].turn
+    }
+
+    /// What a replica's window is to have: the last blocks of its journal that its turn has left.
+    pub fn window(&self, replica: usize) -> Window {
+        let left = self.journals[replica].left();
+        let last = &left[left.len().saturating_sub(WINDOW)..];
+        let first = self.turn(replica).saturating_sub(last.len() as u32);
+        Window::of(first, last.iter().copied())
     }
 
     /// Whether every accepted block was handed out before, every restart was lent what a cut can leave,

@@ -1,5 +1,5 @@
 //! The numbers that refuse a call: document 01's table ("Answers when a call is turned away"), and 23,
-//! 25, 28 and 29 of document 02. Those of [`crate::week`] are there.
+//! 25 and 28 to 31 of document 02. Those of [`crate::week`] are there.
 
 pub use crate::block::{WRONG_CHECK, WRONG_FORM, WRONG_LENGTH};
 
@@ -50,3 +50,7 @@ pub const STATION_ONLY_READS: u8 = 25;
 pub const NOTICE_REFUSED: u8 = 28;
 /// The slot is out: nothing is sent or delivered for it.
 pub const SLOT_OUT: u8 = 29;
+/// No other replica is up, that could give what was missed.
+pub const NOBODY_UP: u8 = 30;
+/// The giver's window lacks a block for a slot that is to be given.
+pub const NOT_IN_WINDOW: u8 = 31;

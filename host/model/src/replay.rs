@@ -24,19 +24,24 @@
 //! | `P k hex` | load: these bytes as the classes of the items | `0` |
 //! | `O k r s` | the notice Out r from s | `0` |
 //! | `U k r s` | the notice Back r at s | `0` |
+//! | `G k t0 t1 ..` | a giving, told these turns, one for each replica | `0 giver count`, then that many aborted tickets |
 //!
-//! The journal of a place holds what was appended there: by `S` its block, by `K` that of another
-//! whose slot it left, or the *next* of a slot that it passed as out; after an accepted `M` it is empty, after an accepted `Z` or `Y` it is the c
-//! blocks. It has room for 128 blocks. One more is not kept, and the journal is *outgrown* then until
-//! the next accepted `M` or `Y`.
+//! The journal of a place holds what was appended there: by `S` its block, by `K` and the works of `G`
+//! that of another whose slot it left, or the *next* of a slot that it passed as out; after an accepted
+//! `M` it is empty, after an accepted `Z` or `Y` it is the c blocks. It has room for 128 blocks. One more
+//! is not kept, and the journal is *outgrown* then until the next accepted `M` or `Y`.
 //!
 //! `Z` is lent the notices (document 02, Req 10) that were taken at the place, in order, of which 32 are
 //! kept; `Y` is lent none.
 //!
+//! `G` (document 02, Req 11) is lent the window of the giver that the turns name: the replica with number
+//! g stands at place g. 4294967295 is told of one that is down.
+//!
 //! A station (document 02, Req 05) has no number of its own, and no journal: `W` and `S` are refused
 //! there by 25, whatever their numbers are.
 //!
-//! A refused call prints its number instead. These print `?` and change nothing:
+//! A refused call prints its number instead; but behind 31 `G` names the giver, and where a deliver was
+//! refused all that it prints behind 0. These print `?` and change nothing:
 //!
 //! - A line that is none of the above, be it empty or of any length. Letters are capital. Fields are
 //!   what single spaces separate, so two spaces in a row, or one at an end, make an empty field. A
@@ -54,7 +59,8 @@
 //!   Blocks that a restart gives back are not counted.
 //! - `Z` of more bytes than the journal has, `J` of a block that it has not, and both where it is
 //!   outgrown; `Z` where more than 32 notices were taken since the last accepted `M` or `Y`.
-//! - `Z`, `J` and `P` at a station.
+//! - `Z`, `J`, `P` and `G` at a station; `G` with another number of turns than the place has replicas, and
+//!   where the giver's place is not a replica that is made.
 
 mod lines;
 pub(crate) mod parse;
@@ -66,11 +72,14 @@ use std::io::{self, BufRead, Write};
 use self::parse::Line;
 use self::place::Place;
 use crate::block::BLOCK;
+use crate::giving::{self, Given};
 use crate::notice::Notice;
+use crate::refusal::{NOBODY_UP, NOT_IN_WINDOW};
 use crate::replica::Replica;
 use crate::trace::{Answer, Call};
+use crate::window::Window;
 
-pub use self::lines::line;
+pub use self::lines::{giving_line, line};
 pub use self::place::{JOURNAL, NOTICES};
 
 /// The places for replicas and stations.
@@ -163,6 +172,7 @@ impl Replay {
                 let block = self.places[place].as_ref()?.block(i as usize)?;
                 return Some(Ok(accepted(&[hex(block)])));
             }
+            Line::Give { turns } => return self.give(place, &turns).map(Ok),
             Line::Values => return Some(Ok(accepted(self.replica(place)?.values()))),
             Line::Call(call) => call,
             Line::Deliver { i, bit } => {
@@ -186,6 +196,21 @@ impl Replay {
             self.sent += 1;
         }
         Some(answer.map(|answer| show(&answer)))
+    }
+
+    /// A giving at a place, and what that prints.
+    fn give(&mut self, place: usize, turns: &[u32]) -> Option<String> {
+        let window = match self.replica(place)?.giver(turns) {
+            Ok(giver) => {
+                let giver = self.replica(giver.into())?;
+                (!giver.is_station()).then(|| giver.window.clone())?
+            }
+            // It is not looked at.
+            Err(NOBODY_UP) => Window::empty(0),
+            Err(_) => return None,
+        };
+        let returner = self.places[place].as_mut()?;
+        Some(show_given(&giving::give(returner, turns, &window)))
     }
 
     /// Puts what is just made at a place, and gives what that prints.
@@ -235,6 +260,18 @@ pub fn show(answer: &Answer) -> String {
             accepted(&numbers)
         }
     }
+}
+
+/// What a giving answers as it is printed.
+pub fn show_given(given: &Given) -> String {
+    let mut fields = vec![u32::from(given.number)];
+    fields.extend(given.giver.map(u32::from));
+    if ![NOBODY_UP, NOT_IN_WINDOW].contains(&given.number) {
+        fields.push(given.aborted.len() as u32);
+        fields.extend(&given.aborted);
+    }
+    let fields: Vec<String> = fields.iter().map(u32::to_string).collect();
+    fields.join(" ")
 }
 
 /// 0 and what follows it, separated by spaces.

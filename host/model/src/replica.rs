@@ -1,6 +1,7 @@
 //! A replica and its calls: [`Replica::make`], [`Replica::restart`] from a journal, and the eleven that
 //! a made replica takes, the client's in `client`, those that move the turn in `turn`, the load of
-//! conflict classes in `classes`, and the notices of a membership service in `notices`.
+//! conflict classes in `classes`, and the notices of a membership service in `notices`. How it is given
+//! what it missed is in [`crate::giving`].
 //!
 //! A [`Replica::station`] (document 02, Req 05) takes the same calls without a number of its own, so
 //! that every sender is another to it: write and send are refused there before all else, and it is
@@ -21,6 +22,7 @@ use std::collections::BTreeMap;
 use crate::block::{Message, BLOCK, MAX_SLOT, RECORDS};
 use crate::notice::Notice;
 use crate::refusal::{OUT_OF_RANGE, WRONG_LENGTH};
+use crate::window::Window;
 
 pub use self::restart::Restarted;
 
@@ -54,6 +56,8 @@ pub struct Replica {
     pub inbox: Vec<Option<Message>>,
     /// The notices taken, in order. None is ever forgotten.
     pub notices: Vec<Notice>,
+    /// The blocks of the last slots that the turn has left. A station has them too, and is not asked.
+    pub window: Window,
     /// The writesets of the turn's message that are committed.
     pub done: usize,
     /// Whether a message of another replica is committed in part (document 01's applying mark).
@@ -161,6 +165,7 @@ impl Replica {
             outbox: None,
             inbox: vec![None; n as usize],
             notices: Vec::new(),
+            window: Window::empty(0),
             done: 0,
             applying: false,
             open: Vec::with_capacity(OPEN),
@@ -195,10 +200,11 @@ impl Replica {
     }
 
     /// For tests: a replica just made, as it would be after so many slots, all without records, and
-    /// so many transactions, all withdrawn.
+    /// so many transactions, all withdrawn; but with nothing in its window, as nothing is in its journal.
     #[doc(hidden)]
     pub fn fast_forward(mut self, slots: u32, tickets: u32) -> Replica {
         self.turn += slots;
+        self.window = Window::empty(self.turn);
         self.tickets += tickets;
         self.withdrawn += tickets;
         self

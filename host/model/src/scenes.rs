@@ -13,14 +13,14 @@ mod words;
 use std::fs;
 use std::path::{Path, PathBuf};
 
-use crate::drive::{Machine, Powered};
+use crate::drive::{Gives, Machine, Powered};
 use crate::replica::{Replica, ITEMS};
 
 /// What refuses a call, in words, by its number.
 pub type Words = fn(u8) -> &'static str;
 
 /// A replica with its disk, or a station, that scenes are played at.
-pub trait Player: Powered {
+pub trait Player: Powered + Gives {
     /// Of one just made: as it is after so many slots without records, and so many transactions
     /// withdrawn.
     fn late(&mut self, slots: u32, tickets: u32);

@@ -3,6 +3,7 @@
 
 mod cases;
 mod classes;
+mod givings;
 mod malformed;
 mod notices;
 mod random;
@@ -20,10 +21,30 @@ use crate::replica::Replica;
 /// The list. Its last line has no line feed.
 pub fn calls() -> Vec<u8> {
     let mut list = List::default();
-    without_notices(&mut list);
-    notices::all(&mut list);
-    recorded::all(&mut list);
+    without_givings(&mut list);
+    givings::all(&mut list);
+    recorded::with_givings(&mut list);
     list.lines()
+}
+
+/// The worked lists of document 02's Req 11 alone, as a list.
+pub fn worked_givings() -> Vec<u8> {
+    let mut list = List::default();
+    worked::play(&mut list, &givings::worked::LISTS);
+    list.lines()
+}
+
+/// The list up to the first giving.
+pub fn calls_without_givings() -> Vec<u8> {
+    let mut list = List::default();
+    without_givings(&mut list);
+    list.lines()
+}
+
+fn without_givings(list: &mut List) {
+    without_notices(list);
+    notices::all(list);
+    recorded::all(list);
 }
 
 /// The worked lists of document 02's Req 10 alone, as a list.

@@ -84,6 +84,14 @@ fn stored_notices() {
     check("examples/notices.out", &output(&input));
 }
 
+/// Those of Req 11 (`workload::givings`).
+#[test]
+fn stored_givings() {
+    let input = workload::worked_givings();
+    check("examples/givings.calls", &input);
+    check("examples/givings.out", &output(&input));
+}
+
 /// What the answers of a list amount to.
 #[derive(Debug, Default)]
 struct Totals {
@@ -108,6 +116,8 @@ struct Totals {
     stations: usize,
     /// Notices taken.
     notices: usize,
+    /// Givings that went through.
+    givings: usize,
 }
 
 fn totals(input: &[u8], output: &[u8]) -> Totals {
@@ -146,6 +156,7 @@ fn totals(input: &[u8], output: &[u8]) -> Totals {
                 totals.given_back += usize::from(!answer[2].starts_with("00"));
             }
             "O" | "U" => totals.notices += 1,
+            "G" => totals.givings += 1,
             "S" => totals.sent += usize::from_str_radix(&answer[1][6..8], 16).unwrap(),
             "K" => {
                 totals.committed += usize::from(answer[2] != "0");
@@ -170,17 +181,23 @@ fn totals_of_the_list() {
         lines(&output),
         "one answer for each line"
     );
-    let before = workload::calls_without_notices();
-    assert!(before.starts_with(&workload::calls_without_restarts()) && input.starts_with(&before));
-    let notice = |line: &[u8]| line.starts_with(b"O ") || line.starts_with(b"U ");
-    assert!(!before.split(|&byte| byte == b'\n').any(notice));
+    let is_of = |line: &[u8], letters: &[u8]| matches!(line, [letter, b' ', ..] if letters.contains(letter));
+    let has = |list: &[u8], letters: &[u8]| {
+        let mut lines = list.split(|&byte| byte == b'\n');
+        lines.any(|line| is_of(line, letters))
+    };
+    let before = workload::calls_without_givings();
+    assert!(input.starts_with(&before) && !has(&before, b"G"));
+    let earlier = workload::calls_without_notices();
+    assert!(before.starts_with(&earlier) && !has(&earlier, b"OU"));
+    assert!(earlier.starts_with(&workload::calls_without_restarts()));
 
     let totals = totals(&input, &output);
     println!("{totals:?}");
     assert!(totals.calls >= 20_000, "{totals:?}");
     assert!(totals.rejected > 300, "{totals:?}");
     // Slots are not spent in a list of this length, and there is no 22 and no 24; 26 and 27 are of weeks.
-    let due: Vec<u32> = (1..30)
+    let due: Vec<u32> = (1..32)
         .filter(|n| ![13, 22, 24, 26, 27].contains(n))
         .collect();
     assert!(totals.refused.keys().eq(&due), "{totals:?}");
@@ -188,6 +205,11 @@ fn totals_of_the_list() {
     assert!(totals.given_back > 150, "{totals:?}");
     assert!(totals.stations > 20, "{totals:?}");
     assert!(totals.notices > 300, "{totals:?}");
+    assert!(totals.givings > 300, "{totals:?}");
+    assert!(
+        totals.refused[&30] > 50 && totals.refused[&31] > 200,
+        "{totals:?}"
+    );
     assert!(
         totals.refused[&28] > 200 && totals.refused[&29] > 50,
         "{totals:?}"

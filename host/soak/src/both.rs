@@ -1,7 +1,10 @@
 //! A replica or station of the library and one of the model that get the same calls. After each call the
 //! answers are compared, what is appended to the journal, and all memory that the interface shows.
 
+mod giving;
 mod station;
+
+use std::io::Write;
 
 use model::block::{self, BLOCK};
 use model::drive::{Powered, Subject};
@@ -10,9 +13,11 @@ use model::notice::{self, Kind};
 use model::replica::{self as second, Restarted, Stage, ITEMS};
 use model::trace::{Answer, Call, Restart};
 use stemline::{
-    Asked, Memory, Notice, Refusal, Replica, Report, Station, Work, NO_NUMBER, REPLICAS, SLOTS,
+    Asked, Memory, Notice, Recorder, Refusal, Replica, Report, Station, Work, NO_NUMBER, REPLICAS,
+    SLOTS,
 };
 
+pub use self::giving::{answered, append, lent, Journaled};
 pub use self::station::stepped;
 use crate::lines::Named;
 
@@ -212,7 +217,7 @@ macro_rules! played {
             }),
             Call::Deliver { ref bytes } => $replica.deliver(bytes).map(|()| Answer::Done),
             Call::Work => $replica.work().map(|work| {
-                $journal.extend(work.append().into_iter().flatten());
+                $journal.extend($crate::both::left(&work, &*$replica));
                 Answer::Work(worked(&work))
             }),
             Call::Load { ref classes } => $replica.load(classes).map(|()| Answer::Done),
@@ -220,6 +225,33 @@ macro_rules! played {
         };
         played.map_err(Refusal::number)
     }};
+}
+
+/// What shows a replica's memory.
+pub trait Shows {
+    /// All that it holds.
+    fn shown(&self) -> &Memory;
+}
+
+impl Shows for Replica {
+    fn shown(&self) -> &Memory {
+        self.memory()
+    }
+}
+
+impl<C: Write, A: Write> Shows for Recorder<C, A> {
+    fn shown(&self) -> &Memory {
+        self.replica().memory()
+    }
+}
+
+/// What the journal is to get behind a work: the window's block of the slot that the turn left, if it says so.
+pub fn left(work: &Work, replica: &impl Shows) -> Vec<u8> {
+    let memory = replica.shown();
+    let slot = memory.turn.slot.wrapping_sub(1);
+    let block = memory.window.block(slot).filter(|_| work.append);
+    assert_eq!(block.is_some(), work.append, "slot {slot}: no block");
+    block.map_or(Vec::new(), |block| block.to_vec())
 }
 
 /// A notice at a replica, or at what takes them.
@@ -297,6 +329,7 @@ pub fn same(model: &second::Replica, memory: &Memory) {
     assert!(behind.iter().all(|&ticket| ticket == 0), "behind the queue");
     same_rows(model, memory);
     same_places(model, memory);
+    same_window(model, memory);
 }
 
 /// The last outage of each replica: what the model's notices put out from the turn on.
@@ -345,4 +378,18 @@ fn same_places(model: &second::Replica, memory: &Memory) {
             Some(message) => assert!(*place == block::encode(message), "a place"),
         }
     }
+}
+
+/// The window has the model's blocks, and zeros where there is none.
+fn same_window(model: &second::Replica, memory: &Memory) {
+    let mut blocks = model.window.slots().zip(model.window.blocks());
+    let same = |(slot, block)| memory.window.block(slot) == Some(block);
+    assert!(blocks.all(same), "the window");
+    let (places, _) = memory.window.bytes().as_chunks::<BLOCK>();
+    let empty = places.iter().filter(|place| place[0] == 0);
+    assert_eq!(empty.clone().count(), 64 - model.window.blocks().len());
+    assert!(
+        empty.flatten().all(|&byte| byte == 0),
+        "an empty place of the window"
+    );
 }

@@ -7,7 +7,9 @@
 //! call of the list. The power stays on; so that blocks are lost that were not durable, the journals are
 //! cut between the runs, at any byte that a cut can leave.
 //!
-//! A membership service says now and then that a replica is out, and later that it is back.
+//! A membership service says now and then that a replica is out, and later that it is back. Meanwhile it does
+//! little, and is given what it missed then. A giving is many calls: they are logged before it begins, and where a
+//! kill comes in its middle, those count whose blocks are there.
 //!
 //! A station that nobody kills is fed between the runs from what of a journal is durable, takes the notices too,
 //! and is where the group is at the end.
@@ -72,10 +74,11 @@ impl Crash {
         self.run_and_kill(program);
         self.log.after_kill();
         for k in 0..N {
-            if self.random.below(2) == 0 {
+            if self.random.below(2) == 0 || self.log.is_giving(k) {
                 self.cut(k);
             }
         }
+        self.log.take_in_giving();
         let k = self.random.below(N);
         let bytes = studio::lent(&journal(&self.room, k));
         let durable = self.log.observer.journal(k).floor();
@@ -128,9 +131,11 @@ impl Crash {
         assert!(ended.is_none(), "it ended by itself: {}", said());
     }
 
-    /// Cuts a journal, at a byte at or above the floor.
+    /// Cuts a journal, at a byte at or above the floor. Of a giving in whose middle the kill came that is what has a
+    /// copy, and what is behind is not durable, so that no slot that is out is passed there.
     fn cut(&mut self, k: usize) {
-        let file = OpenOptions::new().write(true).open(journal(&self.room, k));
+        let path = journal(&self.room, k);
+        let file = OpenOptions::new().write(true).open(&path);
         let Ok(file) = file else {
             return;
         };
@@ -141,6 +146,17 @@ impl Crash {
             return;
         };
         assert!(floor <= length, "journal {k}: {length} bytes of {floor}");
+        let (mut floor, mut length) = (floor, length);
+        if self.log.is_giving(k) {
+            floor = floor
+                .max(BLOCK * studio::copied(&path) as usize)
+                .min(length);
+            let notices = self.log.observer.notices(k);
+            let is_out = |slot: &u32| notice::puts_out(notices, N as u32, *slot);
+            let slots = floor.div_ceil(BLOCK) as u32..(length / BLOCK) as u32;
+            let passed = slots.into_iter().find(is_out);
+            length = passed.map_or(length, |slot| BLOCK * slot as usize);
+        }
         let left = floor + self.random.below(length - floor + 1);
         file.set_len((HEAD + left) as u64).unwrap();
     }

@@ -7,7 +7,7 @@ use std::process::{exit, Command, ExitCode};
 use std::time::{Duration, Instant};
 use std::{env, fs};
 
-use model::drive::Seen;
+use model::drive::{Givings, Seen};
 use soak::crash::{program, Crash, Met};
 use soak::lines::grouped;
 use soak::plan::{Done, Plan, Step, Steps};
@@ -31,16 +31,20 @@ With no option, 1,000,000 calls and 40 kills. The status is 0 where all was the 
 /// Between two lines of progress.
 const PAUSE: Duration = Duration::from_secs(10);
 
-/// The steps at the library, and the folder of the killed group.
+/// The steps at the library, the folder of the killed group, and the givings compared.
 struct Soak {
     room: PathBuf,
     crash: Option<Crash>,
+    givings: Givings,
 }
 
 impl Steps for Soak {
     fn run(&mut self, seed: u64) -> Seen {
         let mut seen = runs::run(seed);
         seen.add(&runs::run_with_cuts(seed));
+        let (with_givings, givings) = runs::run_with_givings(seed);
+        seen.add(&with_givings);
+        self.givings.add(&givings);
         seen
     }
 
@@ -88,7 +92,7 @@ fn complain(words: impl Display) {
     let _ = writeln!(io::stderr(), "soak: {words}");
 }
 
-fn summary(done: &Done, room: &Path) {
+fn summary(done: &Done, givings: &Givings, room: &Path) {
     // What a loss left is to be looked at.
     let room = done.difference.is_none().then_some(room);
     let say = |line: String| say(room, line);
@@ -98,6 +102,7 @@ fn summary(done: &Done, room: &Path) {
         say(format!(
             "soak: compared: {restarts} restarts besides; calls refused, by number: {refused}"
         ));
+        say(format!("soak: compared: givings: {}", runs::given(givings)));
     }
     if done.kills > 0 {
         let end = done.difference.map_or("; nothing lost", |_| "");
@@ -132,7 +137,11 @@ fn main() -> ExitCode {
             return ExitCode::from(2);
         }
     };
-    let mut soak = Soak { room, crash: None };
+    let mut soak = Soak {
+        room,
+        crash: None,
+        givings: Givings::default(),
+    };
     let mut said = Instant::now();
     let folder = soak.room.clone();
     let done = plan.go(&mut soak, |done| {
@@ -144,7 +153,7 @@ fn main() -> ExitCode {
     if let Some(step) = done.difference {
         complain(again(step, &soak.room));
     }
-    summary(&done, &soak.room);
+    summary(&done, &soak.givings, &soak.room);
     match done.difference {
         None => ExitCode::SUCCESS,
         Some(_) => ExitCode::FAILURE,

@@ -3,7 +3,7 @@
 //! every call.
 
 use model::block::MAX_TICKET;
-use model::drive::{start_values, Group, Peers, Powered, Seen, Style, Subject, STYLES};
+use model::drive::{start_values, Givings, Group, Peers, Powered, Seen, Style, Subject, STYLES};
 use model::replica::SLOTS;
 use model::samples::Random;
 
@@ -151,6 +151,37 @@ pub fn run_with_cuts(seed: u64) -> Seen {
     seen
 }
 
+/// A group whose members are closed and come back, lose power, also in the middle of a giving, and are given what
+/// they missed. Each giving is what document 02 says, and each window has the last blocks of its journal.
+pub fn run_with_givings(seed: u64) -> (Seen, Givings) {
+    let n = 2 + seed as u32 % 5;
+    let style = STYLES[seed as usize / 5 % 4].with_notices([0, 6, 6][seed as usize % 3]);
+    let mut group = group(seed / 5, n, style, (0, 0));
+    let mut random = Random::new(seed);
+    let (holidays, cuts) = (seed.is_multiple_of(2), seed / 2 % 2 == 1);
+    for _ in 0..CALLS_WITH_CUTS {
+        match random.below(600) {
+            0 => drop(group.round(true)),
+            1..20 => group.random_giving(&mut random),
+            20..22 if holidays => {
+                let slots = random.pick(&[1, 20, 60, 63, 64, 65, 70]);
+                group.holiday(random.below(n as usize), slots);
+                group.random_giving(&mut random);
+            }
+            22..32 if cuts => {
+                if random.below(2) == 0 || !group.random_cut_giving(&mut random) {
+                    group.random_cut(&mut random);
+                }
+            }
+            _ => random_call(&mut group, n, (0, 0), &mut random),
+        }
+    }
+    let seen = at_rest(&mut group, &mut random);
+    assert_eq!(group.givings.broken(), [""; 0]);
+    assert_eq!(group.wrong_windows(), [""; 0]);
+    (seen, group.givings)
+}
+
 /// The refusal numbers: there is no 22 any more, and no 24; 26 and 27 are the program `week`'s.
 pub const NUMBERS: [usize; 25] = [
     1, 2, 3, 4, 5, 6, 7, 8, 9, 10, 11, 12, 13, 14, 15, 16, 17, 18, 19, 20, 21, 23, 25, 28, 29,
@@ -166,5 +197,16 @@ pub fn refused(seen: &Seen) -> String {
         "{}; blocks of the group refused by 18 at stations: {far}, of which {again} were taken later; notices taken: \
          {notices}, slots passed as out: {passed}",
         counts.join("; ")
+    )
+}
+
+/// How givings ended.
+pub fn given(givings: &Givings) -> String {
+    let [given, nothing, promised] =
+        [givings.given, givings.nothing, givings.promised].map(grouped);
+    let [nobody, lacking, cut] = [givings.nobody_up, givings.lacking, givings.cut].map(grouped);
+    format!(
+        "{given} went through, {nothing} gave nothing, of {promised} it is promised where they lead; refused by 30: \
+         {nobody}, by 31: {lacking}; {cut} cut in the middle"
     )
 }

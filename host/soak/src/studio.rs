@@ -4,13 +4,15 @@ use std::fs;
 use std::path::{Path, PathBuf};
 
 use model::block::BLOCK;
-use model::drive::{start_values, Powered, Subject};
+use model::drive::{start_values, Gives, Powered, Subject};
+use model::giving::{self, Given};
 use model::journal;
 use model::replica::{self as second, Report, Restarted, ITEMS};
 use model::trace::{Answer, Call, Restart};
+use model::window::Window;
 use stemline::{notices_path, Asked, Block, Durable, Failure, Head, Notice, Replica, HEAD};
 
-use crate::both::{report, same, told, worked};
+use crate::both::{self, answered, report, same, told, worked, Journaled};
 use crate::lines::Named;
 use crate::noticed;
 
@@ -49,6 +51,19 @@ pub fn lent(path: &Path) -> Vec<u8> {
         }
     }
     blocks
+}
+
+/// The slot behind those of which the head of a file has copies: what is there before is durable.
+pub fn copied(path: &Path) -> u32 {
+    let file = fs::read(path).unwrap_or_default();
+    let Ok(head) = Head::read(&file) else {
+        return 0;
+    };
+    let copies = head.copies(&file[..HEAD]);
+    let ends = copies
+        .iter()
+        .filter_map(|copy| Some(copy.last()?.slot() + 1));
+    ends.max().unwrap_or(0)
 }
 
 /// The notices beside a file, as the model has them; none where there is no file, or no notice yet.
@@ -176,6 +191,35 @@ impl Subject for Studio {
 
     fn values(&self) -> [i32; ITEMS] {
         *self.durable().values()
+    }
+}
+
+impl Gives for Studio {
+    fn window(&self) -> Window {
+        assert!(*self.durable().window() == both::lent(&self.model.window));
+        self.model.window.clone()
+    }
+
+    fn give(&mut self, turns: &[u32], window: &Window) -> Given {
+        let durable = self.durable.as_mut().expect("it is open");
+        let giver = durable.giver(turns);
+        let given = durable.give(turns, &both::lent(window));
+        let given =
+            given.map_err(|failure| failure.refusal().unwrap_or_else(|| panic!("{failure}")));
+        let mut returner = Journaled {
+            replica: &mut self.model,
+            disk: &mut self.disk,
+            floor: &mut self.floor,
+        };
+        let due = giving::give(&mut returner, turns, window);
+        let due_answer = (due.number, due.giver, due.aborted.clone());
+        assert_eq!(
+            answered(giver, given),
+            due_answer,
+            "a giving, told {turns:?}"
+        );
+        self.check_file();
+        due
     }
 }
 

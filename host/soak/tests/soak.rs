@@ -25,7 +25,7 @@ fn a_short_one() {
     let ran = soak(&["--calls", "20000", "--kills", "2", "--seed", "21"]);
     assert_eq!((ran.status.code(), text(&ran.stderr)), (Some(0), ""));
     let said: Vec<&str> = text(&ran.stdout).lines().collect();
-    assert_eq!(said.len(), 3, "{said:?}");
+    assert_eq!(said.len(), 4, "{said:?}");
     let calls = said[0]
         .strip_prefix("soak: ")
         .and_then(|line| line.split_once(" calls, "));
@@ -37,8 +37,9 @@ fn a_short_one() {
         "{said:?}"
     );
     assert!(said[1].starts_with("soak: compared: "), "{said:?}");
-    assert!(said[2].starts_with("soak: killed: "), "{said:?}");
-    assert!(said[2].ends_with("; nothing lost"), "{said:?}");
+    assert!(said[2].starts_with("soak: compared: givings: "), "{said:?}");
+    assert!(said[3].starts_with("soak: killed: "), "{said:?}");
+    assert!(said[3].ends_with("; nothing lost"), "{said:?}");
 }
 
 /// A status of 2, and one line in words.

@@ -1,6 +1,6 @@
 //! What the calls of a replica give where they are accepted.
 
-use crate::ffi::WorkReply;
+use crate::ffi::{GiveReply, WorkReply};
 use crate::{accepted, Refusal, BLOCK, TABLE};
 
 /// What became of a transaction that asked for commit.
@@ -13,7 +13,7 @@ pub enum Asked {
 }
 
 /// What one [`crate::Replica::work`] did.
-#[derive(Clone, Debug, PartialEq, Eq)]
+#[derive(Clone, Copy, Debug, PartialEq, Eq)]
 pub struct Work {
     /// The replica whose block stands at the turn, or whose slot is out.
     pub sender: u8,
@@ -21,22 +21,25 @@ pub struct Work {
     pub ticket: u32,
     /// Whether the turn went up.
     pub moved: bool,
-    pub(crate) aborted: [u32; TABLE],
-    pub(crate) count: u8,
-    pub(crate) append: Option<Box<[u8; BLOCK]>>,
+    /// Whether the journal is to get the block of the slot that the turn left, which is in
+    /// [`crate::Replica::window`]: another's, or the *next* of a slot that is out, be it an own one, which is
+    /// durable before anything goes on. An own block stands in the journal since its send.
+    pub append: bool,
+    aborted: [u32; TABLE],
+    count: u8,
 }
 
 impl Work {
-    /// Of a reply, and the block that was lent for it.
+    /// Of a reply.
     #[inline]
-    pub(crate) fn of(reply: &WorkReply, block: &[u8; BLOCK]) -> Result<Work, Refusal> {
+    pub(crate) fn of(reply: &WorkReply) -> Result<Work, Refusal> {
         let work = Work {
             sender: reply.sender,
             ticket: reply.ticket,
             moved: reply.moved,
+            append: reply.append,
             aborted: reply.aborted,
             count: reply.count,
-            append: reply.append.then(|| Box::new(*block)),
         };
         accepted(reply.number, work)
     }
@@ -45,12 +48,39 @@ impl Work {
     pub fn aborted(&self) -> &[u32] {
         &self.aborted[..TABLE.min(usize::from(self.count))]
     }
+}
 
-    /// The block that the journal is to get now: another's, whose slot the turn left, or the *next* of a slot
-    /// that is out, be it an own one, which is durable before anything goes on. An own block stands there
-    /// since its send.
-    pub fn append(&self) -> Option<&[u8; BLOCK]> {
-        self.append.as_deref()
+/// What one [`crate::Replica::give`] did.
+#[must_use = "a deliver may have ended it"]
+#[derive(Clone, Copy, Debug, PartialEq, Eq)]
+pub struct Given {
+    /// The replica that gave.
+    pub giver: u8,
+    /// Why a deliver of it was refused, which ended it: what went before stands. `None` where all went through.
+    pub ended: Option<Refusal>,
+    aborted: [u32; TABLE],
+    count: u8,
+}
+
+impl Given {
+    /// Of a reply. Where the giving itself is refused, nothing was delivered.
+    pub(crate) fn of(reply: &GiveReply) -> Result<Given, Refusal> {
+        let ended = Refusal::from_number(reply.number);
+        let given = Given {
+            giver: reply.giver,
+            ended,
+            aborted: reply.aborted,
+            count: reply.count,
+        };
+        match ended {
+            Some(refusal) if refusal.is_turned_away() => Err(refusal),
+            _ => Ok(given),
+        }
+    }
+
+    /// The own transactions aborted, rising.
+    pub fn aborted(&self) -> &[u32] {
+        &self.aborted[..TABLE.min(usize::from(self.count))]
     }
 }
 
@@ -77,7 +107,7 @@ pub struct Step {
 }
 
 impl Step {
-    /// Of a reply at a station. The block that was lent for it is no matter there.
+    /// Of a reply at a station, which has no journal.
     #[inline]
     pub(crate) fn of(reply: &WorkReply) -> Result<Step, Refusal> {
         let step = Step {

@@ -2,7 +2,7 @@
 
 use std::io::Write;
 
-use crate::{Asked, Recorder, Refusal, Replica, Taken, Work, BLOCK};
+use crate::{Asked, Given, Recorder, Refusal, Replica, Taken, Window, Work, BLOCK};
 
 /// A replica whose journal a [`crate::Durable`] keeps: a [`Replica`], or a [`Recorder`]. The calls are those
 /// of [`Replica`]; nobody else can implement it.
@@ -31,6 +31,10 @@ pub trait Calls: sealed::Sealed {
     fn back(&mut self, replica: u32, slot: u32) -> Result<(), Refusal>;
     /// As [`Replica::take`].
     fn take(&mut self, bytes: &[u8]) -> Result<Taken, Refusal>;
+    /// As [`Replica::take_slot`].
+    fn take_slot(&mut self, bytes: &[u8]) -> Result<Taken, Refusal>;
+    /// As [`Replica::give`].
+    fn give(&mut self, turns: &[u32], window: &Window) -> Result<Given, Refusal>;
 }
 
 mod sealed {
@@ -91,6 +95,14 @@ macro_rules! calls {
 
             fn take(&mut self, bytes: &[u8]) -> Result<Taken, Refusal> {
                 $type::take(self, bytes)
+            }
+
+            fn take_slot(&mut self, bytes: &[u8]) -> Result<Taken, Refusal> {
+                $type::take_slot(self, bytes)
+            }
+
+            fn give(&mut self, turns: &[u32], window: &Window) -> Result<Given, Refusal> {
+                $type::give(self, turns, window)
             }
         }
     };

@@ -1,5 +1,7 @@
 //! A replica whose blocks stand in a journal, so that it can be opened again after a cut of the power.
 
+mod giving;
+
 use std::io::{self, Write};
 use std::path::Path;
 
@@ -14,7 +16,8 @@ use crate::{
 /// One replica of a group with its journal in a file.
 ///
 /// Nothing is handed out that was not made durable. A send gives its block once that is durable; a work
-/// appends the block that it leaves, which is durable with the next send. What is journaled is also durable
+/// appends the block of the slot that it leaves, which is durable with the next send; a giving appends those of
+/// all the slots that it leaves, before it answers. What is journaled is also durable
 /// when a notice is taken, and when a slot that is out is passed; the notices stand in a file beside the
 /// journal ([`crate::notices_path`]). Where the disk fails, a call
 /// gives an error and no block, what was appended since the last good sync is cut off again, and no call
@@ -330,29 +333,37 @@ impl<R: Calls> Durable<R> {
         Ok(self.going()?.deliver(bytes)?)
     }
 
-    /// As [`Replica::work`]; what it gives to append is appended, and durable where the slot is out.
+    /// As [`Replica::work`]; the block of the slot that it leaves is appended, and durable where the slot is out.
     pub fn work(&mut self) -> Result<Work, Failure> {
         let work = self.going()?.work()?;
-        self.keep(&work)?;
-        self.journal.settle()?;
+        self.keep(&[work])?;
         Ok(work)
     }
 
-    /// As [`Replica::take`]; what its steps give to append is appended, in order, and durable where one of
-    /// their slots is out.
+    /// As [`Replica::take`]; the blocks of the slots that its steps leave are appended, in order, and durable
+    /// where one of these is out.
     pub fn take(&mut self, bytes: &[u8]) -> Result<Taken, Failure> {
         let taken = self.going()?.take(bytes)?;
-        taken.steps.iter().try_for_each(|work| self.keep(work))?;
-        self.journal.settle()?;
+        self.keep(&taken.steps)?;
         Ok(taken)
     }
 
-    fn keep(&mut self, work: &Work) -> Result<(), Failure> {
-        self.outcomes.worked(work);
-        match work.append() {
-            Some(block) => Ok(self.journal.append(block)?),
-            None => Ok(()),
-        }
+    /// As [`Replica::take_slot`], with its block appended as by [`Durable::take`].
+    pub fn take_slot(&mut self, bytes: &[u8]) -> Result<Taken, Failure> {
+        let taken = self.going()?.take_slot(bytes)?;
+        self.keep(&taken.steps)?;
+        Ok(taken)
+    }
+
+    fn keep(&mut self, works: &[Work]) -> Result<(), Failure> {
+        works.iter().for_each(|work| self.outcomes.worked(work));
+        self.follow()
+    }
+
+    /// Brings the journal to the turn.
+    fn follow(&mut self) -> Result<(), Failure> {
+        let memory = self.replica.replica().memory();
+        Ok(self.journal.follow(memory.turn.slot, &memory.window)?)
     }
 
     /// The replica, while its journal has all that it needs.

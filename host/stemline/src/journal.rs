@@ -11,7 +11,7 @@ use crate::map::lend;
 use crate::notices::Notices;
 use crate::round::Round;
 use crate::tally::Tally;
-use crate::{owner, Block, Blocks, Notice, Stop, BLOCK};
+use crate::{owner, Block, Blocks, Notice, Stop, Window, BLOCK};
 
 /// A journal over a file.
 ///
@@ -156,8 +156,25 @@ impl Journal {
         }
     }
 
-    /// Appends what a work gives: a block of another, durable after the next [`Journal::send`], or the *next*
-    /// of a slot that is out, durable after [`Journal::settle`].
+    /// Appends the blocks of the slots that the turn has left, by works, a take or a giving, from the replica's
+    /// window. Of others they are durable after the next [`Journal::send`]; where a slot is out, all are when
+    /// this returns.
+    pub fn follow(&mut self, turn: u32, window: &Window) -> Result<(), DiskError> {
+        while self.blocks < turn {
+            let block = window.block(self.blocks).ok_or_else(|| {
+                // Only altered memory has none: it is called behind each of them.
+                io::Error::other(format!("the window lacks slot {}", self.blocks))
+            });
+            let block = self.done("append to", block)?;
+            self.append(block)?;
+        }
+        match self.passed {
+            true => self.keep(),
+            false => Ok(()),
+        }
+    }
+
+    /// Appends another's block, or the *next* of a slot that is out.
     pub fn append(&mut self, block: &[u8; BLOCK]) -> Result<(), DiskError> {
         let slot = self.blocks;
         if owner(slot, self.head.replicas()) == self.head.own() {
@@ -166,14 +183,6 @@ impl Journal {
         self.put(block)?;
         self.passed |= self.notices.is_out(slot);
         Ok(())
-    }
-
-    /// Makes the *next* of each slot passed as out durable.
-    pub fn settle(&mut self) -> Result<(), DiskError> {
-        match self.passed {
-            true => self.keep(),
-            false => Ok(()),
-        }
     }
 
     /// Makes all durable that was appended, and the number of notices, with a copy of the round so far.

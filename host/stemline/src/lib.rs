@@ -1,8 +1,8 @@
 //! A replica of the proved engine, for Rust.
 //!
-//! [`Replica`] has document 01's ten calls, document 02's restart and load, and its two notices, out and back. A refused call gives a
-//! [`Refusal`] and changes nothing, but for [`Refusal::Stale`], which ends its transaction. A group has 2
-//! to 6 replicas, numbered from 0; each holds 128 values, of the items 0 to 127.
+//! [`Replica`] has document 01's ten calls, document 02's restart and load, its two notices, out and back, and
+//! its giving. A refused call gives a [`Refusal`] and changes nothing, but for [`Refusal::Stale`], which ends its
+//! transaction. A group has 2 to 6 replicas, numbered from 0; each holds 128 values, of the items 0 to 127.
 //!
 //! Who has several replicas moves the blocks. Slot s belongs to replica s mod n, and only its owner may
 //! send for it: when [`Replica::is_turn`] holds, what [`Replica::send`] gives goes to every replica of
@@ -36,7 +36,8 @@
 //!
 //! A replica that is to outlive its machine's power keeps a journal: [`Durable`] does so, in a file. Who
 //! keeps one by other means appends the block of each [`Replica::send`] and makes it durable before he
-//! hands it out, and appends what [`Work::append`] gives, in order, before the next of these.
+//! hands it out, and before the next of these the blocks of all slots that the turn has left, in order, from
+//! [`Replica::window`].
 //! [`Replica::restart`] makes a replica from a journal. `host/README.md` ("The journal") has all steps,
 //! also for a disk that fails and a journal that is damaged.
 //!
@@ -72,8 +73,9 @@ mod replica;
 mod round;
 mod station;
 mod tally;
+mod window;
 
-pub use answers::{Asked, Restarted, Step, Taken, Work};
+pub use answers::{Asked, Given, Restarted, Step, Taken, Work};
 pub use block::{Block, DigitsError, Record};
 pub use blocks::{Blocks, Stop};
 pub use calls::Calls;
@@ -92,6 +94,7 @@ pub use refusal::Refusal;
 pub use reopened::Reopened;
 pub use replica::Replica;
 pub use station::Station;
+pub use window::Window;
 
 // The limits, by the names and with the numbers that they have in C (`STEMLINE_` in front).
 
@@ -120,6 +123,12 @@ pub const STEPS: usize = 41;
 pub const LEFT: usize = 11;
 /// In the place of an own number: a station, which has none.
 pub const NO_NUMBER: u8 = 255;
+/// Blocks of a window: the last that the turn has left.
+pub const KEPT: usize = 64;
+/// Bytes of a window.
+pub const WINDOW: usize = 32_768;
+/// In the place of a turn that is told: its replica is down.
+pub const DOWN: u32 = 4_294_967_295;
 
 /// Whose slot it is in a group of `n`: the number of the replica that sends for it.
 ///

@@ -1,7 +1,7 @@
 //! The parts of a replica's memory in one value that owns them.
 
 use crate::ffi::{Counts, Group, Turn, Txn};
-use crate::{BLOCK, ITEMS, QUEUE, REPLICAS, SNAPSHOTS, TABLE, WRITTEN};
+use crate::{Window, BLOCK, ITEMS, QUEUE, REPLICAS, SNAPSHOTS, TABLE, WRITTEN};
 
 /// A replica's memory. Each call is defined on any content, so the fields are open to a host that
 /// stores and restores them; what the calls promise holds of a memory that only calls have changed.
@@ -34,6 +34,8 @@ pub struct Memory {
     pub places: Box<[u8]>,
     /// The block sent last.
     pub outbox: [u8; BLOCK],
+    /// The last 64 blocks that the turn has left.
+    pub window: Window,
 }
 
 impl Memory {
@@ -54,6 +56,7 @@ impl Memory {
             classes: [0; ITEMS],
             places: vec![0; BLOCK * REPLICAS.min(n as usize)].into_boxed_slice(),
             outbox: [0; BLOCK],
+            window: Window::new(),
         }
     }
 }

@@ -4,7 +4,7 @@ use std::collections::VecDeque;
 use std::fmt;
 
 use crate::tally::Tally;
-use crate::{Asked, Refusal, Work};
+use crate::{Asked, Block, Given, Refusal, Work};
 
 /// What became of a transaction, by its ticket: see [`crate::Durable::outcome`]. `{}` writes it in words.
 #[derive(Clone, Copy, Debug, PartialEq, Eq, Hash)]
@@ -144,12 +144,32 @@ impl Outcomes {
 
     pub fn worked(&mut self, work: &Work) {
         if work.ticket != 0 {
-            self.commits += 1;
-            if u32::from(work.sender) == self.own {
-                self.set(work.ticket, self.commits);
+            self.committed(work.sender, work.ticket);
+        }
+        self.aborted(work.aborted());
+    }
+
+    /// A giving that has left these slots: of the first so many writesets were done before.
+    pub fn given(&mut self, given: &Given, blocks: &[Block], done: u8) {
+        for (at, block) in blocks.iter().enumerate() {
+            let done = if at == 0 { done.into() } else { 0 };
+            for record in block.records().skip(done) {
+                self.committed(block.sender(), record.ticket);
             }
         }
-        for &ticket in work.aborted() {
+        self.aborted(given.aborted());
+    }
+
+    /// The next of all writesets.
+    fn committed(&mut self, sender: u8, ticket: u32) {
+        self.commits += 1;
+        if u32::from(sender) == self.own {
+            self.set(ticket, self.commits);
+        }
+    }
+
+    fn aborted(&mut self, tickets: &[u32]) {
+        for &ticket in tickets {
             self.set(ticket, ABORTED);
             self.asked.retain(|&asked| asked != ticket);
         }

@@ -1,5 +1,6 @@
 //! A replica that writes down its calls and answers, for the program `replay`.
 
+mod giving;
 mod list;
 mod rewrite;
 mod station;
@@ -9,7 +10,7 @@ use std::io::Write;
 use self::list::{answered, hex, List};
 pub use self::station::StationRecorder;
 use crate::ffi::WorkReply;
-use crate::replica::works;
+use crate::replica::{works, ONE_SLOT, WAITING};
 use crate::{Asked, Notice, Refusal, Replica, Report, Restarted, Taken, Work, BLOCK, ITEMS};
 
 /// The most bytes that a line of the list delivers, restarts from, and loads.
@@ -35,6 +36,7 @@ const LOADED: usize = 130;
 ///   another; [`Recorder::values`] is, where an item still has such a value.
 /// - A deliver of more than 520 bytes and a load of more than 130, both refused by 1.
 /// - Reports after a restart from more than 128 blocks, see [`Recorder::restart`].
+/// - A giving that is refused by 1 or 31, or gives nothing: see [`Recorder::give`].
 ///
 /// ```
 /// use stemline::{Recorder, Refusal, ITEMS};
@@ -234,14 +236,12 @@ impl<C: Write, A: Write> Recorder<C, A> {
 
     /// As [`Replica::work`].
     pub fn work(&mut self) -> Result<Work, Refusal> {
-        let mut block = [0; BLOCK];
-        let reply = self.step(&mut block);
-        Work::of(&reply, &block)
+        Work::of(&self.step())
     }
 
-    /// A work with the block that it is lent.
-    fn step(&mut self, block: &mut [u8; BLOCK]) -> WorkReply {
-        let reply = self.replica.step(block);
+    /// A work with all that it answers.
+    fn step(&mut self) -> WorkReply {
+        let reply = self.replica.step();
         self.list.record('K', "", &list::work(&reply));
         reply
     }
@@ -272,8 +272,20 @@ impl<C: Write, A: Write> Recorder<C, A> {
     /// As [`Replica::take`]; it is recorded as its deliver and its works.
     pub fn take(&mut self, bytes: &[u8]) -> Result<Taken, Refusal> {
         self.deliver(bytes)?;
+        Ok(self.works(WAITING))
+    }
+
+    /// As [`Replica::take_slot`]; it is recorded as its deliver, if it has one, and its works.
+    pub fn take_slot(&mut self, bytes: &[u8]) -> Result<Taken, Refusal> {
+        if !self.replica.waits() {
+            self.deliver(bytes)?;
+        }
+        Ok(self.works(ONE_SLOT))
+    }
+
+    fn works(&mut self, most: (usize, usize)) -> Taken {
         let waits = |recorder: &Self| recorder.replica.waits();
-        Ok(works(self, waits, Recorder::work, |work| work.moved))
+        works(self, most, waits, Recorder::work, |work| work.moved)
     }
 }
 

@@ -59,7 +59,7 @@ pub enum Refusal {
     NothingWaits,
     /// 23: a block of another replica is half applied.
     LoadWhileApplying,
-    /// 25: a write or a send on the memory of a station. A [`crate::Station`] has neither call.
+    /// 25: a write, a send or a giving on the memory of a station. A [`crate::Station`] has none of these calls.
     StationOnlyReads,
     /// 28: the notice does not fit. Its slot is passed; Out of a replica that is out already, that comes back
     /// above the turn, or of which a block at or behind the slot is here; Back of one that is not out, or not
@@ -68,6 +68,11 @@ pub enum Refusal {
     /// 29: the slot is out. No block is sent for it; one that comes is to be offered again where a Back is
     /// still to be taken.
     SlotOut,
+    /// 30: no other replica is up, by the turns told.
+    NobodyUp,
+    /// 31: the giver's window lacks the block of a slot from the returner's turn up to the giver's: it is more than
+    /// 64 slots ahead, or not all of its blocks were put into the window lent.
+    WindowLacks,
     /// A number that the table does not have: the library is newer than this crate.
     Unknown(u8),
 }
@@ -77,7 +82,7 @@ const UNKNOWN: &str = "refused by an unknown number";
 
 /// The cases in the order of their numbers, from 1 on, and what each says; `stemline_words` of the C
 /// header says the same. The documents have no 24; 26 and 27 are the program `week`'s.
-const TABLE: [(Refusal, &str); 29] = [
+const TABLE: [(Refusal, &str); 31] = [
     (
         Refusal::WrongLength,
         "a lent slice has not its exact length",
@@ -136,7 +141,7 @@ const TABLE: [(Refusal, &str); 29] = [
         "classes are loaded while a block of another replica is being applied",
     ),
     (Refusal::Unknown(24), UNKNOWN),
-    (Refusal::StationOnlyReads, "a station neither writes nor sends"),
+    (Refusal::StationOnlyReads, "a station neither writes nor sends nor is given blocks"),
     (Refusal::Unknown(26), UNKNOWN),
     (Refusal::Unknown(27), UNKNOWN),
     (
@@ -144,6 +149,11 @@ const TABLE: [(Refusal, &str); 29] = [
         "the notice does not fit the turn, the notices taken before or a block that is here",
     ),
     (Refusal::SlotOut, "the slot is out by a notice"),
+    (Refusal::NobodyUp, "no other replica is up"),
+    (
+        Refusal::WindowLacks,
+        "the giver's window lacks a block of a slot up to its turn",
+    ),
 ];
 
 impl Refusal {
@@ -173,6 +183,17 @@ impl Refusal {
     pub fn words(self) -> &'static str {
         let known = TABLE.get(self.entry());
         known.map_or(UNKNOWN, |&(_, words)| words)
+    }
+
+    /// Whether it turns a giving away, before anything of it is delivered.
+    pub(crate) fn is_turned_away(self) -> bool {
+        matches!(
+            self,
+            Refusal::StationOnlyReads
+                | Refusal::WrongLength
+                | Refusal::NobodyUp
+                | Refusal::WindowLacks
+        )
     }
 
     /// Where the table has it; behind its end for an unknown number.
@@ -206,7 +227,7 @@ mod tests {
         for number in 1..=u8::MAX {
             let refusal = Refusal::from_number(number).unwrap();
             assert_eq!(refusal.number(), number);
-            let known = matches!(number, 1..=21 | 23 | 25 | 28 | 29);
+            let known = matches!(number, 1..=21 | 23 | 25 | 28..=31);
             assert_eq!(matches!(refusal, Refusal::Unknown(_)), !known);
         }
     }
@@ -217,8 +238,8 @@ mod tests {
         assert_eq!(words(14), "the block's check does not match (14)");
         assert_eq!(words(24), "refused by an unknown number (24)");
         assert_eq!(words(26), "refused by an unknown number (26)");
-        assert_eq!(words(30), "refused by an unknown number (30)");
-        let said: Vec<&str> = (1..=30)
+        assert_eq!(words(32), "refused by an unknown number (32)");
+        let said: Vec<&str> = (1..=32)
             .map(|number| Refusal::from_number(number).unwrap().words())
             .collect();
         let known: Vec<&str> = said
@@ -227,8 +248,8 @@ mod tests {
             .filter(|&words| words != UNKNOWN)
             .collect();
         assert!((1..known.len()).all(|at| !known[..at].contains(&known[at])));
-        assert_eq!([21, 23, 25, 26, 29].map(|at| said[at]), [UNKNOWN; 5]);
-        assert_eq!(known.len(), 25);
+        assert_eq!([21, 23, 25, 26, 31].map(|at| said[at]), [UNKNOWN; 5]);
+        assert_eq!(known.len(), 27);
         let boxed: Box<dyn error::Error> = Box::new(Refusal::Stale);
         assert!(boxed.to_string().ends_with("(9)"));
         // What std prints of a main that ends in an error.
@@ -248,5 +269,7 @@ mod tests {
         assert_eq!(Refusal::from_number(25), Some(Refusal::StationOnlyReads));
         assert_eq!(Refusal::from_number(28), Some(Refusal::NoticeRefused));
         assert_eq!(Refusal::from_number(29), Some(Refusal::SlotOut));
+        assert_eq!(Refusal::from_number(30), Some(Refusal::NobodyUp));
+        assert_eq!(Refusal::from_number(31), Some(Refusal::WindowLacks));
     }
 }

@@ -1,9 +1,13 @@
 //! One replica, over the memory that the calls are lent.
 
+mod giving;
+mod taking;
+
+pub(crate) use self::taking::{works, ONE_SLOT, WAITING};
 use crate::ffi::{self, WorkReply};
 use crate::{
-    accepted, owner, Asked, Memory, Notice, Refusal, Report, Restarted, Taken, Work, BLOCK, ITEMS,
-    LEFT, NO_NUMBER, SLOTS, STEPS,
+    accepted, owner, Asked, Memory, Notice, Refusal, Report, Restarted, Window, Work, BLOCK, ITEMS,
+    NO_NUMBER, SLOTS,
 };
 
 /// One replica of a group.
@@ -34,6 +38,7 @@ impl Replica {
             &mut m.classes,
             &mut m.places,
             &mut m.outbox,
+            m.window.lent(),
         );
         accepted(number, Replica { memory })
     }
@@ -41,7 +46,8 @@ impl Replica {
     /// As [`Replica::new`], with the group's values to start with; then commits the blocks of a
     /// journal, up to the first that is torn, fails its check or form, has another `n` or is not of the
     /// next slot. Transactions that were open are gone; tickets go on above the highest in its own
-    /// blocks; classes are to be loaded anew. Refused by 2; the journal may have any length.
+    /// blocks; classes are to be loaded anew; the window has the last 64 blocks committed. Refused by 2; the
+    /// journal may have any length.
     ///
     /// The notices are all that were taken, in order, and are put in force untested. The block given back
     /// is the last own one whose slot they do not put out.
@@ -75,6 +81,7 @@ impl Replica {
             &mut m.classes,
             &mut m.places,
             &mut m.outbox,
+            m.window.lent(),
             journal,
             &notices
                 .iter()
@@ -107,6 +114,11 @@ impl Replica {
     /// The values committed so far.
     pub fn values(&self) -> &[i32; ITEMS] {
         &self.memory.values
+    }
+
+    /// The last 64 blocks that the turn has left, as the journal is to have them.
+    pub fn window(&self) -> &Window {
+        &self.memory.window
     }
 
     /// Opens a transaction on the values as they are now and gives its ticket. Refused by 5, 6.
@@ -215,17 +227,16 @@ impl Replica {
     }
 
     /// Takes one step at the block of the turn: commits its next writeset, or passes over a block
-    /// without records, or over a slot that is out. Refused by 1, 21.
+    /// without records, or over a slot that is out. Where the turn leaves a slot, its block goes into the
+    /// window. Refused by 1, 21.
     #[inline]
     pub fn work(&mut self) -> Result<Work, Refusal> {
-        let mut block = [0; BLOCK];
-        let reply = self.step(&mut block);
-        Work::of(&reply, &block)
+        Work::of(&self.step())
     }
 
-    /// A work with the block that it is lent.
+    /// A work with all that it answers.
     #[inline]
-    pub(crate) fn step(&mut self, block: &mut [u8; BLOCK]) -> WorkReply {
+    pub(crate) fn step(&mut self) -> WorkReply {
         let m = &mut *self.memory;
         ffi::work(
             &mut m.table,
@@ -237,7 +248,7 @@ impl Replica {
             &mut m.values,
             &mut m.stamps,
             &mut m.places,
-            block,
+            m.window.lent(),
         )
     }
 
@@ -284,39 +295,4 @@ impl Replica {
         let number = ffi::back(&mut m.group, &m.turn, &m.places, replica, slot);
         accepted(number, ())
     }
-
-    /// What a replica does with a block that arrives: delivers it, then works until nothing waits for the
-    /// turn. Gives the steps in their order: none where the block is early and has to wait; those of
-    /// blocks that waited already too, where this is the one that they waited for. What they give to
-    /// append goes to the journal.
-    ///
-    /// Refused by 1, 14, 15, 16, 17, 29, 18, 19, 20, as the deliver is: nothing is worked, and what waits
-    /// already goes on waiting. So it is with a block that comes a second time (17 or 20), which a
-    /// host may pass over.
-    ///
-    /// Where [`STEPS`] steps or [`LEFT`] slots are not enough, as on altered memory, or with many slots out
-    /// one behind the other, something waits still: work while it does.
-    pub fn take(&mut self, bytes: &[u8]) -> Result<Taken, Refusal> {
-        self.deliver(bytes)?;
-        Ok(works(self, Replica::waits, Replica::work, |work| {
-            work.moved
-        }))
-    }
-}
-
-/// The works behind the deliver of a take: as long as a block waits for the turn, or its slot is out.
-pub(crate) fn works<R, W>(
-    replica: &mut R,
-    waits: impl Fn(&R) -> bool,
-    mut work: impl FnMut(&mut R) -> Result<W, Refusal>,
-    moved: impl Fn(&W) -> bool,
-) -> Taken<W> {
-    let (mut steps, mut left) = (Vec::new(), 0);
-    while steps.len() < STEPS && left < LEFT && waits(replica) {
-        // Only at altered memory is it refused.
-        let Ok(step) = work(replica) else { break };
-        left += usize::from(moved(&step));
-        steps.push(step);
-    }
-    Taken { steps }
 }

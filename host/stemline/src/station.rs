@@ -1,8 +1,8 @@
 //! A station, which only reads.
 
 use crate::ffi;
-use crate::replica::works;
-use crate::{accepted, Memory, Refusal, Replica, Report, Step, Taken, BLOCK, ITEMS, NO_NUMBER};
+use crate::replica::{works, ONE_SLOT, WAITING};
+use crate::{accepted, Memory, Refusal, Replica, Report, Step, Taken, ITEMS, NO_NUMBER};
 
 /// A station of a group: it holds the group's values and lets transactions read them. It has no number and
 /// takes no turn, so it neither writes nor sends, and no replica waits for it.
@@ -10,9 +10,8 @@ use crate::{accepted, Memory, Refusal, Replica, Report, Step, Taken, BLOCK, ITEM
 /// It needs every block of the group from slot 0 on, and [`Station::take`] says what to do with one that
 /// comes too early. It has no journal and no restart: after a cut of the power it is made anew, with the
 /// values that the group started with, and needs all blocks again. The journal of a replica, as far as it
-/// is durable, has them in order; block `turn` of it is what a station takes next, where `turn` is that
-/// of its [`Station::report`]. Of a slot that is out there is nothing to take: the station takes the notices
-/// too, and passes it by [`Station::work`].
+/// is durable, has them in order; block `turn` of it is what a station takes next, by [`Station::take_slot`],
+/// where `turn` is that of its [`Station::report`]. The station takes the notices too, each before its slot.
 ///
 /// ```
 /// use stemline::{Refusal, Replica, Station, Step, ITEMS};
@@ -46,7 +45,7 @@ use crate::{accepted, Memory, Refusal, Replica, Report, Step, Taken, BLOCK, ITEM
 /// }
 /// ```
 ///
-/// A call that a station has not is an error of the compiler, be it write, send, load or restart:
+/// A call that a station has not is an error of the compiler, be it write, send, load, restart or giving:
 ///
 /// ```compile_fail,E0599
 /// # let mut station = stemline::Station::new(2, &[0; 128]).unwrap();
@@ -66,6 +65,11 @@ use crate::{accepted, Memory, Refusal, Replica, Report, Step, Taken, BLOCK, ITEM
 ///
 /// ```compile_fail,E0599
 /// stemline::Station::restart(2, 0, &[0; 128], &[], &[]);
+/// ```
+///
+/// ```compile_fail,E0599
+/// # let mut station = stemline::Station::new(2, &[0; 128]).unwrap();
+/// station.give(&[0, 7], &stemline::Window::new());
 /// ```
 #[derive(Clone, Debug, PartialEq, Eq)]
 pub struct Station {
@@ -94,6 +98,7 @@ impl Station {
             &mut m.classes,
             &mut m.places,
             &mut m.outbox,
+            m.window.lent(),
         );
         let replica = Replica { memory };
         accepted(number, Station { replica })
@@ -161,7 +166,7 @@ impl Station {
     /// records, or over a slot that is out. Refused by 1, 21.
     #[inline]
     pub fn work(&mut self) -> Result<Step, Refusal> {
-        Step::of(&self.replica.step(&mut [0; BLOCK]))
+        Step::of(&self.replica.step())
     }
 
     /// As [`Replica::waits`].
@@ -188,8 +193,18 @@ impl Station {
     /// sender will not hand it out for ever.
     pub fn take(&mut self, bytes: &[u8]) -> Result<Taken<Step>, Refusal> {
         self.deliver(bytes)?;
-        Ok(works(self, Station::waits, Station::work, |step| {
-            step.moved
-        }))
+        Ok(self.works(WAITING))
+    }
+
+    /// As [`Replica::take_slot`]: takes the turn's slot, with its block as a replica's journal has it.
+    pub fn take_slot(&mut self, bytes: &[u8]) -> Result<Taken<Step>, Refusal> {
+        if !self.waits() {
+            self.deliver(bytes)?;
+        }
+        Ok(self.works(ONE_SLOT))
+    }
+
+    fn works(&mut self, most: (usize, usize)) -> Taken<Step> {
+        works(self, most, Station::waits, Station::work, |step| step.moved)
     }
 }

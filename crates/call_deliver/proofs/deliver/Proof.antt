@@ -9,10 +9,10 @@ use lib.ListN.{length, take, drop}
 use Rattle.block.specs.Answers.{blockRefusal, headerOf}
 use Rattle.call_reply.specs.Parts.{deliverParts}
 use Rattle.call_reply.specs.Replies.{number}
-use Rattle.memory.proofs.ByteLaws.{copied}
+use Rattle.memory.proofs.ByteLaws.{copied, part-long}
 use Rattle.call_reply.proofs.ReplyLaws.{gives}
 use Rattle.call_deliver.specs.Lengths.{lengthsFit}
-use Rattle.call_deliver.proofs.DeliverLaws.{reader-took, deliver-lengths, deliver-unread, deliver-refused, deliver-kept, lengths-long, place-in, part-long, group-some}
+use Rattle.call_deliver.proofs.DeliverLaws.{reader-took, deliver-lengths, deliver-unread, deliver-refused, deliver-kept, lengths-long, place-in, group-some}
 use Rattle.call_deliver.proofs.deliver.Statement.{statement}
 use Rattle.call_deliver.proofs.deliver.Tie as tie
 

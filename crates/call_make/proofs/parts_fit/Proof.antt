@@ -25,8 +25,11 @@ returns-7 : tie.Need-returns-7
 returns-7 c = rw (eq-eqb _ 6 (c .before .before .before .before .before .before .if1 .left), eq-eqb _ 48 (c .before .before .before .before .before .if2 .left), eq-eqb _ 48 (c .before .before .before .before .if3 .left), eq-eqb _ 768 (c .before .before .before .if4 .left), eq-eqb _ 128 (c .before .before .if5 .left), eq-eqb _ 128 (c .before .if6 .left), ne-eqb _ 128 (c .if7 .taken))
 
 returns-8 : tie.Need-returns-8
-returns-8 c = rw (eq-eqb _ 6 (c .before .before .before .before .before .before .if1 .left), eq-eqb _ 48 (c .before .before .before .before .before .if2 .left), eq-eqb _ 48 (c .before .before .before .before .if3 .left), eq-eqb _ 768 (c .before .before .before .if4 .left), eq-eqb _ 128 (c .before .before .if5 .left), eq-eqb _ 128 (c .before .if6 .left), eq-eqb _ 128 (c .if7 .left))
+returns-8 c = rw (eq-eqb _ 6 (c .before .before .before .before .before .before .before .if1 .left), eq-eqb _ 48 (c .before .before .before .before .before .before .if2 .left), eq-eqb _ 48 (c .before .before .before .before .before .if3 .left), eq-eqb _ 768 (c .before .before .before .before .if4 .left), eq-eqb _ 128 (c .before .before .before .if5 .left), eq-eqb _ 128 (c .before .before .if6 .left), eq-eqb _ 128 (c .before .if7 .left), ne-eqb _ 512 (c .if8 .taken))
+
+returns-9 : tie.Need-returns-9
+returns-9 c = rw (eq-eqb _ 6 (c .before .before .before .before .before .before .before .if1 .left), eq-eqb _ 48 (c .before .before .before .before .before .before .if2 .left), eq-eqb _ 48 (c .before .before .before .before .before .if3 .left), eq-eqb _ 768 (c .before .before .before .before .if4 .left), eq-eqb _ 128 (c .before .before .before .if5 .left), eq-eqb _ 128 (c .before .before .if6 .left), eq-eqb _ 128 (c .before .if7 .left), eq-eqb _ 512 (c .if8 .left))
 
 pub parts-fit-spec : {M : Type 1} → statement M
 parts-fit-spec =
-    tie.close (tie.spec returns returns-2 returns-3 returns-4 returns-5 returns-6 returns-7 returns-8)
+    tie.close (tie.spec returns returns-2 returns-3 returns-4 returns-5 returns-6 returns-7 returns-8 returns-9)

@@ -1,8 +1,7 @@
 -- `pass_next` meets its contract.
 use Prim.Native.Nat.{_+_}
-use mathlib.Core.Path.{refl, sym, _∙_}
+use mathlib.Core.Path.{refl}
 use native.Mathlib.Omega.{arith}
-use borrow.Rule.Slice.PartMut.{mid-len}
 use Rattle.block.proofs.ListLaws.{lent-slice}
 use Rattle.call_work.specs.Works.{turnParts}
 use Rattle.call_work.proofs.WorkLaws.{next-passed}
@@ -19,20 +18,17 @@ slice-read-sender c = search needs
 add-end : tie.Need-add-end
 add-end c = search needs
 
-sub-hand-out : tie.Need-sub-hand-out
-sub-hand-out c = search needs
+sub-keep : tie.Need-sub-keep
+sub-keep c = search needs
 
-part-hand-out-start : tie.Need-part-hand-out-start
-part-hand-out-start c = search needs
+part-keep-start : tie.Need-part-keep-start
+part-keep-start c = search needs
 
-part-hand-out-end : tie.Need-part-hand-out-end
-part-hand-out-end c = search needs
+part-keep-end : tie.Need-part-keep-end
+part-keep-end c = search needs
 
-hand-out-requires : tie.Need-hand-out-requires
-hand-out-requires c κs =
-    let s = c .before .before .before .before .before .before in
-    let a = s .args in
-    s .pre .2 ∙ sym (mid-len (a .at) (a .at + 512) (a .places .now) (s .pre .1) ∙ omega arith)
+keep-requires : tie.Need-keep-requires
+keep-requires c κs = search needs
 
 slice-write-places : tie.Need-slice-write-places
 slice-write-places c = search needs
@@ -48,12 +44,12 @@ same-length-2 c = search needs
 
 returns : tie.Need-returns
 returns c =
-    let h = c .before .before .before in
-    let s = h .before .before .before .before .before .before .before in
+    let k = c .before .before .before .before in
+    let s = k .before .before .before .before .before .before .before in
     let a = s .args in
     let part = lent-slice (a .at) (a .at + 512) (a .places .now) (omega arith) in (
-      λ m. next-passed (turnParts m (a .group) (a .turn) (a .counts) (m .txns .table) (a .places .now)) (a .at) (s .pre .0) (s .pre .1) (c .advance .result) (c .advance .ensures)
-          (h .hand-out .result) (h .hand-out .ensures .0) (a .block .now) _ (rw part at (h .hand-out .ensures .1)),
+      λ m. next-passed (turnParts m (a .group) (a .turn) (a .counts) (m .txns .table) (a .places .now) (a .window .now)) (a .at) (s .pre .0) (s .pre .1) (c .advance .result) (c .advance .ensures)
+          _ (rw part at (k .keep .ensures)),
       refl,
     )
 
@@ -64,10 +60,10 @@ pass-next-spec =
     add-sender
     slice-read-sender
     add-end
-    sub-hand-out
-    part-hand-out-start
-    part-hand-out-end
-    hand-out-requires
+    sub-keep
+    part-keep-start
+    part-keep-end
+    keep-requires
     slice-write-places
     advance-requires
     same-length

@@ -1,8 +1,7 @@
 -- `pass_writeset` meets its contract: the last of its block, or not.
 use Prim.Native.Nat.{_+_}
-use mathlib.Core.Path.{refl, sym, _∙_}
+use mathlib.Core.Path.{refl}
 use native.Mathlib.Omega.{arith}
-use borrow.Rule.Slice.PartMut.{mid-len}
 use borrow.Author.Tests.{le-leb, lt-leb}
 use Rattle.block.proofs.ListLaws.{lent-slice}
 use borrow.Author.Needs.{needs}
@@ -35,20 +34,17 @@ cast-if1 c =
 add-end : tie.Need-add-end
 add-end c = search needs
 
-sub-hand-out : tie.Need-sub-hand-out
-sub-hand-out c = search needs
+sub-keep : tie.Need-sub-keep
+sub-keep c = search needs
 
-part-hand-out-start : tie.Need-part-hand-out-start
-part-hand-out-start c = search needs
+part-keep-start : tie.Need-part-keep-start
+part-keep-start c = search needs
 
-part-hand-out-end : tie.Need-part-hand-out-end
-part-hand-out-end c = search needs
+part-keep-end : tie.Need-part-keep-end
+part-keep-end c = search needs
 
-hand-out-requires : tie.Need-hand-out-requires
-hand-out-requires c κs =
-    let s = c .before .before .before .before .before .before .before .before .before .before .before in
-    let a = s .args in
-    s .pre .1 ∙ sym (mid-len (a .at) (a .at + 512) (a .places .now) (s .pre .0) ∙ omega arith)
+keep-requires : tie.Need-keep-requires
+keep-requires c κs = search needs
 
 slice-write-places : tie.Need-slice-write-places
 slice-write-places c = search needs
@@ -67,11 +63,11 @@ same-length-2 c = search needs
 
 returns : tie.Need-returns
 returns c =
-    let h = c .before .before .before .before in
-    let t = h .before .before .before .before in
+    let k = c .before .before .before .before in
+    let t = k .before .before .before .before in
     let a = t .before .before .before .before .before .before .before .before .args in
     let part = lent-slice (a .at) (a .at + 512) (a .places .now) (omega arith) in
-    rw (c .answered .ensures, c .before .advance .ensures, h .hand-out .ensures .0, le-leb _ _ (t .if1 .taken)) (refl, refl, rw part at (h .hand-out .ensures .1))
+    rw (c .answered .ensures, c .before .advance .ensures, le-leb _ _ (t .if1 .taken)) (refl, refl, rw part at (k .keep .ensures))
 
 cast-counts : tie.Need-cast-counts
 cast-counts c =
@@ -96,10 +92,10 @@ pass-writeset-spec =
     add-next
     cast-if1
     add-end
-    sub-hand-out
-    part-hand-out-start
-    part-hand-out-end
-    hand-out-requires
+    sub-keep
+    part-keep-start
+    part-keep-end
+    keep-requires
     slice-write-places
     advance-requires
     answered-requires

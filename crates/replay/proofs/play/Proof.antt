@@ -72,43 +72,52 @@ mul-place c = search needs
 array-copy-out-place : tie.Need-array-copy-out-place Inv-loop μ-loop
 array-copy-out-place c = c .before .before .before .before .next-request .ensures .0
 
+lender-of-requires : tie.Need-lender-of-requires Inv-loop μ-loop
+lender-of-requires c κs = c .before .before .before .before .before .next-request .ensures .2
+
+mul-lender : tie.Need-mul-lender Inv-loop μ-loop
+mul-lender c = search needs
+
+array-copy-out-lender : tie.Need-array-copy-out-lender Inv-loop μ-loop
+array-copy-out-lender c = c .lender-of .ensures
+
 slice-aggregate-reply : tie.Need-slice-aggregate-reply Inv-loop μ-loop
-slice-aggregate-reply c = sym (c .before .before .before .before .before .before .before .before .before .before .before .before .before .before .loop .inv .0)
+slice-aggregate-reply c = sym (c .before .before .before .before .before .before .before .before .before .before .before .before .before .before .before .before .loop .inv .0)
 
 slice-aggregate-reply-2 : tie.Need-slice-aggregate-reply-2 Inv-loop μ-loop
-slice-aggregate-reply-2 c = sym (c .before .before .before .before .before .before .before .before .before .before .before .before .before .before .before .loop .inv .1)
+slice-aggregate-reply-2 c = sym (c .before .before .before .before .before .before .before .before .before .before .before .before .before .before .before .before .before .loop .inv .1)
 
 slice-aggregate-reply-3 : tie.Need-slice-aggregate-reply-3 Inv-loop μ-loop
-slice-aggregate-reply-3 c = sym (c .before .before .before .before .before .before .before .before .before .before .before .before .before .before .before .before .loop .inv .3)
+slice-aggregate-reply-3 c = sym (c .before .before .before .before .before .before .before .before .before .before .before .before .before .before .before .before .before .before .loop .inv .3)
 
 reply-requires : tie.Need-reply-requires Inv-loop μ-loop
 reply-requires c κs =
-    let l = c .before .before .before .before .before .before .before .before .before .before .before .before .before .before .before .before .loop in
+    let l = c .before .before .before .before .before .before .before .before .before .before .before .before .before .before .before .before .before .before .loop in
     let i = l .inv in
-    let n = c .before .before .before .before .before .before .before .before .next-request in
-    (n .ensures .0, n .ensures .1, held-then (l .output) (l .source) 65536 (c .before .before .before .before .before .before .before .before .before .before .before .before .with-room .ensures) (i .4), i .0, i .1, i .3)
+    let n = c .before .before .before .before .before .before .before .before .before .before .next-request in
+    (n .ensures .0, n .ensures .1, n .ensures .2, held-then (l .output) (l .source) 65536 (c .before .before .before .before .before .before .before .before .before .before .before .before .before .before .with-room .ensures) (i .4), i .0, i .1, i .3)
 
 mul-places : tie.Need-mul-places Inv-loop μ-loop
 mul-places c = search needs
 
 array-set-from-places : tie.Need-array-set-from-places Inv-loop μ-loop
-array-set-from-places c = c .before .before .before .before .before .before .before .before .before .before .before .before .before .next-request .ensures .0
+array-set-from-places c = c .before .before .before .before .before .before .before .before .before .before .before .before .before .before .before .next-request .ensures .0
 
 sub-turns : tie.Need-sub-turns Inv-loop μ-loop
-sub-turns c = omega (arith, c .before .before .before .before .before .before .before .before .before .before .before .before .before .before .before .before .before .before .before .before .before .loop-test .taken)
+sub-turns c = omega (arith, c .before .before .before .before .before .before .before .before .before .before .before .before .before .before .before .before .before .before .before .before .before .before .before .loop-test .taken)
 
 loop-less : tie.Need-loop-less Inv-loop μ-loop
-loop-less c = omega (arith, c .before .before .before .before .before .before .before .before .before .before .before .before .before .before .before .before .before .before .before .before .before .loop-test .taken)
+loop-less c = omega (arith, c .before .before .before .before .before .before .before .before .before .before .before .before .before .before .before .before .before .before .before .before .before .before .before .loop-test .taken)
 
 loop-again : tie.Need-loop-again Inv-loop μ-loop
 loop-again c =
-    let i = c .before .before .before .before .before .before .before .before .before .before .before .before .before .before .before .before .before .before .before .before .before .before .loop .inv in
+    let i = c .before .before .before .before .before .before .before .before .before .before .before .before .before .before .before .before .before .before .before .before .before .before .before .before .loop .inv in
     let r = c .before .before .before .before .before .reply in
-    let n = c .before .before .before .before .before .before .before .before .before .before .before .before .before .before .next-request in (
-      r .kept .1 .1 .1 .1 .0 ∙ i .0,
-      r .kept .1 .1 .1 .1 .1 .0 ∙ i .1,
+    let n = c .before .before .before .before .before .before .before .before .before .before .before .before .before .before .before .before .next-request in (
+      r .kept .1 .1 .1 .1 .1 .0 ∙ i .0,
+      r .kept .1 .1 .1 .1 .1 .1 .0 ∙ i .1,
       n .kept .1 .1 .0 ∙ i .2,
-      r .kept .1 .1 .1 .1 .1 .1 .0 ∙ i .3,
+      r .kept .1 .1 .1 .1 .1 .1 .1 .0 ∙ i .3,
       r .ensures,
     )
 
@@ -140,6 +149,9 @@ play-spec =
     returns-2
     mul-place
     array-copy-out-place
+    lender-of-requires
+    mul-lender
+    array-copy-out-lender
     slice-aggregate-reply
     slice-aggregate-reply-2
     slice-aggregate-reply-3

@@ -10,7 +10,7 @@ room : (c : tie.After-answer) → c .before .before .before .before .before .bef
 room c =
     let s = c .before .before .before .before .before .before .before .before .before in
     let held = s .args .output .held in
-    omega (arith, s .pre .2, c .answer .ensures .within, c .answer .kept .1 .1 .1 .1 .0, length-take (length (s .args .out .now) - held) (drop held (s .args .out .now)), s .pre .5)
+    omega (arith, s .pre .3, c .answer .ensures .within, c .answer .kept .1 .1 .1 .1 .1 .0, length-take (length (s .args .out .now) - held) (drop held (s .args .out .now)), s .pre .6)
 
 mul-page : tie.Need-mul-page
 mul-page c = search needs

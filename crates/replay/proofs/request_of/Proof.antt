@@ -46,6 +46,9 @@ part-delivered-end c = search needs
 delivered-requires : tie.Need-delivered-requires
 delivered-requires c κs = search needs
 
+turns-of-requires : tie.Need-turns-of-requires
+turns-of-requires c κs = search needs
+
 at-most-seven-requires : tie.Need-at-most-seven-requires
 at-most-seven-requires c κs = search needs
 
@@ -53,7 +56,7 @@ is-known-requires : tie.Need-is-known-requires
 is-known-requires c κs = search needs
 
 returns : tie.Need-returns
-returns c = (c .before .at-most-seven .ensures, few (c .before .before .before))
+returns c = (c .before .at-most-seven .ensures, few (c .before .before .before .before), c .before .before .turns-of .ensures .within)
 
 pub request-of-spec : {M : Type 1} → statement M
 request-of-spec =
@@ -68,6 +71,7 @@ request-of-spec =
     part-delivered-start
     part-delivered-end
     delivered-requires
+    turns-of-requires
     at-most-seven-requires
     is-known-requires
     returns)

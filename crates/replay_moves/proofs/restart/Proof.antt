@@ -40,6 +40,9 @@ places-long c = length-unmapped ℕ (c .args .replica .places) 3072 (c .good .0 
 outbox-long : (c : tie.Start) → length (c .args .replica .outbox) ≡ 512
 outbox-long c = length-unmapped ℕ (c .args .replica .outbox) 512 (c .good .0 .1 .1 .1 .1 .1 .1 .1 .1 .1 .1 .1 .1 .1 .1 .0 .1 .0 .1)
 
+window-long : (c : tie.Start) → length (c .args .replica .window) ≡ 32768
+window-long c = length-unmapped ℕ (c .args .replica .window) 32768 (c .good .0 .1 .1 .1 .1 .1 .1 .1 .1 .1 .1 .1 .1 .1 .1 .1 .0 .1 .0 .1)
+
 repeated-requires : tie.Need-repeated-requires
 repeated-requires c κs = search needs
 
@@ -50,36 +53,39 @@ slice-aggregate-restart : tie.Need-slice-aggregate-restart
 slice-aggregate-restart c = search needs
 
 slice-aggregate-restart-2 : tie.Need-slice-aggregate-restart-2
-slice-aggregate-restart-2 c = sym (queue-long (c .before .before .before .before .before .before .before .before .before .before .before .before .before .before .before .before))
+slice-aggregate-restart-2 c = sym (queue-long (c .before .before .before .before .before .before .before .before .before .before .before .before .before .before .before .before .before))
 
 slice-aggregate-restart-3 : tie.Need-slice-aggregate-restart-3
-slice-aggregate-restart-3 c = sym (items-long (c .before .before .before .before .before .before .before .before .before .before .before .before .before .before .before .before .before))
+slice-aggregate-restart-3 c = sym (items-long (c .before .before .before .before .before .before .before .before .before .before .before .before .before .before .before .before .before .before))
 
 slice-aggregate-restart-4 : tie.Need-slice-aggregate-restart-4
-slice-aggregate-restart-4 c = sym (writes-long (c .before .before .before .before .before .before .before .before .before .before .before .before .before .before .before .before .before .before))
+slice-aggregate-restart-4 c = sym (writes-long (c .before .before .before .before .before .before .before .before .before .before .before .before .before .before .before .before .before .before .before))
 
 slice-aggregate-restart-5 : tie.Need-slice-aggregate-restart-5
-slice-aggregate-restart-5 c = sym (snapshots-long (c .before .before .before .before .before .before .before .before .before .before .before .before .before .before .before .before .before .before .before))
+slice-aggregate-restart-5 c = sym (snapshots-long (c .before .before .before .before .before .before .before .before .before .before .before .before .before .before .before .before .before .before .before .before))
 
 slice-aggregate-restart-6 : tie.Need-slice-aggregate-restart-6
-slice-aggregate-restart-6 c = sym (values-long (c .before .before .before .before .before .before .before .before .before .before .before .before .before .before .before .before .before .before .before .before))
+slice-aggregate-restart-6 c = sym (values-long (c .before .before .before .before .before .before .before .before .before .before .before .before .before .before .before .before .before .before .before .before .before))
 
 slice-aggregate-restart-7 : tie.Need-slice-aggregate-restart-7
-slice-aggregate-restart-7 c = sym (stamps-long (c .before .before .before .before .before .before .before .before .before .before .before .before .before .before .before .before .before .before .before .before .before))
+slice-aggregate-restart-7 c = sym (stamps-long (c .before .before .before .before .before .before .before .before .before .before .before .before .before .before .before .before .before .before .before .before .before .before))
 
 slice-aggregate-restart-8 : tie.Need-slice-aggregate-restart-8
-slice-aggregate-restart-8 c = sym (classes-long (c .before .before .before .before .before .before .before .before .before .before .before .before .before .before .before .before .before .before .before .before .before .before))
+slice-aggregate-restart-8 c = sym (classes-long (c .before .before .before .before .before .before .before .before .before .before .before .before .before .before .before .before .before .before .before .before .before .before .before))
 
 array-borrow-prefix-places : tie.Need-array-borrow-prefix-places
-array-borrow-prefix-places c = omega (arith, c .before .before .before .before .before .before .before .before .before .before .before .before .before .before .before .before .before .places-size .ensures .1, places-long (c .before .before .before .before .before .before .before .before .before .before .before .before .before .before .before .before .before .before .before .before .before .before))
+array-borrow-prefix-places c = omega (arith, c .before .before .before .before .before .before .before .before .before .before .before .before .before .before .before .before .before .before .places-size .ensures .1, places-long (c .before .before .before .before .before .before .before .before .before .before .before .before .before .before .before .before .before .before .before .before .before .before .before))
 
 slice-aggregate-restart-9 : tie.Need-slice-aggregate-restart-9
 slice-aggregate-restart-9 c =
-    let z = c .before .before .before .before .before .before .before .before .before .before .before .before .before .before .before .before .before .before in
+    let z = c .before .before .before .before .before .before .before .before .before .before .before .before .before .before .before .before .before .before .before in
     sym (length-take-le (z .places-size .result) (z .before .before .before .before .before .args .replica .places) (omega (arith, z .places-size .ensures .1, places-long (z .before .before .before .before .before))))
 
 slice-aggregate-restart-10 : tie.Need-slice-aggregate-restart-10
-slice-aggregate-restart-10 c = sym (outbox-long (c .before .before .before .before .before .before .before .before .before .before .before .before .before .before .before .before .before .before .before .before .before .before .before .before))
+slice-aggregate-restart-10 c = sym (outbox-long (c .before .before .before .before .before .before .before .before .before .before .before .before .before .before .before .before .before .before .before .before .before .before .before .before .before))
+
+slice-aggregate-restart-11 : tie.Need-slice-aggregate-restart-11
+slice-aggregate-restart-11 c = sym (window-long (c .before .before .before .before .before .before .before .before .before .before .before .before .before .before .before .before .before .before .before .before .before .before .before .before .before .before))
 
 restart-requires : tie.Need-restart-requires
 restart-requires c κs = search needs
@@ -102,8 +108,8 @@ start-is c = rw (toZ-ofZ (c .before .before .before .before .fits .value)) at (c
 
 returns : tie.Need-returns
 returns c =
-    let m = c .before .before .before .before .before .before .before .before .before .before .before .before .before .before .before in
-    let z = m .before .before .before .before .before .before .before .before .before .before .before .before .before .before .before .before .before .before .before .before .before in
+    let m = c .before .before .before .before .before .before .before .before .before .before .before .before .before .before .before .before in
+    let z = m .before .before .before .before .before .before .before .before .before .before .before .before .before .before .before .before .before .before .before .before .before .before .before in
     let a = z .before .before .before .before .before .args in
     let s = a .replica in
     let size = z .places-size .result in
@@ -134,6 +140,7 @@ restart-spec =
     array-borrow-prefix-places
     slice-aggregate-restart-9
     slice-aggregate-restart-10
+    slice-aggregate-restart-11
     restart-requires
     if-made-requires
     changing-requires

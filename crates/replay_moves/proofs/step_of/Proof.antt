@@ -1,9 +1,10 @@
 -- `step_of` meets its contract.
 use mathlib.Core.Path.{_≡_, ap}
+use mathlib.Core.List.{[], append-nil}
 use borrow.Author.Needs.{needs}
 use lib.ListN.{length}
 use Rattle.replay_replica.specs.declared.Played.{Played}
-use Rattle.replay_moves.proofs.MoveLaws.{six-is}
+use Rattle.replay_replica.proofs.EffectLaws.{six-is}
 use Rattle.replay_moves.proofs.step_of.Statement.{statement}
 use Rattle.replay_moves.proofs.step_of.Tie as tie
 
@@ -55,7 +56,7 @@ with-numbers-requires c κs = search needs
 returns : tie.Need-returns
 returns c =
     let s = c .before .before .before .before .before .before .before .before in
-    let e = rw (c .before .before .before .before .before .accepted .ensures .0, c .before .before .before .flag .ensures, six-is (s .args .reply .aborted) (aborted-long s), c .before .growing .ensures) at (c .with-numbers .ensures) in
+    let e = rw (c .before .before .before .before .before .accepted .ensures .0, c .before .before .before .flag .ensures, six-is (s .args .reply .aborted) [] (aborted-long s), append-nil (s .args .reply .aborted), c .before .growing .ensures) at (c .with-numbers .ensures) in
     (e, rw (← ap (λ (p : Played). p .count) (c .with-numbers .ensures)) at (c .before .before .before .before .before .accepted .ensures .1))
 
 pub step-of-spec : {M : Type 1} → statement M

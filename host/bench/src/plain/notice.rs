@@ -1,11 +1,11 @@
 //! Notices.
 
-use model::block::{self, Header, BLOCK, NEXT};
+use model::block::{self, Header, NEXT};
 use model::notice::{Kind, Notice};
 use model::refusal::{NOTICE_REFUSED, OUT_OF_RANGE};
 use model::replica::SLOTS;
 
-use super::{Replica, Work, OPEN};
+use super::{Replica, Work, KEPT, OPEN};
 
 impl Replica {
     /// Takes a notice.
@@ -57,8 +57,8 @@ impl Replica {
             count: 0,
             slot: self.turn,
         };
-        let mut next = Box::new([0; BLOCK]);
-        block::encode_records(&header, NONE.into_iter(), &mut next);
+        let next = &mut self.window[self.turn as usize % KEPT];
+        block::encode_records(&header, NONE.into_iter(), next);
         self.turn += 1;
         Work {
             sender,
@@ -66,7 +66,7 @@ impl Replica {
             moved: true,
             aborted: [0; OPEN],
             count: 0,
-            append: Some(next),
+            append: true,
         }
     }
 }

@@ -4,7 +4,7 @@ use model::block::{self, BLOCK, ENTRY, HEADER, RECORD, RECORD_HEAD};
 use model::notice::{self, Notice};
 use model::replica::ITEMS;
 
-use super::Replica;
+use super::{Replica, KEPT};
 
 /// What a restart took up.
 #[derive(Clone, Debug, PartialEq, Eq)]
@@ -69,6 +69,7 @@ impl Replica {
                 self.committed += 1;
             }
         }
+        self.window[self.turn as usize % KEPT] = *block;
         self.turn += 1;
         true
     }

@@ -7,7 +7,7 @@ use model::refusal::{
 };
 use model::replica::SLOTS;
 
-use super::{Replica, Stage, Work, OPEN};
+use super::{Replica, Stage, Work, KEPT, OPEN};
 
 impl Replica {
     /// The block for the own slot at the turn.
@@ -94,7 +94,7 @@ impl Replica {
             moved: true,
             aborted: [0; OPEN],
             count: 0,
-            append: None,
+            append: false,
         };
         if header.kind == NEXT {
             work.append = self.advance(at);
@@ -158,15 +158,15 @@ impl Replica {
         (slot % u32::from(self.n)) as usize
     }
 
-    /// Ends the turn, and gives another's block that it leaves.
-    fn advance(&mut self, place: usize) -> Option<Box<[u8; BLOCK]>> {
+    /// Ends the turn, and gives whether it leaves another's slot.
+    fn advance(&mut self, place: usize) -> bool {
         let left = &mut self.places[place];
-        let append = (place != usize::from(self.own)).then(|| Box::new(*left));
+        self.window[self.turn as usize % KEPT].copy_from_slice(left);
         left[0] = 0;
         self.turn += 1;
         self.done = 0;
         self.sent = false;
         self.applying = false;
-        append
+        place != usize::from(self.own)
     }
 }

@@ -2,9 +2,11 @@
 
 use super::{local_call, Seen, Style, Tally};
 use crate::block::{self, Entry, Message, Record, BLOCK, MAX_TICKET, NEXT, TO_COMMIT};
+use crate::giving::{self, DOWN};
 use crate::replica::{Report, SLOTS};
 use crate::samples::{self, break_form, damage, Random};
 use crate::trace::{Answer, Call};
+use crate::window::{Window, WINDOW};
 
 /// What is known of a replica from its calls and answers, and so what it may be sent next.
 pub struct Peers {
@@ -56,6 +58,67 @@ impl Peers {
             },
             _ => Call::Work,
         }
+    }
+
+    /// Turns that are told for a giving, and the window that is lent: most often with all that is to be given.
+    /// The blocks at the ends of that are of their slots; between them some may be damaged, or of others.
+    pub fn random_giving(&self, random: &mut Random, style: Style) -> (Vec<u32>, Window) {
+        let (n, turn) = (self.n as usize, self.tally.report.turn);
+        let near = turn + 1 + random.below(2 * n) as u32;
+        let to = match random.below(10) {
+            0 => turn.saturating_sub(random.below(3) as u32),
+            1 => turn + random.pick(&[62, 63, 64, 65, 66]),
+            2 => random.pick(&[DOWN - 1, SLOTS, SLOTS + 1, near + 70]),
+            _ => near,
+        };
+        let mut told = |_| match random.below(6) {
+            0 => DOWN,
+            1 => to,
+            _ => to.saturating_sub(random.below(4) as u32),
+        };
+        let mut turns: Vec<u32> = (0..n).map(&mut told).collect();
+        if random.below(25) == 0 {
+            turns.resize(random.pick(&[0, n - 1, n + 1]), to);
+        }
+        let own = self.tally.number().unwrap_or(0);
+        let giver = giving::giver(own, &turns).map_or(0, usize::from);
+        let to = turns.get(giver).copied().unwrap_or(0).min(SLOTS);
+        let last = match random.below(20) {
+            0 => to.saturating_sub(1),
+            1 => to + random.below(3) as u32,
+            _ => to,
+        };
+        let last = last.min(SLOTS);
+        let first = match random.below(20) {
+            0 => turn + 1,
+            1..10 => turn,
+            _ => turn.saturating_sub(random.below(5) as u32),
+        };
+        let first = first.max(last.saturating_sub(WINDOW as u32)).min(last);
+        // Those at the ends of what is to be given say whether the window has it.
+        let ends = [turn, to.saturating_sub(1)];
+        let block = |slot| self.kept(random, slot, !ends.contains(&slot), style.items);
+        let blocks: Vec<_> = (first..last).map(block).collect();
+        (turns, Window::of(first, blocks))
+    }
+
+    /// A block of a window: what was sent or taken for the slot, if that is known, or a forged one.
+    fn kept(&self, random: &mut Random, slot: u32, any: bool, items: usize) -> [u8; BLOCK] {
+        let of_slot = |block: &&[u8; BLOCK]| block::header(block).slot == slot;
+        let known = self.recent.iter().rev().chain(&self.own).find(of_slot);
+        let mut block = match known {
+            Some(block) => *block,
+            None => self.forged(random, slot, items),
+        };
+        match random.below(60) {
+            // Behind slot and kind.
+            0 => damage(random, &mut block[16..]),
+            1 if any => break_form(random, &mut block),
+            2 if any => block = self.forged(random, (slot + 1).min(SLOTS - 1), items),
+            3 if any => block = block::encode(&samples::message(random)),
+            _ => {}
+        }
+        block
     }
 
     /// Takes in the answer to a call.

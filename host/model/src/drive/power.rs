@@ -2,6 +2,7 @@
 
 use super::{start_values, Group, Subject};
 use crate::block::{self, BLOCK};
+use crate::giving::Returner;
 use crate::journal;
 use crate::replica::{Replica, Report, Restarted, ITEMS};
 use crate::samples::Random;
@@ -61,6 +62,15 @@ impl Subject for Machine {
     }
 }
 
+impl Returner for Machine {
+    fn replica(&self) -> &Replica {
+        &self.replica
+    }
+    fn call(&mut self, call: &Call) -> Result<Answer, u8> {
+        Subject::call(self, call)
+    }
+}
+
 impl Powered for Machine {
     fn disk(&self) -> &[u8] {
         &self.disk
@@ -76,7 +86,7 @@ impl Powered for Machine {
     }
     fn ended(&mut self, call: &Call) {
         let floor = self.floor;
-        let _ = self.call(call);
+        let _ = Subject::call(self, call);
         self.floor = floor;
     }
 }
@@ -111,6 +121,7 @@ impl<S: Powered> Group<S> {
         self.observer.feed_restart(k, &restart, &answer);
         self.tallies[k].feed_restart(&restart, &answer);
         self.waits.feed_restart(k);
+        self.reached[k] = self.members[k].values();
         self.given.retain(|&(member, _)| member != k);
         self.seen.restarts += 1;
         let restarted = answer.expect("a restart is lent what the make was");

@@ -134,6 +134,12 @@ impl<S: Subject> Group<S> {
         self.said(about).get(taken.count()..).unwrap_or_default()
     }
 
+    /// The lowest slot of a notice that a member has not taken.
+    pub(super) fn first_lacking(&self, member: usize) -> Option<u32> {
+        let next = (0..self.replicas).filter_map(|about| self.lacking(member, about).first());
+        next.map(|notice| notice.slot).min()
+    }
+
     /// A member takes the next notice about a replica, if it lacks one of a slot at or below this.
     fn take_next(&mut self, member: usize, about: usize, slot: u32) -> Option<Result<Notice, u8>> {
         let next = *self.lacking(member, about).first()?;

@@ -62,6 +62,11 @@ impl Tally {
         }
     }
 
+    /// Its number in the group, if it is a replica's.
+    pub fn number(&self) -> Option<u8> {
+        self.own
+    }
+
     /// Whether it is a station's.
     pub fn is_station(&self) -> bool {
         self.own.is_none()

@@ -4,6 +4,12 @@ use super::hex;
 use crate::notice::{Kind, Notice};
 use crate::trace::Call;
 
+/// The line of a giving at a place, told these turns.
+pub fn giving_line(place: usize, turns: &[u32]) -> String {
+    let turns: Vec<String> = turns.iter().map(u32::to_string).collect();
+    format!("G {place} {}", turns.join(" "))
+}
+
 /// The line of a call at a place. Bytes are written out; a line may have room for fewer.
 pub fn line(place: usize, call: &Call) -> String {
     let k = place;

@@ -35,6 +35,10 @@ pub(super) enum Line {
     Journal {
         i: u32,
     },
+    /// A giving, told these turns.
+    Give {
+        turns: Vec<u32>,
+    },
     Values,
     /// A block that was sent in this run, maybe with a bit changed.
     Deliver {
@@ -72,6 +76,12 @@ pub(super) fn line(line: &[u8]) -> Option<(usize, Line)> {
             journal: bytes(hex, MAX_JOURNAL)?,
         },
         (b"J", [i]) => Line::Journal { i: number(i)? },
+        (b"G", turns) => Line::Give {
+            turns: turns
+                .iter()
+                .map(|turn| number(turn))
+                .collect::<Option<_>>()?,
+        },
         (b"V", []) => Line::Values,
         (b"D", [i]) => Line::Deliver {
             i: number(i)?,

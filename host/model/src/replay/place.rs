@@ -1,6 +1,7 @@
 //! A replica or station of the program, and the journal that is kept of a replica.
 
 use crate::block::BLOCK;
+use crate::giving::Returner;
 use crate::notice::Notice;
 use crate::replica::{Replica, ITEMS};
 use crate::trace::{Answer, Call};
@@ -79,5 +80,14 @@ impl Place {
     pub fn block(&self, i: usize) -> Option<&[u8; BLOCK]> {
         let (blocks, _) = self.journal()?.as_chunks();
         blocks.get(i)
+    }
+}
+
+impl Returner for Place {
+    fn replica(&self) -> &Replica {
+        &self.replica
+    }
+    fn call(&mut self, call: &Call) -> Result<Answer, u8> {
+        Place::call(self, call)
     }
 }

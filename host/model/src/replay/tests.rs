@@ -1,5 +1,6 @@
 //! The format, line by line.
 
+mod givings;
 mod notices;
 mod restarts;
 mod stations;

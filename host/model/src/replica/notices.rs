@@ -63,7 +63,7 @@ impl Replica {
     }
 
     /// A work on an out slot. No place is touched: none holds a block of it.
-    pub(super) fn pass_out(&mut self) -> (Work, Option<Message>) {
+    pub(super) fn pass_out(&mut self) -> Work {
         let next = self.next_of_turn();
         let work = Work {
             sender: next.sender,
@@ -71,7 +71,7 @@ impl Replica {
             moved: true,
             aborted: Vec::new(),
         };
-        self.leave_slot();
-        (work, Some(next))
+        self.leave_slot(&block::encode(&next));
+        work
     }
 }

@@ -32,9 +32,9 @@ impl Replica {
     /// The notices are all that were taken, in order. They are in force without a test, and are not
     /// compared with the blocks; the block given back is of a slot that none of them puts out.
     ///
-    /// Nothing is open, asked, sent or waiting then, and no table of classes is loaded. The tickets up
-    /// to the highest in an own block count as given, those in own blocks as committed and the others
-    /// as aborted.
+    /// Nothing is open, asked, sent or waiting then, and no table of classes is loaded; the window has the
+    /// last blocks committed. The tickets up to the highest in an own block count as given, those in own
+    /// blocks as committed and the others as aborted.
     pub fn restart(
         n: u32,
         own: u32,
@@ -75,6 +75,7 @@ impl Replica {
                 self.committed += 1;
             }
         }
+        self.window.keep(*bytes);
         self.turn += 1;
     }
 }

@@ -68,7 +68,7 @@ fn own_block_that_was_not_sent() {
 }
 
 /// A work on an own writeset that is not open as sent: values, stamps and the commit count change, and what
-/// is done of the block; nothing else but where it is the last.
+/// is done of the block; nothing else but where it is the last, and the block goes into the window.
 fn commits_and_ends_nobody(replica: &mut Replica) {
     let before = replica.clone();
     let message = before.inbox[0].clone().unwrap();
@@ -89,6 +89,7 @@ fn commits_and_ends_nobody(replica: &mut Replica) {
     if work.moved {
         (due.done, due.turn) = (0, before.turn + 1);
         (due.inbox[0], due.outbox) = (None, None);
+        due.window.keep(block::encode(&message));
     }
     assert!(!replica.applying);
     assert_eq!(*replica, due);

@@ -1,7 +1,7 @@
 //! The calls that move the turn (document 01's "What moves the turn").
 
 use super::{Replica, Stage, Transaction, Work, ITEMS, SLOTS};
-use crate::block::{self, Header, Message, Record, BLOCK, NEXT, TO_COMMIT};
+use crate::block::{self, Header, Record, BLOCK, NEXT, TO_COMMIT};
 use crate::refusal::{
     ALREADY_SENT, FAR_SLOT, NOTHING_WAITS, NOT_OUR_TURN, NOT_SENT, PAST_SLOT, SLOTS_SPENT,
     SLOT_OUT, SLOT_TAKEN, STATION_ONLY_READS, WRONG_GROUP, WRONG_LENGTH,
@@ -93,31 +93,6 @@ impl Replica {
     /// Takes one step at the turn's message: commits its next writeset, or passes over a message
     /// without records. An out slot is passed as by such a message, and needs none. Refused by 21.
     pub fn work(&mut self) -> Result<Work, u8> {
-        let (work, _) = self.step()?;
-        Ok(work)
-    }
-
-    /// As [`Replica::work`]; and beside the answer, if the turn left the slot of another, that one's
-    /// block, or of an out slot the *next*, which is to be appended to the journal. An own block stands
-    /// there since its send, but not the *next* of an own slot that is out; and a station has no journal.
-    pub fn work_journaled(&mut self) -> Result<(Work, Option<[u8; BLOCK]>), u8> {
-        let out = self.is_out(self.turn);
-        let (work, left) = self.step()?;
-        let is_new = |message: &Message| out || !self.is_own(message.sender);
-        // A message has one block, so these are the bytes that were delivered.
-        let appended = left.filter(|message| !self.is_station() && is_new(message));
-        Ok((work, appended.as_ref().map(block::encode)))
-    }
-
-    /// The block that waits for the turn, if one does: the bytes that were delivered.
-    pub fn waiting(&self) -> Option<[u8; BLOCK]> {
-        self.inbox[self.owner(self.turn)]
-            .as_ref()
-            .map(block::encode)
-    }
-
-    /// A work, and the message of the slot that the turn left.
-    fn step(&mut self) -> Result<(Work, Option<Message>), u8> {
         if self.is_out(self.turn) {
             return Ok(self.pass_out());
         }
@@ -131,7 +106,8 @@ impl Replica {
             aborted: Vec::new(),
         };
         let Some(record) = message.records.get(self.done) else {
-            return Ok((work, self.advance()));
+            self.advance();
+            return Ok(work);
         };
         work.ticket = record.ticket;
         work.moved = self.done + 1 == message.records.len();
@@ -157,12 +133,33 @@ impl Replica {
         self.commits += 1;
         put(record, self.commits, &mut self.values, &mut self.stamps);
         self.done += 1;
-        let left = work.moved.then(|| self.advance()).flatten();
+        if work.moved {
+            self.advance();
+        }
+        Ok(work)
+    }
+
+    /// As [`Replica::work`]; and beside the answer, if the turn left the slot of another, that one's
+    /// block, or of an out slot the *next*, which is to be appended to the journal. An own block stands
+    /// there since its send, but not the *next* of an own slot that is out; and a station has no journal.
+    pub fn work_journaled(&mut self) -> Result<(Work, Option<[u8; BLOCK]>), u8> {
+        let out = self.is_out(self.turn);
+        let work = self.work()?;
+        let is_new = !self.is_station() && (out || !self.is_own(work.sender));
+        let left = self.window.last().filter(|_| work.moved && is_new);
+        let left = left.copied();
         Ok((work, left))
     }
 
+    /// The block that waits for the turn, if one does: the bytes that were delivered.
+    pub fn waiting(&self) -> Option<[u8; BLOCK]> {
+        self.inbox[self.owner(self.turn)]
+            .as_ref()
+            .map(block::encode)
+    }
+
     /// The replica that a slot belongs to. Its message waits at that index of the inbox.
-    pub(super) fn owner(&self, slot: u32) -> usize {
+    pub(crate) fn owner(&self, slot: u32) -> usize {
         slot as usize % self.inbox.len()
     }
 
@@ -171,14 +168,17 @@ impl Replica {
         self.own == Some(sender)
     }
 
-    /// Ends the turn, and gives the message of the slot that it was.
-    fn advance(&mut self) -> Option<Message> {
+    /// Leaves the slot of the message that waits. It has one block, so the bytes are those that were delivered.
+    fn advance(&mut self) {
         let owner = self.owner(self.turn);
-        self.leave_slot();
-        self.inbox[owner].take()
+        if let Some(message) = self.inbox[owner].take() {
+            self.leave_slot(&block::encode(&message));
+        }
     }
 
-    pub(super) fn leave_slot(&mut self) {
+    /// Ends the turn, and keeps the block of the slot that it was.
+    pub(super) fn leave_slot(&mut self, block: &[u8; BLOCK]) {
+        self.window.keep(*block);
         self.turn += 1;
         self.outbox = None;
         self.done = 0;

@@ -1,10 +1,13 @@
 //! The lines of a scene, and its commands.
 
+mod rest;
+
 use std::fmt;
 use std::ops::RangeInclusive;
-use std::str::{FromStr, SplitWhitespace};
 
+use self::rest::Rest;
 use crate::block::{BLOCK, ENTRIES, RECORDS};
+use crate::giving::DOWN;
 use crate::notice::Notice;
 use crate::replica::ITEMS;
 use crate::trace::Call;
@@ -84,6 +87,14 @@ pub(super) enum Local {
     },
     /// Whether nothing comes to it by `stabilize`.
     Close(bool),
+    /// A giving, told these turns; or those that the others have.
+    Give {
+        turns: Option<Vec<u32>>,
+    },
+    /// Sends and works, until the turn is this.
+    Alone {
+        to: u32,
+    },
 }
 
 /// Bytes on their way to a replica.
@@ -155,89 +166,16 @@ pub(super) fn lines(text: &str) -> Result<Vec<FileLine<'_>>, (usize, String)> {
     }
 }
 
-/// What is left of a line, word by word.
-struct Rest<'a> {
-    words: SplitWhitespace<'a>,
-}
-
-impl<'a> Rest<'a> {
-    fn peek(&self) -> Option<&'a str> {
-        self.words.clone().next()
-    }
-
-    /// Whether this word is next; then it is taken.
-    fn takes(&mut self, word: &str) -> bool {
-        let is = self.peek() == Some(word);
-        if is {
-            self.words.next();
-        }
-        is
-    }
-
-    fn word(&mut self, word: &str) -> Result<(), String> {
-        match self.words.next() {
-            Some(found) if found == word => Ok(()),
-            Some(found) => Err(format!("{word:?} is due, and not {found:?}")),
-            None => Err(format!("{word:?} is due, and not the line's end")),
-        }
-    }
-
-    fn number<T: FromStr>(&mut self) -> Result<T, String> {
-        let word = self.words.next();
-        let word = word.ok_or("a number is due, and not the line's end")?;
-        let number = word.parse();
-        number.map_err(|_| format!("{word:?} is no number, or out of range here"))
-    }
-
-    /// A number behind its name.
-    fn named<T: FromStr>(&mut self, name: &str) -> Result<T, String> {
-        self.word(name)?;
-        self.number()
-    }
-
-    /// A number behind its name, if the name is next.
-    fn maybe<T: FromStr>(&mut self, name: &str) -> Result<Option<T>, String> {
-        match self.takes(name) {
-            true => self.number().map(Some),
-            false => Ok(None),
-        }
-    }
-
-    fn within(&mut self, range: RangeInclusive<usize>) -> Result<usize, String> {
-        let number = self.number()?;
-        let (first, last) = (range.start(), range.end());
-        match range.contains(&number) {
-            true => Ok(number),
-            false => Err(format!("{number} is not {first} to {last}")),
-        }
-    }
-
-    /// From one number to another, at most to the last, behind a name.
-    fn range(&mut self, name: &str, last: usize) -> Result<RangeInclusive<usize>, String> {
-        self.word(name)?;
-        let first = self.within(0..=last)?;
-        self.word("to")?;
-        Ok(first..=self.within(first..=last)?)
-    }
-
-    fn end(&mut self) -> Result<(), String> {
-        match self.words.next() {
-            None => Ok(()),
-            Some(word) => Err(format!("{word:?} is one word too many, or no such word")),
-        }
-    }
-}
-
 /// The commands at one replica, whose number stands behind them, or at the station.
-const LOCAL: [&str; 20] = [
+const LOCAL: [&str; 22] = [
     "begin", "read", "write", "ask", "withdraw", "report", "send", "deliver", "take", "work",
-    "load", "out", "back", "restart", "journal", "values", "late", "lose", "close", "open",
+    "load", "out", "back", "restart", "journal", "values", "late", "lose", "close", "open", "give",
+    "alone",
 ];
 
 fn command(line: &str) -> Result<Command, String> {
-    let words = line.split_whitespace();
-    let mut rest = Rest { words };
-    let name = rest.words.next().unwrap_or_default();
+    let mut rest = Rest::of(line);
+    let name = rest.next().unwrap_or_default();
     let command = match name {
         "make" if rest.takes("station") => Command::MakeStation {
             n: rest.maybe("of")?,
@@ -282,6 +220,12 @@ fn local(name: &str, rest: &mut Rest) -> Result<Local, String> {
         "close" => Local::Close(true),
         "open" => Local::Close(false),
         "values" => Local::Values,
+        "give" => Local::Give {
+            turns: rest.takes("turns").then(|| turns(rest)).transpose()?,
+        },
+        "alone" => Local::Alone {
+            to: rest.named("to")?,
+        },
         "late" => Local::Late {
             slots: rest.named("slots")?,
             tickets: rest.named("tickets")?,
@@ -328,6 +272,18 @@ fn call(name: &str, rest: &mut Rest) -> Result<Call, String> {
         "begin" => Call::Begin,
         _ => return Err(unknown(name)),
     })
+}
+
+/// Turns that are told, one at least.
+fn turns(rest: &mut Rest) -> Result<Vec<u32>, String> {
+    let mut turns = Vec::new();
+    while turns.is_empty() || rest.peek().is_some() {
+        turns.push(match rest.takes("down") {
+            true => DOWN,
+            false => rest.number()?,
+        });
+    }
+    Ok(turns)
 }
 
 /// Bytes to deliver: whose block, and what is changed of it.

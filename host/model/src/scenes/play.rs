@@ -6,11 +6,13 @@ use super::parse::{Carried, Change, Command, Local, Source, Who};
 use super::words;
 use super::{Player, Words};
 use crate::block::{self, BLOCK};
+use crate::giving::{self, DOWN};
 use crate::notice::{self, Notice};
 use crate::refusal::{FAR_SLOT, NOTHING_WAITS, PAST_SLOT, SLOT_TAKEN};
 use crate::replica::ITEMS;
 use crate::samples::{block_of, Writes};
 use crate::trace::{Answer, Call, Restart};
+use crate::window::Window;
 
 /// The most passes of one `stabilize`, and the most works in a row: far more than any scene needs.
 const PASSES: usize = 200;
@@ -150,6 +152,11 @@ impl<P: Player, M: Fn(u32, Option<u32>, &[i32; ITEMS]) -> Result<P, u8>> Playing
                 self.player(who).lose(*ticket);
                 format!("ticket {ticket} is gone from the memory of {who}")
             }
+            (Local::Give { turns }, Who::Replica(k)) => self.give(k, turns.as_deref())?,
+            (Local::Give { .. }, Who::Station) => {
+                return Err("a station is not given what it missed".to_string());
+            }
+            (Local::Alone { to }, _) => self.alone(who, *to)?,
             (Local::Close(true), _) => {
                 self.closed.insert(who);
                 format!("{who} is closed")
@@ -249,6 +256,45 @@ impl<P: Player, M: Fn(u32, Option<u32>, &[i32; ITEMS]) -> Result<P, u8>> Playing
             }
         }
         moved
+    }
+
+    /// A giving. Who is closed is down, where nothing is said of the turns.
+    fn give(&mut self, k: usize, turns: Option<&[u32]>) -> Result<String, String> {
+        let up = |g: usize| !self.closed.contains(&Who::Replica(g));
+        let told = |g: usize| match up(g) {
+            true => self.players[g].report().turn,
+            false => DOWN,
+        };
+        let turns = match turns {
+            Some(turns) if turns.len() != self.players.len() => {
+                return Err(format!("{} turns are told", self.players.len()));
+            }
+            Some(turns) => turns.to_vec(),
+            None => (0..self.players.len()).map(told).collect(),
+        };
+        let window = match giving::giver(k as u8, &turns) {
+            Some(giver) => self.players[usize::from(giver)].window(),
+            None => Window::empty(0),
+        };
+        let from = self.players[k].report().turn;
+        let given = self.players[k].give(&turns, &window);
+        let slots = from..self.players[k].report().turn;
+        Ok(words::given(k, &given, slots, self.words))
+    }
+
+    /// Sends where it is to, and works, until the turn is there: all others are out.
+    fn alone(&mut self, who: Who, to: u32) -> Result<String, String> {
+        while self.player(who).report().turn < to {
+            if let Ok(Answer::Block(block)) = self.call(who, &Call::Send).1 {
+                let bytes = block.to_vec();
+                let _ = self.call(who, &Call::Deliver { bytes });
+            }
+            if self.call(who, &Call::Work).1.is_err() {
+                return Err(format!("{who} cannot go on alone"));
+            }
+        }
+        let turn = self.player(who).report().turn;
+        Ok(format!("{who} goes on alone to slot {turn}"))
     }
 
     /// A restart from what is on the replica's disk, or from the first bytes of it, or with a bit

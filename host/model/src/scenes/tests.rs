@@ -92,6 +92,18 @@ fn wrong_commands() {
             r#""-1" is no number, or out of range here"#,
         ),
         ("close 2", "replica 2 is not made"),
+        ("give 0 turns", "a number is due, and not the line's end"),
+        ("give 0 turns 1 down 1", "2 turns are told"),
+        (
+            "give 0 turns 1 up",
+            r#""up" is no number, or out of range here"#,
+        ),
+        (
+            "give 0 down 1",
+            r#""down" is one word too many, or no such word"#,
+        ),
+        ("alone 0 to 2", "replica 0 cannot go on alone"),
+        ("alone 0", r#""to" is due, and not the line's end"#),
         ("begin station", "the station is not made"),
         (
             "make station 2",
@@ -128,6 +140,7 @@ fn wrong_commands_at_a_station() {
         ("load station class 1", "a station has no classes"),
         ("restart station", "a station has no journal"),
         ("journal station", "a station has no journal"),
+        ("give station", "a station is not given what it missed"),
         (
             "begin station 0",
             r#""0" is one word too many, or no such word"#,
@@ -230,6 +243,21 @@ fn notices_in_a_scene() {
     assert!(
         anew.ends_with("replica 0 refuses by 28: another\n"),
         "{anew}"
+    );
+}
+
+/// Told nothing else, a giving is told the turns that the others have; closed ones are down.
+#[test]
+fn givings_in_a_scene() {
+    let text =
+        "# A scene.\nmake 3\nclose 2\nsend 0\nstabilize\ngive 2\nclose 0\nclose 1\ngive 2\n----\n";
+    let said = played(text).unwrap();
+    assert!(
+        said.ends_with(
+            "replica 2 comes back: replica 0 gives slot 0\nreplica 0 is closed\n\
+             replica 1 is closed\nreplica 2 refuses by 30: another\n"
+        ),
+        "{said}"
     );
 }
 

@@ -1,9 +1,13 @@
 //! Answers in words.
 
+use std::ops::Range;
+
 use super::parse::Who;
 use super::Words;
 use crate::block::{self, Message, BLOCK};
+use crate::giving::Given;
 use crate::notice::{Kind, Notice};
+use crate::refusal::NOT_IN_WINDOW;
 use crate::replica::{Report, Restarted, Work, ITEMS};
 use crate::trace::{Answer, Call};
 
@@ -80,19 +84,40 @@ fn worked(work: &Work, out: Option<u32>) -> String {
         (0, None) => format!("passes over the block of replica {sender}"),
         (ticket, _) => format!("commits ticket {ticket} of replica {sender}"),
     };
-    if !work.aborted.is_empty() {
-        let tickets = if work.aborted.len() == 1 {
-            "ticket"
-        } else {
-            "tickets"
-        };
-        said += &format!("; aborts its own {tickets} {}", list(&work.aborted));
-    }
+    said += &aborts(&work.aborted);
     said += match work.moved {
         true => "; the turn moves",
         false => "; the turn stays",
     };
     said
+}
+
+fn aborts(tickets: &[u32]) -> String {
+    match tickets {
+        [] => String::new(),
+        [ticket] => format!("; aborts its own ticket {ticket}"),
+        _ => format!("; aborts its own tickets {}", list(tickets)),
+    }
+}
+
+/// A giving at a replica, in which the turn passed these slots.
+pub(super) fn given(k: usize, given: &Given, slots: Range<u32>, words: Words) -> String {
+    let who = Who::Replica(k);
+    let giver = given
+        .giver
+        .map_or(String::new(), |g| format!("replica {g}"));
+    let what = match slots.len() {
+        0 => "nothing".to_string(),
+        1 => format!("slot {}", slots.start),
+        _ => format!("slots {} to {}", slots.start, slots.end - 1),
+    };
+    let gives = format!("{giver} gives {what}{}", aborts(&given.aborted));
+    match (given.number, given.giver) {
+        (0, _) => format!("{who} comes back: {gives}"),
+        (NOT_IN_WINDOW, _) => format!("{}; {giver} is asked", refusal(who, NOT_IN_WINDOW, words)),
+        (number, Some(_)) => format!("{}; before that {gives}", refusal(who, number, words)),
+        (number, None) => refusal(who, number, words),
+    }
 }
 
 /// Slot and writesets of a block that was handed out.

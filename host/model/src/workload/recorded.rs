@@ -1,17 +1,20 @@
 //! Groups with a membership service and stations (document 02, Req 10), driven at random as
 //! [`crate::drive`] does it, each call a line of the list. Replicas are closed and come back; in some
-//! rounds they lose power, and in the last ones any notice comes to anybody.
+//! rounds they lose power, and in the last ones any notice comes to anybody. In rounds of their own those that
+//! come back are given what they missed (Req 11).
 
 use std::cell::RefCell;
 use std::rc::Rc;
 
 use super::List;
 use crate::block::BLOCK;
-use crate::drive::{Group, Machine, Powered, Style, Subject};
-use crate::replay::{line, show, JOURNAL, KEPT, NOTICES};
+use crate::drive::{Gives, Group, Machine, Powered, Style, Subject};
+use crate::giving::Given;
+use crate::replay::{giving_line, line, show, show_given, JOURNAL, KEPT, NOTICES};
 use crate::replica::{Replica, Report, Restarted, ITEMS};
 use crate::samples::Random;
 use crate::trace::{Answer, Call, Restart};
+use crate::window::Window;
 
 /// The first place of a station.
 const STATION: usize = 6;
@@ -21,6 +24,8 @@ const CALLS: usize = 700;
 const VALUE: i32 = -4;
 /// Apart from the seeds of the other random groups.
 pub(super) const FIRST_SEED: u64 = 2_000;
+/// The seed of the first round with givings.
+pub(super) const GIVING_SEED: u64 = 3_000;
 
 /// How a round's calls are chosen.
 pub(super) struct Round {
@@ -30,6 +35,8 @@ pub(super) struct Round {
     cuts: usize,
     /// Whether any notice may come to anybody. Then the copies need not be equal.
     pub any: bool,
+    /// One call in so many is a giving, if this is not 0.
+    givings: usize,
 }
 
 const fn round(n: usize, stations: usize, cuts: usize, any: bool) -> Round {
@@ -38,6 +45,7 @@ const fn round(n: usize, stations: usize, cuts: usize, any: bool) -> Round {
         stations,
         cuts,
         any,
+        givings: 0,
     }
 }
 
@@ -52,6 +60,28 @@ pub(super) const ROUNDS: [Round; 9] = [
     round(2, 0, 40, true),
     round(5, 1, 0, true),
 ];
+
+pub(super) const GIVING_ROUNDS: [Round; 7] = [
+    round(2, 0, 0, false).with_givings(12),
+    round(3, 1, 60, false).with_givings(15),
+    round(4, 0, 60, false).with_givings(15),
+    round(5, 0, 0, false).with_givings(20),
+    round(6, 0, 60, false).with_givings(20),
+    round(3, 0, 40, true).with_givings(4),
+    round(4, 1, 0, true).with_givings(4),
+];
+
+impl Round {
+    const fn with_givings(self, givings: usize) -> Round {
+        Round { givings, ..self }
+    }
+}
+
+pub(super) fn with_givings(list: &mut List) {
+    for (round, seed) in GIVING_ROUNDS.iter().zip(GIVING_SEED..) {
+        play(list, round, seed);
+    }
+}
 
 pub(super) fn all(list: &mut List) {
     for (round, seed) in ROUNDS.iter().zip(FIRST_SEED..) {
@@ -124,6 +154,17 @@ impl Subject for Recorded {
     }
 }
 
+impl Gives for Recorded {
+    fn window(&self) -> Window {
+        self.machine.window()
+    }
+    fn give(&mut self, turns: &[u32], window: &Window) -> Given {
+        let given = self.machine.give(turns, window);
+        self.line(&giving_line(self.place, turns), &show_given(&given));
+        given
+    }
+}
+
 impl Powered for Recorded {
     fn disk(&self) -> &[u8] {
         self.machine.disk()
@@ -167,6 +208,7 @@ fn drive(list: &Rc<RefCell<List>>, round: &Round, seed: u64) -> Vec<usize> {
         stations,
         cuts,
         any,
+        givings,
     } = round;
     let mut random = Random::new(seed);
     let members = (0..n).map(|own| Recorded::make(list, own, n, Some(own)));
@@ -177,7 +219,9 @@ fn drive(list: &Rc<RefCell<List>>, round: &Round, seed: u64) -> Vec<usize> {
     }
     for _ in 0..CALLS {
         let may_cut = cuts > 0 && group.members.iter().all(Recorded::is_kept);
-        if may_cut && random.below(cuts) == 0 {
+        if givings > 0 && random.below(givings) == 0 {
+            giving(&mut group, &mut random, any, may_cut);
+        } else if may_cut && random.below(cuts) == 0 {
             group.random_cut(&mut random);
         } else if any && random.below(10) == 0 {
             group.any_notice(&mut random);
@@ -193,6 +237,20 @@ fn drive(list: &Rc<RefCell<List>>, round: &Round, seed: u64) -> Vec<usize> {
     let mut ends = group.open_replicas();
     ends.extend(group.stations());
     ends.into_iter().map(|k| group.members[k].place).collect()
+}
+
+/// A giving, behind a holiday or cut off in the middle now and then.
+fn giving(group: &mut Group<Recorded>, random: &mut Random, any: bool, may_cut: bool) {
+    match random.below(8) {
+        _ if any => group.any_giving(random),
+        0 => {
+            let slots = random.pick(&[5, 20, 63, 64, 65]);
+            group.holiday(random.pick(&group.open_replicas()), slots);
+            group.random_giving(random);
+        }
+        1 if may_cut => drop(group.random_cut_giving(random)),
+        _ => group.random_giving(random),
+    }
 }
 
 impl Recorded {

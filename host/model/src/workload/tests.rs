@@ -13,6 +13,28 @@ fn answers(list: &List, letter: &str) -> Vec<String> {
     chosen.map(|(_, answer)| answer).collect()
 }
 
+/// The answers to the lines of a part, each without the digits of a block and without the rest of a report.
+pub(super) fn shown(part: impl Fn(&mut List)) -> String {
+    let mut list = List::default();
+    part(&mut list);
+    let mut replay = Replay::default();
+    let text = String::from_utf8(list.lines()).unwrap();
+    let short = |line: &str| {
+        let answer = replay.answer(line.as_bytes());
+        let fields = answer
+            .split(' ')
+            .take(if line.starts_with('Q') { 2 } else { 5 });
+        let fields = fields.map(|field| match field.len() {
+            1024 if field.starts_with("00") => "none".to_string(),
+            // Of a block its slot.
+            1024 => format!("#{}", u8::from_str_radix(&field[8..10], 16).unwrap()),
+            _ => field.to_string(),
+        });
+        fields.collect::<Vec<_>>().join(" ")
+    };
+    text.split('\n').map(short).collect::<Vec<_>>().join(", ")
+}
+
 /// That the replicas at these places have the same turn, commits and values.
 fn agree(list: &List, places: &[usize]) {
     let first = list.replica(places[0]);
@@ -213,4 +235,57 @@ fn rounds_with_notices() {
     }
     assert!(passed > 300 && own > 50, "{passed}, {own}");
     assert!(lent > 40 && refused > 15, "{lent}, {refused}");
+}
+
+/// Groups in which replicas come back and are given what they missed end with equal copies; where anything is told
+/// and any notice comes, some do not.
+#[test]
+fn rounds_with_givings() {
+    let mut list = List::default();
+    let mut differ = 0;
+    for (round, seed) in recorded::GIVING_ROUNDS.iter().zip(recorded::GIVING_SEED..) {
+        let places = recorded::play(&mut list, round, seed);
+        if !round.any {
+            agree(&list, &places);
+        }
+        let first = list.replica(places[0]).values();
+        differ += i32::from(places.iter().any(|&k| list.replica(k).values() != first));
+    }
+    assert!(differ > 0, "any notice does no harm");
+    let mut replay = Replay::default();
+    // Given something, nothing, refused by 30 and 31, ended by a deliver; tickets aborted; slots given.
+    let mut seen = [0; 5];
+    let (mut aborted, mut slots, mut most) = (0, 0, 0);
+    let text = String::from_utf8(list.text).unwrap();
+    for line in text.lines().map(str::as_bytes) {
+        let turn = |replay: &Replay| Some(replay.replica(usize::from(line[2] - b'0'))?.turn);
+        let before = turn(&replay);
+        let answer = replay.answer(line);
+        if line[0] != b'G' {
+            continue;
+        }
+        let given = turn(&replay).unwrap() - before.unwrap();
+        let fields: Vec<&str> = answer.split(' ').collect();
+        seen[match fields[0] {
+            "0" if given > 0 => 0,
+            "0" => 1,
+            "30" => 2,
+            "31" => 3,
+            _ => 4,
+        }] += 1;
+        aborted += fields.len().saturating_sub(3);
+        slots += given;
+        most = given.max(most);
+    }
+    let least = [50, 100, 20, 50, 3];
+    assert!(
+        { seen.iter() }
+            .zip(&least)
+            .all(|(seen, least)| seen > least),
+        "{seen:?}"
+    );
+    assert!(
+        aborted > 3 && slots > 400 && most == 64,
+        "{aborted}, {slots}, {most}"
+    );
 }

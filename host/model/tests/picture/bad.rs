@@ -98,6 +98,36 @@ fn answers_that_do_not_fit() {
             "line 6 is answered 0 1, which is no answer",
         ),
         ("O 0 1", "0", "line 6 is no call of the format"),
+        ("G 0 0 0", "21", "line 6 is answered 21, which is no answer"),
+        (
+            "G 0 0 0",
+            "30 1",
+            "line 6 is answered 30 1, which is no answer",
+        ),
+        ("G 0 0 0", "31", "line 6 is answered 31, which is no answer"),
+        (
+            "G 0 0 0",
+            "0 1",
+            "line 6 is answered 0 1, which is no answer",
+        ),
+        (
+            "G 0 0 0",
+            "0 1 1",
+            "line 6 is answered 0 1 1, which is no answer",
+        ),
+        ("G 0 0 0 0", "0 1 0", "line 6 tells turns of others"),
+        ("G 0 0 0", "0 2 0", "line 6 tells turns of others"),
+        (
+            "G 0 0 0",
+            "19 1 0",
+            "is ended by 19, and all that it is about is given",
+        ),
+        (
+            "G 0 0 0",
+            "0 1 1 7",
+            "aborts ticket 7, which is not open there",
+        ),
+        ("G 0", "30", "line 6 is no call of the format"),
         (
             "D 0 0",
             "0",
@@ -177,6 +207,7 @@ fn refusals_by_call() {
         .lines()
         .take_while(|line| line.starts_with('|'));
     let mut due = vec!["J".to_string(), "V".to_string()];
+    let mut delivers = Vec::new();
     for row in rows {
         let fields: Vec<&str> = row.split('|').map(str::trim).collect();
         let letters = match fields[1] {
@@ -191,11 +222,25 @@ fn refusals_by_call() {
             "send" => "S",
             "deliver" => "DFH",
             "work" => "K",
+            "giving" => "G",
+            // No line of a list.
+            "who gives" => "",
             other => panic!("{other} is a call that pictures do not know"),
         };
-        let numbers = fields[2].split(|sign: char| !sign.is_ascii_digit());
-        let mut numbers: Vec<u32> = numbers.filter_map(|number| number.parse().ok()).collect();
+        let in_text = |text: &str| -> Vec<u32> {
+            let numbers = text.split(|sign: char| !sign.is_ascii_digit());
+            numbers.filter_map(|number| number.parse().ok()).collect()
+        };
+        let mut numbers = in_text(fields[2]);
+        // Behind its own a giving has those of a deliver.
+        if letters == "G" {
+            numbers = in_text(fields[2].split(';').next().unwrap());
+            numbers.extend(&delivers);
+        } else if letters == "DFH" {
+            delivers.clone_from(&numbers);
+        }
         numbers.sort();
+        numbers.dedup();
         let numbers: String = numbers.iter().map(|number| format!(" {number}")).collect();
         due.extend(letters.chars().map(|letter| format!("{letter}{numbers}")));
     }

@@ -4,7 +4,7 @@ use model::block;
 use model::replay::Replay;
 
 use crate::lists::{bytes, List};
-use crate::marks::{elements, is_out, number};
+use crate::marks::{elements, is_out, number, turn};
 
 /// The line of a block, by lines of the list.
 #[derive(Clone, Debug, PartialEq, Eq, PartialOrd, Ord)]
@@ -82,6 +82,15 @@ pub fn due(list: &List, first: usize, last: usize) -> Vec<Line> {
                 let left = (!accepted).then_some(at);
                 let slot = slot.unwrap_or(u32::MAX);
                 all.push(Open { line, slot, left });
+            }
+            // What was in place is worked off; what is given is not delivered by a line.
+            "G" => {
+                let to = turn(&replay, &fields).unwrap();
+                for one in all.iter_mut().filter(here).filter(|one| one.slot < to) {
+                    one.line.step = Some(at);
+                    one.left = Some(at);
+                }
+                turns[place] = to;
             }
             _ if !accepted => {}
             "S" => sent.push((at, bytes(answer[1]))),

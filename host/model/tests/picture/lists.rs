@@ -1,7 +1,8 @@
 //! Seeded lists of calls, with their answers: of the program `replay`, of a recorder, and of a week.
 
 use model::block::{self, BLOCK};
-use model::replay::{hex, line, Replay};
+use model::giving::{self, DOWN};
+use model::replay::{giving_line, hex, line, Replay};
 use model::replica::Replica;
 use model::samples::{self, Random};
 use model::trace::Call;
@@ -62,8 +63,8 @@ fn chosen(random: &mut Random, replica: &Replica) -> (usize, u32, u32) {
 /// A refused call is mostly put off for another.
 const TRIES: usize = 4;
 
-/// Calls at a group of two to five and a station, with notes, lines that are no calls, damaged blocks, notices and
-/// cuts.
+/// Calls at a group of two to five and a station, with notes, lines that are no calls, damaged blocks, notices,
+/// givings and cuts.
 pub fn seeded(seed: u64) -> List {
     let mut random = Random::new(seed);
     let n = 2 + random.below(4);
@@ -115,7 +116,13 @@ fn call(random: &mut Random, replay: &Replay, n: usize, slots: &[u32]) -> String
             let notice = samples::notice(random, n as u32, replica.turn, &replica.notices);
             line(place, &Call::Notice(notice))
         }
-        72..95 => format!("K {place}"),
+        72..74 => {
+            let turn = |g: usize| replay.replica(g).unwrap().turn;
+            let told = |g: usize| random.pick(&[turn(g), turn(g), turn(g), turn(g) + 1, DOWN]);
+            let turns: Vec<u32> = (0..n).map(told).collect();
+            giving_line(place, &turns)
+        }
+        74..95 => format!("K {place}"),
         95 => format!("V {place}"),
         96 => format!("Q {place}"),
         97 => "# a note with <signs> & \"quotes\"".to_string(),
@@ -127,11 +134,14 @@ fn call(random: &mut Random, replay: &Replay, n: usize, slots: &[u32]) -> String
     }
 }
 
-/// The lines of one place, as a recorder writes them: with the bytes that come.
+/// The lines of one place, as a recorder writes them: with the bytes that come, and a giving as its calls.
 pub fn recorded(list: &List, place: usize) -> List {
     let mut blocks: Vec<Vec<u8>> = Vec::new();
     let mut lines = Vec::new();
+    let mut replay = Replay::default();
     for (call, answer) in list.calls.iter().zip(&list.answers) {
+        let before = replay.clone();
+        replay.answer(call.as_bytes());
         if let (true, Some(digits)) = (call.starts_with("S "), answer.strip_prefix("0 ")) {
             blocks.push(bytes(digits));
         }
@@ -145,10 +155,27 @@ pub fn recorded(list: &List, place: usize) -> List {
                 hex(&blocks[fields[2].parse::<usize>().unwrap()])
             ),
             "F" => continue,
+            "G" => {
+                lines.extend(calls_of(&before, place, &fields[2..]));
+                continue;
+            }
             _ => call.clone(),
         });
     }
     List::of(lines)
+}
+
+/// The lines of a giving's calls.
+fn calls_of(replay: &Replay, place: usize, turns: &[&str]) -> Vec<String> {
+    let turns: Vec<u32> = turns.iter().map(|turn| turn.parse().unwrap()).collect();
+    let mut returner = replay.replica(place).unwrap().clone();
+    let Ok(giver) = returner.giver(&turns) else {
+        return vec![giving_line(place, &turns)];
+    };
+    let window = &replay.replica(giver.into()).unwrap().window;
+    let given = giving::give(&mut returner, &turns, window);
+    let calls = given.calls.iter().map(|(call, _)| line(place, call));
+    calls.collect()
 }
 
 /// A week of the model with what it prints, and its replicas in the end. What its calls did is told by the program

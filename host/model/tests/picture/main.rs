@@ -139,7 +139,7 @@ fn check_values(test: &str, list: &List, first: usize, last: usize, picture: &st
 
 #[test]
 fn stored_lists() {
-    for name in ["stems", "early", "sends", "notices"] {
+    for name in ["stems", "early", "sends", "notices", "givings"] {
         let [calls, answers] =
             ["calls", "out"].map(|kind| file(&format!("examples/{name}.{kind}")));
         check(name, &List::stored(&calls, &answers));
@@ -168,7 +168,7 @@ fn parts_of_the_stored_list() {
 #[test]
 fn seeded_lists() {
     let mut all = Vec::new();
-    for seed in 0..5 {
+    for seed in [1, 3, 5, 7, 9] {
         let list = lists::seeded(seed);
         check("seeded", &list);
         check_part("seeded-part", &list, 250, 330);
@@ -179,7 +179,7 @@ fn seeded_lists() {
     }
     let counts = counts(&all);
     println!("{counts:?}");
-    assert_eq!(counts.len(), 15, "{counts:?}");
+    assert_eq!(counts.len(), 16, "{counts:?}");
     assert!(counts.values().all(|&count| count >= 3), "{counts:?}");
 }
 

@@ -3,6 +3,7 @@
 use std::collections::BTreeMap;
 
 use model::replay::{Replay, PLACES};
+use model::replica::Replica;
 
 use crate::lists::List;
 
@@ -49,11 +50,16 @@ pub fn due(list: &List, first: usize, last: usize) -> Vec<Mark> {
         let fields: Vec<&str> = call.split(' ').collect();
         let letter = fields[0];
         let out = is_out(&replay, &fields);
+        let before = turn(&replay, &fields);
         replay.answer(call.as_bytes());
+        let given = turn(&replay, &fields) != before;
         let answer: Vec<&str> = answer.split(' ').collect();
         let kinds: &[&str] = match (letter, answer[0]) {
             (_, "?") if call.starts_with('#') => &[],
             (_, "?") => &["unknown"],
+            ("G", "0") if given => &["give"],
+            ("G", "0") => &["look"],
+            ("G", _) if given => &["give", "refusal"],
             ("W", "9") => &["refusal", "stale"],
             (_, number) if number != "0" => &["refusal"],
             ("S", _) => &["send"],
@@ -69,10 +75,10 @@ pub fn due(list: &List, first: usize, last: usize) -> Vec<Mark> {
             ("C", _) if answer[1] == "1" => &["read-only"],
             _ => &[],
         };
-        let aborted = if letter == "K" && answer[0] == "0" {
-            answer.len() - 5
-        } else {
-            0
+        let aborted = match (letter, answer[0]) {
+            ("K", "0") => answer.len() - 5,
+            ("G", _) => answer.len().saturating_sub(3),
+            _ => 0,
         };
         let kinds = kinds.iter().chain(&["aborted"; 6][..aborted]);
         // A line that is no call is at no place, whatever its fields are.
@@ -90,11 +96,17 @@ pub fn due(list: &List, first: usize, last: usize) -> Vec<Mark> {
 
 /// Whether the turn of the place that a call is at is a slot that is out there. A week has no notices.
 pub fn is_out(replay: &Replay, fields: &[&str]) -> bool {
-    let place = fields.get(1).and_then(|place| place.parse().ok());
-    let replica = place
-        .filter(|&place| place < PLACES)
-        .and_then(|place: usize| replay.replica(place));
-    replica.is_some_and(|replica| replica.out_next().is_some())
+    replica(replay, fields).is_some_and(|replica| replica.out_next().is_some())
+}
+
+/// The turn of the place that a call is at.
+pub fn turn(replay: &Replay, fields: &[&str]) -> Option<u32> {
+    replica(replay, fields).map(|replica| replica.turn)
+}
+
+fn replica<'a>(replay: &'a Replay, fields: &[&str]) -> Option<&'a Replica> {
+    let place = fields.get(1)?.parse().ok()?;
+    (place < PLACES).then(|| replay.replica(place)).flatten()
 }
 
 /// How often each refusal number stands in the picture with words.

@@ -231,16 +231,16 @@ fn passes_without_a_block() {
     let work = replica.work().unwrap();
     assert_eq!((work.sender, work.ticket), (1, 0));
     assert_eq!((work.moved, work.aborted), (true, vec![]));
-    let mut due = before;
+    let mut due = before.clone();
     due.turn += 1;
+    due.window.keep(block_of(3, 1, &[]));
     assert_eq!(replica, due);
     assert_eq!(replica.queue, [open]);
     // No list of calls leads here: a block of the out slot is at its place.
-    due.turn = 1;
-    due.inbox[1] = block::decode(&block_of(3, 1, &[(1, &[(5, 9)])])).ok();
-    let mut altered = due.clone();
+    let mut altered = before;
+    altered.inbox[1] = block::decode(&block_of(3, 1, &[(1, &[(5, 9)])])).ok();
+    due.inbox[1] = altered.inbox[1].clone();
     altered.work().unwrap();
-    due.turn += 1;
     assert_eq!(altered, due);
 }
 

@@ -5,12 +5,15 @@ use std::env;
 use std::fs;
 use std::sync::OnceLock;
 
-use model::drive::{Machine, Powered, Subject};
+use model::drive::{Gives, Machine, Powered, Subject};
+use model::giving::Given;
 use model::replica::{Report, Restarted, ITEMS};
 use model::scenes::{self, Player, Scene};
 use model::trace::{Answer, Call, Restart};
+use model::window::Window;
 
 use crate::faults::FAULTS;
+use crate::giving_faults;
 use crate::history::{Fault, Historical};
 use crate::notice_faults;
 use crate::restart_faults;
@@ -72,14 +75,14 @@ fn the_flag() {
     assert_eq!(rewrite(Some("yes")), Err(error.to_string()));
 }
 
-/// Every number of document 01's table, 23, 25, 28 and 29 refuse a call in some scene; there is no 22 any
+/// Every number of document 01's table, 23, 25 and 28 to 31 refuse a call in some scene; there is no 22 any
 /// more, and no 24, and 26 and 27 are of another program.
 #[test]
 fn every_refusal_is_shown() {
     let lines = all().iter().flat_map(|scene| scene.text.lines());
     let refused = lines.filter_map(|line| line.split_once(" refuses by ")?.1.split_once(':'));
     let numbers: BTreeSet<u8> = refused.map(|(n, _)| n.parse().unwrap()).collect();
-    let due = (1..=29).filter(|n| ![22, 24, 26, 27].contains(n));
+    let due = (1..=31).filter(|n| ![22, 24, 26, 27].contains(n));
     assert!(numbers.into_iter().eq(due));
 }
 
@@ -99,7 +102,7 @@ impl ByHistory {
 
     /// Whether a scene asks for nothing that it has not.
     fn can_play(scene: &Scene) -> bool {
-        let beyond = ["restart", "journal", "late", "lose"];
+        let beyond = ["restart", "journal", "late", "lose", "give"];
         let mut lines = scene.text.lines();
         !lines.any(|line| beyond.iter().any(|word| line.starts_with(word)))
     }
@@ -138,32 +141,49 @@ impl Player for ByHistory {
     }
 }
 
-impl Player for restart_faults::Faulty {
-    fn late(&mut self, slots: u32, tickets: u32) {
-        self.machine.late(slots, tickets);
+impl Gives for ByHistory {
+    fn window(&self) -> Window {
+        unreachable!("it has no window")
     }
-    fn lose(&mut self, ticket: u32) {
-        self.machine.lose(ticket);
-    }
-}
-
-impl Player for station_faults::Faulty {
-    fn late(&mut self, slots: u32, tickets: u32) {
-        self.machine.late(slots, tickets);
-    }
-    fn lose(&mut self, ticket: u32) {
-        self.machine.lose(ticket);
+    fn give(&mut self, _: &[u32], _: &Window) -> Given {
+        unreachable!("it has no window")
     }
 }
 
-impl Player for notice_faults::Faulty {
-    fn late(&mut self, slots: u32, tickets: u32) {
-        self.machine.late(slots, tickets);
-    }
-    fn lose(&mut self, ticket: u32) {
-        self.machine.lose(ticket);
-    }
+/// A machine with a fault around it, as a player: by the machine's memory.
+macro_rules! player {
+    ($faulty:ty) => {
+        impl Player for $faulty {
+            fn late(&mut self, slots: u32, tickets: u32) {
+                self.machine.late(slots, tickets);
+            }
+            fn lose(&mut self, ticket: u32) {
+                self.machine.lose(ticket);
+            }
+        }
+    };
 }
+
+/// The same, and its window and givings are the machine's.
+macro_rules! giving_player {
+    ($faulty:ty) => {
+        player!($faulty);
+
+        impl Gives for $faulty {
+            fn window(&self) -> Window {
+                self.machine.window()
+            }
+            fn give(&mut self, turns: &[u32], window: &Window) -> Given {
+                self.machine.give(turns, window)
+            }
+        }
+    };
+}
+
+giving_player!(restart_faults::Faulty);
+giving_player!(station_faults::Faulty);
+giving_player!(notice_faults::Faulty);
+player!(giving_faults::Faulty);
 
 /// Whether such replicas do not answer what stands in the scene.
 fn differs<P: Player>(
@@ -228,6 +248,20 @@ fn wrong_notices_are_told() {
     };
     assert!(!told(notice_faults::Fault::None));
     for (fault, _) in notice_faults::FAULTS {
+        assert!(told(fault), "no scene tells {fault:?}");
+    }
+}
+
+/// Replicas that are wrong about windows and givings.
+#[test]
+fn wrong_givings_are_told() {
+    let told = |fault| {
+        let faulty = |machine| giving_faults::Faulty::of(machine, fault);
+        let make = |n, own, values: &_| Machine::make(n, own, values).map(faulty);
+        all().iter().any(|scene| differs(scene, make))
+    };
+    assert!(!told(giving_faults::Fault::None));
+    for fault in giving_faults::FAULTS {
         assert!(told(fault), "no scene tells {fault:?}");
     }
 }

@@ -35,7 +35,14 @@ pub struct Met {
     pub notices: u64,
     /// Of these, the ones whose call a kill ended.
     pub noticed_by_kill: u64,
+    /// The givings.
+    pub givings: u64,
+    /// Of these, the ones in whose middle a kill came.
+    pub given_in_part: u64,
 }
+
+/// A call and its answer.
+type Called = (Call, Result<Answer, u8>);
 
 /// What the log of a killed program says, run after run.
 pub struct Log {
@@ -51,6 +58,8 @@ pub struct Log {
     read: u64,
     /// What is in each file when the program starts, for its first restart.
     lent: [Option<Vec<u8>>; N],
+    /// The giving that was begun last and is not over, with its calls.
+    giving: Option<(usize, Vec<Called>)>,
 }
 
 impl Log {
@@ -64,6 +73,7 @@ impl Log {
             met: Met::default(),
             read: 0,
             lent: [const { None }; N],
+            giving: None,
         }
     }
 
@@ -95,6 +105,21 @@ impl Log {
                     let length = length.parse().unwrap();
                     self.restarted(k.parse().unwrap(), Some(length), restarted);
                 }
+                ["g", k] => {
+                    let calls = answer.split(" | ").map(|call| {
+                        let (call, answer) = call.split_once(" > ").unwrap();
+                        let (_, call, answer) = parse(call, answer).expect(line);
+                        (call, answer)
+                    });
+                    self.giving = Some((k.parse().unwrap(), calls.collect()));
+                }
+                ["G", ..] => {
+                    let (k, calls) = self.giving.take().expect(line);
+                    for (call, answer) in calls {
+                        self.feed(k, &call, &answer);
+                    }
+                    self.met.givings += 1;
+                }
                 _ => {
                     let (k, call, answer) = parse(call, answer).expect(line);
                     self.feed(k, &call, &answer);
@@ -104,6 +129,27 @@ impl Log {
         self.read += whole as u64;
         file.set_len(self.read).unwrap();
         (0..N).for_each(|k| self.take_in_notices(k));
+    }
+
+    /// Whether the kill came in the middle of a giving at a replica.
+    pub fn is_giving(&self, k: usize) -> bool {
+        matches!(self.giving, Some((at, _)) if at == k)
+    }
+
+    /// Takes in the calls of such a giving whose blocks are in the file.
+    pub fn take_in_giving(&mut self) {
+        let Some((k, calls)) = self.giving.take() else {
+            return;
+        };
+        let blocks = lent(&journal(&self.room, k)).len() / BLOCK;
+        for (call, answer) in calls {
+            if self.observer.journal(k).bytes().len() >= BLOCK * blocks {
+                break;
+            }
+            self.feed(k, &call, &answer);
+        }
+        self.met.givings += 1;
+        self.met.given_in_part += 1;
     }
 
     /// A notice that is durable was taken, also where the kill came before it was logged.
@@ -195,6 +241,8 @@ impl Met {
         self.commits += other.commits;
         self.notices += other.notices;
         self.noticed_by_kill += other.noticed_by_kill;
+        self.givings += other.givings;
+        self.given_in_part += other.given_in_part;
     }
 }
 
@@ -203,10 +251,12 @@ impl fmt::Display for Met {
         let [calls, restarts, blocks] = [self.calls, self.restarts, self.blocks].map(grouped);
         let [first, commits] = [self.sent_by_restart, self.commits].map(grouped);
         let [notices, ended] = [self.notices, self.noticed_by_kill].map(grouped);
+        let [givings, in_part] = [self.givings, self.given_in_part].map(grouped);
         write!(
             f,
             "{calls} calls, {restarts} restarts, {blocks} blocks handed out, {first} of them first by a restart; \
-             {notices} notices taken, {ended} of them in a call that a kill ended; {commits} writesets committed"
+             {notices} notices taken, {ended} of them in a call that a kill ended; {givings} givings, {in_part} of them \
+             with a kill in the middle; {commits} writesets committed"
         )
     }
 }

@@ -14,10 +14,10 @@ use model::notice::{self, Notice};
 use model::replay::hex;
 use model::samples::{damage, Random};
 use model::trace::{Answer, Call};
-use stemline::{Durable, HEAD};
+use stemline::{Durable, Replica, Window, HEAD};
 
 use super::{journal, service, N};
-use crate::both::report;
+use crate::both::{self, report, told};
 use crate::lines::{line, shown};
 use crate::studio::{lent, open, play, taken};
 
@@ -36,6 +36,8 @@ struct Program {
 
 struct Member {
     durable: Durable,
+    /// A replica without a file that gets the same calls: it says what a giving will be.
+    plain: Replica,
     tally: Tally,
     /// The block handed out last, if there is one.
     last: Option<[u8; BLOCK]>,
@@ -78,15 +80,20 @@ impl Program {
     /// Opens a replica. Only when that is logged is the block given back handed out.
     fn open(&mut self, k: usize) -> Member {
         let length = self.length(k);
-        let (durable, restarted) = open(&journal(&self.room, k), N as u32, k as u32);
+        let path = journal(&self.room, k);
+        let (durable, restarted) = open(&path, N as u32, k as u32);
         let answer = format!("{} {}", restarted.count, hex(&*restarted.block));
         self.note(&format!("T {k} {length}"), &answer);
         let mut tally = Tally::new(k, report(durable.report()));
-        tally.notices = taken(&journal(&self.room, k));
+        tally.notices = taken(&path);
+        let notices: Vec<_> = tally.notices.iter().map(told).collect();
+        let start = model::drive::start_values();
+        let made = Replica::restart(N as u32, k as u32, &start, &lent(&path), &notices);
         let last = restarted.gave_back().then_some(*restarted.block);
         let floor = self.length(k);
         Member {
             durable,
+            plain: made.unwrap().0,
             tally,
             last,
             floor,
@@ -140,6 +147,7 @@ impl Program {
         let member = &mut self.members[k];
         let out = member.tally.is_out(N as u32);
         let answer = play(&mut member.durable, call);
+        assert_eq!(both::play(&mut member.plain, call, &mut Vec::new()), answer);
         self.note(&line(k, call), &shown(&answer));
         let member = &mut self.members[k];
         member.tally.feed(call, &answer);
@@ -174,10 +182,57 @@ impl Program {
         block.filter(|_| !is_out).copied()
     }
 
+    /// Gives a replica what it missed, as far as it has taken what was said. The calls are logged before it begins.
+    fn give(&mut self, k: usize) {
+        (0..N).for_each(|k| self.hear(k));
+        let taken = &self.members[k].tally.notices;
+        let limit = service::lacking(&self.said, taken).unwrap_or(u32::MAX - 1);
+        let turn = |member: &Member| member.tally.report.turn.min(limit);
+        let turns: Vec<u32> = self.members.iter().map(turn).collect();
+        let giver = self.members[k].durable.giver(&turns).unwrap();
+        let (from, to) = (self.members[k].tally.report.turn, turns[usize::from(giver)]);
+        let window = self.members[usize::from(giver)].durable.window().clone();
+        if from >= to || window.lacks(from..to).is_some() {
+            let given = self.members[k].durable.give(&turns, &window);
+            assert_eq!(given.is_ok(), from >= to, "{given:?}");
+            return;
+        }
+        let member = &mut self.members[k];
+        let calls = calls_of(&mut member.plain, &window, to);
+        let lines = calls
+            .iter()
+            .map(|(call, answer)| format!("{} > {}", line(k, call), shown(answer)));
+        let lines: Vec<String> = lines.collect();
+        self.note(&format!("g {k}"), &lines.join(" | "));
+        let member = &mut self.members[k];
+        let given = member.durable.give(&turns, &window).unwrap();
+        assert_eq!(given.ended, None, "told {turns:?}");
+        assert_eq!(member.durable.report(), member.plain.report());
+        let mut passed = None;
+        for (call, answer) in &calls {
+            if member.tally.is_out(N as u32) {
+                passed = Some(member.tally.report.turn);
+            }
+            member.tally.feed(call, answer);
+        }
+        let passed = passed.map_or(0, |slot| BLOCK as u64 * u64::from(slot + 1));
+        member.floor = member.floor.max(passed);
+        self.note(&format!("G {k}"), "0");
+    }
+
+    /// Whether a replica is closed: it was said to be out, and not yet to be back.
+    fn is_closed(&self, k: usize) -> bool {
+        let last = notice::about(&self.said, k as u32).next_back();
+        last.is_some_and(|last| last.kind == notice::Kind::Out)
+    }
+
     fn step(&mut self, random: &mut Random) {
         let k = random.below(N);
         // One behind a Back that was ahead so far.
         self.hear(k);
+        if self.is_closed(k) && random.below(8) > 0 {
+            return;
+        }
         match random.below(100) {
             0..50 => {
                 let call = local_call(random, &self.members[k].tally, STYLE);
@@ -196,9 +251,27 @@ impl Program {
             70..95 => self.call(k, &Call::Work),
             95.. if random.below(60) == 0 => self.lose_power(random, k),
             95.. if random.below(40) == 0 => self.say(random),
+            95.. if random.below(8) == 0 => self.give(k),
             _ => self.call(k, &Call::Send),
         }
     }
+}
+
+/// The calls of a giving at a replica, up to this turn, which are made there.
+fn calls_of(replica: &mut Replica, window: &Window, to: u32) -> Vec<(Call, Result<Answer, u8>)> {
+    let mut calls = Vec::new();
+    while replica.report().turn < to {
+        let call = match replica.waits() {
+            true => Call::Work,
+            false => Call::Deliver {
+                bytes: window.block(replica.report().turn).unwrap().to_vec(),
+            },
+        };
+        let answer = both::play(replica, &call, &mut Vec::new());
+        assert!(answer.is_ok(), "{call:?} of a giving: {answer:?}");
+        calls.push((call, answer));
+    }
+    calls
 }
 
 /// The environment's name by which a program is asked to be the one that is killed: a seed and the folder.

@@ -51,6 +51,15 @@ pub fn due(said: &[Notice], taken: &[Notice], turn: u32) -> Option<Notice> {
     })
 }
 
+/// The slot of the first notice that was said and who has taken these lacks.
+pub fn lacking(said: &[Notice], taken: &[Notice]) -> Option<u32> {
+    let next = |about: u32| notice::about(said, about).nth(notice::about(taken, about).count());
+    (0..N as u32)
+        .filter_map(next)
+        .map(|notice| notice.slot)
+        .min()
+}
+
 /// The next notice about a replica, where the others and their blocks are below this slot: out, if another is not,
 /// or back.
 pub fn next(said: &[Notice], about: u32, slot: u32) -> Option<Notice> {

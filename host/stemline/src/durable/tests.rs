@@ -5,9 +5,11 @@ use std::path::{Path, PathBuf};
 
 use super::*;
 use crate::disk::told;
-use crate::{notices_path, Stop, HEAD};
+use crate::{notices_path, Stop, Window, HEAD};
 
 mod cuts;
+mod giving_cuts;
+mod givings;
 mod heads;
 mod notice_cuts;
 mod notices;
@@ -109,6 +111,8 @@ fn over(replica: &mut Durable, block: &[u8]) {
     assert!(said(replica.load(&[1; ITEMS])).ends_with(due));
     assert!(said(replica.work()).ends_with(due));
     assert!(said(replica.take(block)).ends_with(due));
+    assert!(said(replica.take_slot(block)).ends_with(due));
+    assert!(said(replica.give(&[900; 3], &Window::new())).ends_with(due));
     assert!(said(replica.out(1, 900)).ends_with(due));
     assert!(said(replica.back(1, 900)).ends_with(due));
     assert!(said(replica.journal.append(&[0; BLOCK]).map_err(Failure::Disk)).ends_with(due));

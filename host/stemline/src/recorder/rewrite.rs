@@ -73,15 +73,13 @@ impl<C: Write, A: Write> Recorder<C, A> {
             while let Some(notice) = notices.next_if(|&notice| self.is_due(notice)) {
                 self.take_notice(notice)?;
             }
-            let done = if self.replica.memory().group.is_out(block.slot()) {
-                self.passes(block)
-            } else if block.sender() == own {
-                self.send_again(block, &tickets)
-                    .and_then(|()| self.takes(block))
-            } else {
-                self.takes(block)
+            let is_own = block.sender() == own && !self.replica.memory().group.is_out(block.slot());
+            let sent = match is_own {
+                true => self.send_again(block, &tickets),
+                false => Some(()),
             };
-            done.ok_or_else(|| none(at))?;
+            sent.and_then(|()| self.takes(block))
+                .ok_or_else(|| none(at))?;
         }
         notices.try_for_each(|notice| self.take_notice(notice))
     }
@@ -109,17 +107,10 @@ impl<C: Write, A: Write> Recorder<C, A> {
         taken.map_err(none)
     }
 
-    /// Passes a slot that is out, with this block for the journal.
-    fn passes(&mut self, block: &Block) -> Option<()> {
-        let work = self.work().ok()?;
-        (work.append()? == block.bytes()).then_some(())
-    }
-
-    /// Takes the block of the turn, and no slot behind it that is out.
+    /// Takes the block of the turn, or passes its slot where that is out; this is then in the journal.
     fn takes(&mut self, block: &Block) -> Option<()> {
-        self.deliver(block.bytes()).ok()?;
-        while !self.work().ok()?.moved {}
-        Some(())
+        self.take_slot(block.bytes()).ok()?;
+        (self.replica.window().block(block.slot())? == block.bytes()).then_some(())
     }
 
     /// Sends a block with the writesets of this one. Tickets that no block has are withdrawn at once.

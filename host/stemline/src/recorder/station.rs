@@ -4,8 +4,8 @@ use std::io::Write;
 
 use super::list::List;
 use super::Recorder;
-use crate::replica::works;
-use crate::{Memory, Refusal, Report, Station, Step, Taken, BLOCK, ITEMS};
+use crate::replica::{works, ONE_SLOT, WAITING};
+use crate::{Memory, Refusal, Report, Station, Step, Taken, ITEMS};
 
 /// The places of a list.
 const PLACES: u32 = 8;
@@ -122,7 +122,7 @@ impl<C: Write, A: Write> StationRecorder<C, A> {
 
     /// As [`Station::work`].
     pub fn work(&mut self) -> Result<Step, Refusal> {
-        Step::of(&self.recorder.step(&mut [0; BLOCK]))
+        Step::of(&self.recorder.step())
     }
 
     /// As [`Station::out`].
@@ -138,7 +138,19 @@ impl<C: Write, A: Write> StationRecorder<C, A> {
     /// As [`Station::take`]; it is recorded as its deliver and its works.
     pub fn take(&mut self, bytes: &[u8]) -> Result<Taken<Step>, Refusal> {
         self.deliver(bytes)?;
+        Ok(self.works(WAITING))
+    }
+
+    /// As [`Station::take_slot`]; it is recorded as its deliver, if it has one, and its works.
+    pub fn take_slot(&mut self, bytes: &[u8]) -> Result<Taken<Step>, Refusal> {
+        if !self.recorder.replica.waits() {
+            self.deliver(bytes)?;
+        }
+        Ok(self.works(ONE_SLOT))
+    }
+
+    fn works(&mut self, most: (usize, usize)) -> Taken<Step> {
         let waits = |station: &Self| station.recorder.replica.waits();
-        Ok(works(self, waits, StationRecorder::work, |step| step.moved))
+        works(self, most, waits, StationRecorder::work, |step| step.moved)
     }
 }

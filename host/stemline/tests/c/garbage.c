@@ -4,11 +4,11 @@
 #include "same.h"
 
 enum call { MAKE, STATION, RESTART, BEGIN, READ, WRITE, ASK, WITHDRAW, REPORT, SEND, DELIVER, WORK,
-            LOAD, OUT, BACK, CALLS };
+            LOAD, OUT, BACK, GIVER, GIVE, CALLS };
 
 static const char *const names[CALLS] = {
     "make", "make_station", "restart", "begin", "read", "write", "ask", "withdraw", "report", "send",
-    "deliver", "work", "load", "out", "back"};
+    "deliver", "work", "load", "out", "back", "giver", "give"};
 static unsigned given[CALLS][256];
 static uint8_t good[STEMLINE_BLOCK];
 static int32_t start[STEMLINE_ITEMS] = {7, -7};
@@ -133,11 +133,50 @@ static uint8_t deliver(stemline_replica *r) {
 }
 
 static uint8_t work(stemline_replica *r) {
-    uint8_t block[STEMLINE_BLOCK];
-    fill(block, sizeof block);
-    uint8_t said = hold_work(stemline_replica_work, r, block).number;
+    uint8_t said = hold_work(stemline_replica_work, r).number;
     hold(said == 1 || r->group.replicas <= 6, "work: not 1");
     return said;
+}
+
+/* Turns told, most often near the own one, and of as many replicas as there are. */
+static size_t tell(const stemline_replica *r, uint32_t turns[8]) {
+    for (int k = 0; k < 8; k++) {
+        turns[k] = any() % 3 == 0 ? STEMLINE_DOWN : any() % 2 ? r->turn.slot + any() % 3 : number();
+    }
+    return any() % 8 && r->group.replicas < 8 ? r->group.replicas : any() % 8;
+}
+
+static uint8_t giver(stemline_replica *r) {
+    uint32_t turns[8];
+    size_t count = tell(r, turns);
+    stemline_giver_reply said = stemline_replica_giver(r, turns, count);
+    hold(said.number == 0 ? said.giver < count && said.giver != r->group.own && turns[said.giver] != STEMLINE_DOWN
+                          : said.giver == 0,
+         "giver: not one of those told of");
+    hold(said.number != 1 || count != r->group.replicas, "giver: 1");
+    return said.number;
+}
+
+/* A giving from a window with a good block or any bytes where the turn's is; what a deliver ended counts as 0. */
+static uint8_t give(stemline_replica *r) {
+    static uint8_t window[STEMLINE_WINDOW];
+    static stemline_replica before;
+    uint32_t turns[8];
+    size_t count = tell(r, turns);
+    memcpy(window, r->window, sizeof window);
+    for (uint32_t slot = r->turn.slot; slot - r->turn.slot < 3; slot++) {
+        uint8_t *block = window + STEMLINE_BLOCK * (slot % STEMLINE_KEPT);
+        put_next(block, any() % 4 ? r->group.replicas : 3, any() % 4 ? slot : any());
+        block[any() % STEMLINE_BLOCK] ^= (uint8_t)(any() % 8 == 0);
+    }
+    memcpy(&before, r, sizeof before);
+    stemline_giver_reply named = stemline_replica_giver(r, turns, count);
+    stemline_give_reply said = stemline_replica_give(r, turns, count, window);
+    bool away = said.number == 1 || said.number == 25 || said.number == 30 || said.number == 31;
+    hold(said.giver == (named.number == 0 && said.number != 1 ? named.giver : 0), "give: another giver");
+    hold(named.number == 0 || said.number == named.number || said.number == 1, "give: another number");
+    hold(!away || (said.count == 0 && same(r, &before)), "give: turned away, and changed something");
+    return away ? said.number : 0;
 }
 
 /* Classes, most often good ones. */
@@ -174,6 +213,8 @@ static uint8_t play(stemline_replica *r, enum call call) {
     case LOAD: return load(r);
     case OUT: return stemline_replica_out(r, number(), number());
     case BACK: return stemline_replica_back(r, number(), number());
+    case GIVER: return giver(r);
+    case GIVE: return give(r);
     default: return work(r);
     }
 }
@@ -190,7 +231,8 @@ int main(void) {
             uint8_t said = play(&r, name);
             given[name][said]++;
             bool station = before.group.own == STEMLINE_NO_NUMBER;
-            hold((said == STEMLINE_STATION_ONLY_READS) == (station && (name == WRITE || name == SEND)), "not 25");
+            bool only_reads = name == WRITE || name == SEND || name == GIVER || name == GIVE;
+            hold((said == STEMLINE_STATION_ONLY_READS) == (station && only_reads), "not 25");
             hold(said != STEMLINE_NOT_SENT || !station, "19 at a station");
             hold(said == 0 || said == STEMLINE_STALE || same(&r, &before), names[name]);
             if (name == MAKE || name == STATION || name == RESTART) {

@@ -2,147 +2,16 @@
  * lent, and copied back. Before a call come others, with one lent array after the other an element short
  * and an element too long: each answers 1, zeros beside it, and changes nothing; at a station a write and a
  * send answer 25. */
-#include "same.h"
-
-/* The arrays that calls are lent. */
-enum part {
-    TABLE, START, QUEUE, ITEMS, WRITES, SNAPSHOTS, VALUES, STAMPS, CLASSES, PLACES, OUTBOX, BLOCK, BYTES,
-    GIVEN, NOTICES, PARTS
-};
-
-/* What calls are lent and given, in another order than a replica has it. Each array has room for an
- * element too many. */
-typedef struct parts {
-    uint8_t outbox[STEMLINE_BLOCK + 1], bytes[600 + 1], block[STEMLINE_BLOCK + 1];
-    uint8_t places[STEMLINE_BLOCK * STEMLINE_REPLICAS + 1], items[STEMLINE_WRITTEN + 1];
-    uint8_t given[130 + 1], classes[STEMLINE_ITEMS + 1];
-    uint32_t stamps[STEMLINE_ITEMS + 1], queue[STEMLINE_QUEUE + 1];
-    int32_t values[STEMLINE_ITEMS + 1], start[STEMLINE_ITEMS + 1];
-    int32_t snapshots[STEMLINE_SNAPSHOTS + 1], writes[STEMLINE_WRITTEN + 1];
-    stemline_txn table[STEMLINE_TABLE + 1];
-    stemline_counts counts;
-    stemline_turn turn;
-    stemline_group group;
-    /* of any length, and read only: it stays where it is */
-    const uint8_t *journal;
-    size_t journal_length;
-    const uint32_t *notices;
-    uint32_t n, own, ticket, item, replica, slot;
-    int32_t value;
-} parts;
-
-static parts p;
-static size_t length[PARTS];
-/* What the last call answered beside its number. */
-static struct {
-    stemline_restart_reply restart;
-    stemline_begin_reply begin;
-    stemline_read_reply read;
-    stemline_ask_reply ask;
-    stemline_report_reply report;
-    stemline_work_reply work;
-} said;
-
-/* ---- The fifteen calls over the parts, with the lengths as they are told */
-
-static uint8_t call_make(void) {
-    return stemline_make(
-        p.table, length[TABLE], &p.group, &p.turn, &p.counts, p.n, p.own, p.start, length[START],
-        p.queue, length[QUEUE], p.items, length[ITEMS], p.writes, length[WRITES],
-        p.snapshots, length[SNAPSHOTS], p.values, length[VALUES], p.stamps, length[STAMPS],
-        p.classes, length[CLASSES], p.places, length[PLACES], p.outbox, length[OUTBOX]);
-}
-
-static uint8_t call_make_station(void) {
-    return stemline_make_station(
-        p.table, length[TABLE], &p.group, &p.turn, &p.counts, p.n, p.start, length[START],
-        p.queue, length[QUEUE], p.items, length[ITEMS], p.writes, length[WRITES],
-        p.snapshots, length[SNAPSHOTS], p.values, length[VALUES], p.stamps, length[STAMPS],
-        p.classes, length[CLASSES], p.places, length[PLACES], p.outbox, length[OUTBOX]);
-}
-
-static uint8_t call_restart(void) {
-    said.restart = stemline_restart(
-        p.table, length[TABLE], &p.group, &p.turn, &p.counts, p.n, p.own, p.start, length[START],
-        p.queue, length[QUEUE], p.items, length[ITEMS], p.writes, length[WRITES],
-        p.snapshots, length[SNAPSHOTS], p.values, length[VALUES], p.stamps, length[STAMPS],
-        p.classes, length[CLASSES], p.places, length[PLACES], p.outbox, length[OUTBOX], p.journal, p.journal_length,
-        p.notices, length[NOTICES], p.block, length[BLOCK]);
-    return said.restart.number;
-}
-
-static uint8_t call_out(void) {
-    return stemline_out(&p.group, &p.turn, p.places, length[PLACES], p.replica, p.slot);
-}
-
-static uint8_t call_back(void) {
-    return stemline_back(&p.group, &p.turn, p.places, length[PLACES], p.replica, p.slot);
-}
-
-static uint8_t call_begin(void) {
-    said.begin = stemline_begin(
-        p.table, length[TABLE], &p.counts, p.values, length[VALUES], p.snapshots, length[SNAPSHOTS]);
-    return said.begin.number;
-}
-
-static uint8_t call_read(void) {
-    said.read = stemline_read(
-        p.table, length[TABLE], p.ticket, p.items, length[ITEMS], p.writes, length[WRITES],
-        p.snapshots, length[SNAPSHOTS], p.item);
-    return said.read.number;
-}
-
-static uint8_t call_write(void) {
-    return stemline_write(
-        p.table, length[TABLE], &p.group, &p.turn, &p.counts, p.ticket, p.items, length[ITEMS],
-        p.writes, length[WRITES], p.stamps, length[STAMPS], p.classes, length[CLASSES],
-        p.places, length[PLACES], p.item, p.value);
-}
-
-static uint8_t call_ask(void) {
-    said.ask = stemline_ask(p.table, length[TABLE], &p.counts, p.ticket, p.queue, length[QUEUE]);
-    return said.ask.number;
-}
-
-static uint8_t call_withdraw(void) {
-    return stemline_withdraw(p.table, length[TABLE], &p.counts, p.ticket);
-}
-
-static uint8_t call_report(void) {
-    said.report = stemline_report(p.table, length[TABLE], &p.turn, &p.counts);
-    return said.report.number;
-}
-
-static uint8_t call_send(void) {
-    return stemline_send(
-        p.table, length[TABLE], &p.group, &p.turn, p.queue, length[QUEUE], p.items, length[ITEMS],
-        p.writes, length[WRITES], p.outbox, length[OUTBOX], p.block, length[BLOCK]);
-}
-
-static uint8_t call_deliver(void) {
-    return stemline_deliver(
-        &p.group, &p.turn, p.places, length[PLACES], p.outbox, length[OUTBOX], p.bytes, length[BYTES]);
-}
-
-static uint8_t call_work(void) {
-    said.work = stemline_work(
-        p.table, length[TABLE], &p.group, &p.turn, &p.counts, p.queue, length[QUEUE], p.items, length[ITEMS],
-        p.values, length[VALUES], p.stamps, length[STAMPS], p.places, length[PLACES],
-        p.block, length[BLOCK]);
-    return said.work.number;
-}
-
-static uint8_t call_load(void) {
-    return stemline_load(&p.turn, p.classes, length[CLASSES], p.given, length[GIVEN]);
-}
+#include "lent_calls.h"
 
 /* ---- A call at a replica by one over the parts */
 
 static int same_parts(const parts *a, const parts *b) {
     return SAME(outbox) && SAME(bytes) && SAME(block) && SAME(places) && SAME(items) && SAME(stamps)
         && SAME(queue) && SAME(values) && SAME(start) && SAME(snapshots) && SAME(writes) && SAME(table)
-        && SAME(classes) && SAME(given) && same_group(&a->group, &b->group) && same_counts(&a->counts, &b->counts) && SAME(turn.slot) && SAME(turn.sent)
-        && SAME(turn.applying);
+        && SAME(classes) && SAME(given) && SAME(window) && SAME(lent) && SAME(turns)
+        && same_group(&a->group, &b->group) && same_counts(&a->counts, &b->counts) && SAME(turn.slot)
+        && SAME(turn.sent) && SAME(turn.applying);
 }
 
 /* Whether the last call answered nothing beside its number. */
@@ -152,7 +21,8 @@ static int said_zeros(void) {
     no_work.number = said.work.number;
     return said.restart.count == 0 && said.begin.ticket == 0 && said.read.value == 0
         && !said.ask.read_only && memcmp(&said.report.report, &no_report, sizeof no_report) == 0
-        && same_work(&said.work, &no_work);
+        && same_work(&said.work, &no_work) && said.giver.giver == 0 && said.give.giver == 0
+        && said.give.count == 0 && memcmp(said.give.aborted, no_work.aborted, sizeof no_work.aborted) == 0;
 }
 
 #define COPY(to, from, part) memcpy((to)->part, (from)->part, sizeof r->part)
@@ -162,14 +32,14 @@ static void lend(const stemline_replica *r, uint32_t n) {
     static const size_t right[PARTS] = {
         STEMLINE_TABLE, STEMLINE_ITEMS, STEMLINE_QUEUE, STEMLINE_WRITTEN, STEMLINE_WRITTEN,
         STEMLINE_SNAPSHOTS, STEMLINE_ITEMS, STEMLINE_ITEMS, STEMLINE_ITEMS, 0, STEMLINE_BLOCK,
-        STEMLINE_BLOCK, STEMLINE_BLOCK, STEMLINE_ITEMS, 0};
+        STEMLINE_BLOCK, STEMLINE_BLOCK, STEMLINE_ITEMS, 0, STEMLINE_WINDOW, 0, STEMLINE_WINDOW};
     memcpy(length, right, sizeof length);
     length[PLACES] = stemline_lent_places(n);
     memset(&said, 0, sizeof said);
     memset(&p, 0xa5, sizeof p);
     COPY(&p, r, table), COPY(&p, r, queue), COPY(&p, r, items), COPY(&p, r, writes);
     COPY(&p, r, snapshots), COPY(&p, r, values), COPY(&p, r, stamps), COPY(&p, r, places);
-    COPY(&p, r, outbox), COPY(&p, r, classes);
+    COPY(&p, r, outbox), COPY(&p, r, classes), COPY(&p, r, window);
     p.group = r->group;
     p.turn = r->turn;
     p.counts = r->counts;
@@ -178,7 +48,7 @@ static void lend(const stemline_replica *r, uint32_t n) {
 static void give_back(stemline_replica *r) {
     COPY(r, &p, table), COPY(r, &p, queue), COPY(r, &p, items), COPY(r, &p, writes);
     COPY(r, &p, snapshots), COPY(r, &p, values), COPY(r, &p, stamps), COPY(r, &p, places);
-    COPY(r, &p, outbox), COPY(r, &p, classes);
+    COPY(r, &p, outbox), COPY(r, &p, classes), COPY(r, &p, window);
     r->group = p.group;
     r->turn = p.turn;
     r->counts = p.counts;
@@ -187,7 +57,8 @@ static void give_back(stemline_replica *r) {
 /* The call with each of the arrays that it is lent at a wrong length, then the call itself. */
 static uint8_t called(const char *name, uint8_t (*call)(void), const enum part *lent, size_t count) {
     static parts before;
-    bool only_reads = p.group.own == STEMLINE_NO_NUMBER && (call == call_write || call == call_send);
+    bool reads = call != call_write && call != call_send && call != call_giver && call != call_give;
+    bool only_reads = p.group.own == STEMLINE_NO_NUMBER && !reads;
     uint8_t wrong = only_reads ? STEMLINE_STATION_ONLY_READS : STEMLINE_WRONG_LENGTH;
     memcpy(&before, &p, sizeof p);
     for (size_t i = 0; i < 2 * count; i++) {
@@ -204,7 +75,7 @@ static uint8_t called(const char *name, uint8_t (*call)(void), const enum part *
            sizeof (const enum part[]){__VA_ARGS__} / sizeof(enum part))
 
 /* What a make is lent but for the places: with an n out of range these may have any length. */
-#define MADE TABLE, START, QUEUE, ITEMS, WRITES, SNAPSHOTS, VALUES, STAMPS, CLASSES, OUTBOX
+#define MADE TABLE, START, QUEUE, ITEMS, WRITES, SNAPSHOTS, VALUES, STAMPS, CLASSES, OUTBOX, WINDOW
 
 /* Lends what a make is lent. Gives whether n is in range. */
 static bool lend_made(const stemline_replica *r, uint32_t n, uint32_t own, const int32_t *start) {
@@ -341,13 +212,34 @@ static uint8_t lent_deliver(stemline_replica *r, const uint8_t *bytes, size_t co
     return number;
 }
 
-static stemline_work_reply lent_work(stemline_replica *r, uint8_t *block) {
+static stemline_work_reply lent_work(stemline_replica *r) {
     lend(r, r->group.replicas);
-    memcpy(p.block, block, STEMLINE_BLOCK);
-    CALLED(work, TABLE, QUEUE, ITEMS, VALUES, STAMPS, PLACES, BLOCK);
+    CALLED(work, TABLE, QUEUE, ITEMS, VALUES, STAMPS, PLACES, WINDOW);
     give_back(r);
-    memcpy(block, p.block, STEMLINE_BLOCK);
     return said.work;
+}
+
+/* One turn for each replica. */
+static void lend_turns(const uint32_t *turns, size_t count) {
+    memcpy(p.turns, turns, count * sizeof *turns);
+    length[TURNS] = count;
+}
+
+static stemline_giver_reply lent_giver(const stemline_replica *r, const uint32_t *turns, size_t count) {
+    lend(r, r->group.replicas);
+    lend_turns(turns, count);
+    CALLED(giver, TURNS);
+    return said.giver;
+}
+
+static stemline_give_reply lent_give(
+    stemline_replica *r, const uint32_t *turns, size_t count, const uint8_t *window) {
+    lend(r, r->group.replicas);
+    lend_turns(turns, count);
+    memcpy(p.lent, window, STEMLINE_WINDOW);
+    CALLED(give, TABLE, QUEUE, ITEMS, VALUES, STAMPS, PLACES, OUTBOX, WINDOW, TURNS, LENT);
+    give_back(r);
+    return said.give;
 }
 
 static uint8_t lent_load(stemline_replica *r, const uint8_t *classes, size_t count) {
@@ -372,6 +264,8 @@ static uint8_t lent_load(stemline_replica *r, const uint8_t *classes, size_t cou
 #define stemline_replica_send lent_send
 #define stemline_replica_deliver lent_deliver
 #define stemline_replica_work lent_work
+#define stemline_replica_giver lent_giver
+#define stemline_replica_give lent_give
 #define stemline_replica_load lent_load
 #define stemline_replica_out lent_out
 #define stemline_replica_back lent_back

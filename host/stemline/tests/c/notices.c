@@ -1,8 +1,10 @@
 /* A replica with its journal and notices in files, by lines on standard input:
  *
- *     open PATH N OWN, send, take HEX, work, out R S, back R S
+ *     open PATH N OWN, send, take HEX, work, out R S, back R S, give T0 T1 .. COUNT HEX .., slot HEX
  *
- * Each prints its number, a send its block too. It ends where the disk fails, and says why. */
+ * A giving is told N turns, and lent a window of so many blocks; slot takes the turn's slot with a block. Each prints
+ * its number, a send its block too. It ends where the disk fails, and says why. */
+#include <inttypes.h>
 #include <stdio.h>
 #include <stdlib.h>
 
@@ -54,25 +56,48 @@ static void send_block(void) {
     show(block);
 }
 
-static void take_block(void) {
+static void read_block(uint8_t block[STEMLINE_BLOCK]) {
     static char digits[2 * STEMLINE_BLOCK + 1];
-    uint8_t block[STEMLINE_BLOCK];
     unsigned byte;
+    memset(block, 0, STEMLINE_BLOCK);
     if (scanf("%1024s", digits) != 1) {
         return;
     }
     for (int k = 0; k < STEMLINE_BLOCK && sscanf(digits + 2 * k, "%2x", &byte) == 1; k++) {
         block[k] = (uint8_t)byte;
     }
-    stemline_take_reply taken = stemline_replica_take(&r, block, sizeof block);
-    kept(stemline_journal_append(&j, taken.append[0], taken.append_count));
+}
+
+static void take_block(bool slot) {
+    uint8_t block[STEMLINE_BLOCK];
+    read_block(block);
+    stemline_take_reply taken = slot ? stemline_replica_take_slot(&r, block, sizeof block)
+                                     : stemline_replica_take(&r, block, sizeof block);
+    kept(stemline_journal_append(&j, &r));
     say(taken.number);
 }
 
-static void work(void) {
+static void give(void) {
+    static uint8_t window[STEMLINE_WINDOW];
     uint8_t block[STEMLINE_BLOCK];
-    stemline_work_reply worked = stemline_replica_work(&r, block);
-    kept(stemline_journal_append(&j, block, worked.append));
+    uint32_t turns[STEMLINE_REPLICAS] = {0}, count = 0;
+    memset(window, 0, sizeof window);
+    for (uint32_t k = 0; k <= j.n; k++) {
+        kept(scanf("%" SCNu32, k < j.n ? &turns[k] : &count) == 1 ? 0 : -1);
+    }
+    while (count-- > 0) {
+        read_block(block);
+        uint32_t slot = stemline_block_header(block, sizeof block).header.slot;
+        kept(stemline_window_put(window, slot, block, sizeof block) ? 0 : -1);
+    }
+    stemline_give_reply given = stemline_replica_give(&r, turns, j.n, window);
+    kept(stemline_journal_append(&j, &r));
+    say(given.number);
+}
+
+static void work(void) {
+    stemline_work_reply worked = stemline_replica_work(&r);
+    kept(stemline_journal_append(&j, &r));
     say(worked.number);
 }
 
@@ -95,8 +120,15 @@ int main(void) {
     setvbuf(stdout, NULL, _IOLBF, 1 << 12);
     while (scanf("%7s", verb) == 1) {
         switch (verb[0]) {
-        case 's': send_block(); break;
-        case 't': take_block(); break;
+        case 's':
+            if (verb[1] == 'e') {
+                send_block();
+            } else {
+                take_block(true);
+            }
+            break;
+        case 't': take_block(false); break;
+        case 'g': give(); break;
         case 'w': work(); break;
         case 'b': notice(0); break;
         default:

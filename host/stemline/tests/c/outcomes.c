@@ -47,7 +47,7 @@ static uint32_t writes(stemline_replica *at, uint32_t item) {
 static void take(void) {
     stemline_take_reply taken = stemline_replica_take(&r, block, sizeof block);
     must(taken.number);
-    must(stemline_journal_append(&j, taken.append[0], taken.append_count));
+    must(stemline_journal_append(&j, &r));
     must(stemline_replica_take(&peer, block, sizeof block).number);
 }
 

@@ -9,7 +9,8 @@
  * a station; T restarts such a replica from the first b bytes of the journal and the notices taken.
  *
  * It stops where a refused call has changed something, where is_turn is not what a send answers, where
- * a take is not a deliver with its works, and where a work's block is not the one that it leaves. */
+ * a take is not a deliver with its works, where a work leaves another window than with the block of its slot, and
+ * where a giving is not its slots taken one by one. */
 #include <inttypes.h>
 
 #include "same.h"
@@ -204,12 +205,10 @@ static uint8_t deliver(stemline_replica *r, char letter, const char *rest) {
 }
 
 static uint8_t work(stemline_replica *r, journal *j) {
-    uint8_t block[STEMLINE_BLOCK];
-    memset(block, 0xa5, sizeof block);
-    stemline_work_reply w = hold_work(stemline_replica_work, r, block);
+    stemline_work_reply w = hold_work(stemline_replica_work, r);
     /* a station has no journal */
     if (w.append && r->group.own != STEMLINE_NO_NUMBER) {
-        append(j, block);
+        append(j, stemline_window_block(r->window, r->turn.slot - 1));
     }
     printf("%d", w.number);
     if (w.number == 0) {
@@ -219,6 +218,53 @@ static uint8_t work(stemline_replica *r, journal *j) {
         printf(" %" PRIu32, w.aborted[i]);
     }
     return w.number;
+}
+
+/* The window of a replica, block by block as over a line: with those of the slots from this one up to that, as far
+ * as it has them. */
+static void fetch(uint8_t window[STEMLINE_WINDOW], const stemline_replica *giver, uint32_t from, uint32_t to) {
+    memset(window, 0, STEMLINE_WINDOW);
+    for (uint32_t slot = to; slot > from && to - slot < STEMLINE_KEPT; slot--) {
+        const uint8_t *block = stemline_window_block(giver->window, slot - 1);
+        hold(block == NULL || stemline_window_put(window, slot - 1, block, STEMLINE_BLOCK), "no good block");
+    }
+}
+
+/* A giving: the replica with number g stands at place g. Gives the number of one that was turned away. */
+static uint8_t give(stemline_replica *r, journal *j, const char *rest) {
+    static stemline_replica before;
+    static uint8_t window[STEMLINE_WINDOW];
+    uint32_t turns[STEMLINE_REPLICAS] = {0};
+    size_t count = 0;
+    for (int read; count < STEMLINE_REPLICAS && sscanf(rest, "%" SCNu32 "%n", &turns[count], &read) == 1; count++) {
+        rest += read;
+    }
+    stemline_giver_reply g = stemline_replica_giver(r, turns, count);
+    if (g.number == 0) {
+        fetch(window, &replicas[g.giver], r->turn.slot, turns[g.giver]);
+    }
+    memcpy(&before, r, sizeof before);
+    stemline_give_reply w = stemline_replica_give(r, turns, count, window);
+    hold(w.giver == g.giver && (g.number == 0 || w.number == g.number), "give: another giver");
+    if (g.number == 0 && w.number != STEMLINE_WINDOW_LACKS) {
+        hold_give(&before, r, window, &w);
+    }
+    /* what the journal lacks is from its end on up to the turn; with the sent mark on it has the turn's block */
+    for (uint32_t slot = before.turn.slot + (before.turn.sent != 0); slot < r->turn.slot; slot++) {
+        append(j, stemline_window_block(r->window, slot));
+    }
+    printf("%d", w.number);
+    if (g.number == 0) {
+        printf(" %d", w.giver);
+    }
+    if (g.number != 0 || w.number == STEMLINE_WINDOW_LACKS) {
+        return w.number;
+    }
+    printf(" %d", w.count);
+    for (int i = 0; i < w.count; i++) {
+        printf(" %" PRIu32, w.aborted[i]);
+    }
+    return 0;
 }
 
 static uint8_t load(stemline_replica *r, const char *rest) {
@@ -281,6 +327,7 @@ static uint8_t play(stemline_replica *r, journal *j, char letter, const char *re
     case 'S': return send(r, j);
     case 'D': case 'F': case 'H': return deliver(r, letter, rest);
     case 'K': return work(r, j);
+    case 'G': return give(r, j, rest);
     case 'P': return load(r, rest);
     case 'O': case 'U': return notice(r, j, letter, rest);
     default: return values(r);

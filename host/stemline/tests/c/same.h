@@ -23,7 +23,7 @@ static inline int same(const stemline_replica *a, const stemline_replica *b) {
     return SAME(table) && same_group(&a->group, &b->group) && SAME(turn.slot) && SAME(turn.sent) && SAME(turn.applying)
         && same_counts(&a->counts, &b->counts) && SAME(queue) && SAME(items) && SAME(writes)
         && SAME(snapshots) && SAME(values) && SAME(stamps) && SAME(classes) && SAME(places)
-        && SAME(outbox);
+        && SAME(outbox) && SAME(window);
 }
 
 /* Stops the program where something does not hold. */
@@ -65,7 +65,7 @@ static inline int same_work(const stemline_work_reply *a, const stemline_work_re
         && SAME(aborted) && SAME(append);
 }
 
-typedef stemline_work_reply work_call(stemline_replica *r, uint8_t block[STEMLINE_BLOCK]);
+typedef stemline_work_reply work_call(stemline_replica *r);
 
 /* The next of a slot in a group of n. */
 static inline void put_next(uint8_t block[STEMLINE_BLOCK], uint32_t n, uint32_t slot) {
@@ -84,43 +84,40 @@ static inline void put_next(uint8_t block[STEMLINE_BLOCK], uint32_t n, uint32_t 
     }
 }
 
-/* A work, by such a call. It leaves the lent block as it was, or the block of the turn in it, or the next of
- * a slot that is out, and says which. */
-static inline stemline_work_reply hold_work(
-    work_call *call, stemline_replica *r, uint8_t block[STEMLINE_BLOCK]) {
-    static uint8_t before[STEMLINE_BLOCK], left[STEMLINE_BLOCK];
-    size_t n = r->group.replicas;
-    memcpy(before, block, sizeof before);
+/* A work, by such a call. It leaves the window as it was, or with the block of the turn in its place, or the next
+ * of a slot that is out, where the turn moved. */
+static inline stemline_work_reply hold_work(work_call *call, stemline_replica *r) {
+    static uint8_t due[STEMLINE_WINDOW], left[STEMLINE_BLOCK];
+    size_t n = r->group.replicas, at = STEMLINE_BLOCK * (size_t)(r->turn.slot % STEMLINE_KEPT);
+    memcpy(due, r->window, sizeof due);
     if (stemline_is_out(&r->group, r->turn.slot)) {
         put_next(left, (uint32_t)n, r->turn.slot);
     } else if (n >= 1 && n <= STEMLINE_REPLICAS) {
         memcpy(left, r->places + STEMLINE_PLACES(r->turn.slot % n), sizeof left);
     }
-    stemline_work_reply work = call(r, block);
-    hold(memcmp(block, work.append ? left : before, sizeof left) == 0, "work: another block");
+    stemline_work_reply work = call(r);
+    if (work.moved) {
+        memcpy(due + at, left, sizeof left);
+    }
+    hold(memcmp(r->window, due, sizeof due) == 0, "work: another window");
     hold(!work.append || (work.number == 0 && work.moved), "work: a block that is not left");
     return work;
 }
 
-/* What a take is to give: what a deliver gives, and as many works as a take has, with the blocks to append. */
+/* What a take is to give: what a deliver gives, and as many works as a take has. */
 static inline void deliver_and_work(
     stemline_take_reply *due, stemline_replica *r, const uint8_t *bytes, size_t length) {
-    uint8_t block[STEMLINE_BLOCK] = {0};
     memset(due, 0, sizeof *due);
     due->number = stemline_replica_deliver(r, bytes, length);
     int left = 0;
     while (due->number == 0 && due->count < STEMLINE_STEPS && left < STEMLINE_LEFT) {
-        stemline_work_reply work = hold_work(stemline_replica_work, r, block);
+        stemline_work_reply work = hold_work(stemline_replica_work, r);
         if (work.number != 0) {
             hold(work.number == STEMLINE_NOTHING_WAITS, "take: a work refused by another number than 21");
             break;
         }
         due->steps[due->count++] = work;
         left += work.moved;
-        if (work.append) {
-            hold(due->append_count < STEMLINE_LEFT, "take: too many blocks to append");
-            memcpy(due->append[due->append_count++], block, sizeof block);
-        }
     }
 }
 
@@ -134,19 +131,12 @@ static inline void hold_take_into(
     memset(&taken, 0xa5, sizeof taken);
     memset(&dirt, 0xa5, sizeof dirt);
     stemline_replica_take_into(&taking, bytes, length, &taken);
-    hold(taken.number == due->number && taken.count == due->count
-             && taken.append_count == due->append_count,
-         "take_into: another number or count");
+    hold(taken.number == due->number && taken.count == due->count, "take_into: another number or count");
     for (int i = 0; i < STEMLINE_STEPS; i++) {
         hold(i < due->count ? same_work(&taken.steps[i], &due->steps[i])
                             : memcmp(&taken.steps[i], &dirt.steps[i], sizeof dirt.steps[i]) == 0,
              "take_into: another step, or one behind the last");
     }
-    size_t used = STEMLINE_BLOCK * (size_t)due->append_count;
-    hold(memcmp(taken.append, due->append, used) == 0, "take_into: another block");
-    hold(memcmp((const uint8_t *)taken.append + used, (const uint8_t *)dirt.append + used,
-                sizeof dirt.append - used) == 0,
-         "take_into: a block behind the last");
     hold(same(&taking, left), "take_into: another memory");
 }
 
@@ -161,13 +151,41 @@ static inline void hold_take(const stemline_replica *r, const uint8_t *bytes, si
     deliver_and_work(&due, &calling, bytes, length);
     hold(taken.number == due.number, "take: another number");
     hold(taken.count == due.count, "take: another count of steps");
-    hold(taken.append_count == due.append_count, "take: another count of blocks");
     for (int i = 0; i < STEMLINE_STEPS; i++) {
         hold(same_work(&taken.steps[i], &due.steps[i]), "take: another step, or none of zeros");
     }
-    hold(memcmp(taken.append, due.append, sizeof due.append) == 0, "take: another block, or none of zeros");
     hold(same(&taking, &calling), "take: another memory");
     hold_take_into(r, bytes, length, &due, &calling);
+}
+
+/* A giving from this window leaves what its slots leave, taken one by one, and names their tickets, rising. It is
+ * tried on copies: r is as before, given as after. */
+static inline void hold_give(
+    const stemline_replica *r, const stemline_replica *given, const uint8_t window[STEMLINE_WINDOW],
+    const stemline_give_reply *reply) {
+    static stemline_replica taking;
+    uint32_t named[STEMLINE_TABLE] = {0}, count = 0;
+    uint8_t number = 0;
+    memcpy(&taking, r, sizeof taking);
+    for (int slots = 0; slots < STEMLINE_KEPT && number == 0 && taking.turn.slot < given->turn.slot + (reply->number != 0);
+         slots++) {
+        const uint8_t *block = window + STEMLINE_BLOCK * (taking.turn.slot % STEMLINE_KEPT);
+        stemline_take_reply taken = stemline_replica_take_slot(&taking, block, STEMLINE_BLOCK);
+        number = taken.number;
+        for (int i = 0; i < taken.count; i++) {
+            for (int k = 0; k < taken.steps[i].count; k++) {
+                uint32_t ticket = taken.steps[i].aborted[k], at = count++;
+                hold(count <= STEMLINE_TABLE, "give: more tickets than there are");
+                for (; at > 0 && named[at - 1] > ticket; at--) {
+                    named[at] = named[at - 1];
+                }
+                named[at] = ticket;
+            }
+        }
+    }
+    hold(number == reply->number, "give: another number than that of its slots");
+    hold(same(&taking, given), "give: another memory than that of its slots");
+    hold(count == reply->count && memcmp(named, reply->aborted, sizeof named) == 0, "give: other tickets");
 }
 
 #endif

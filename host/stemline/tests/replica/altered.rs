@@ -1,17 +1,19 @@
 //! Memory altered by something else than a call: every call returns, the same call on the same
 //! memory gives the same, and a refused one changes nothing and answers no more than its number.
 
+mod windows;
+
 use model::block::{self, Message, BLOCK, MAX_TICKET};
 use model::drive::{start_values, Peers, Subject, STYLES};
 use model::samples::{self, Random};
 use soak::runs::NUMBERS;
 use stemline::ffi::Txn;
-use stemline::{
-    owner, Memory, Refusal, Replica, Station, Taken, ITEMS, LEFT, NO_NUMBER, SLOTS, STEPS,
-};
+use stemline::{Memory, Refusal, Replica, Station, Taken, ITEMS, LEFT, NO_NUMBER, SLOTS, STEPS};
 
+use self::windows::{alter_window, same_give, same_window, tell};
 use crate::both::Both;
-use crate::lent::{refused, Lent};
+use crate::lengths::ONLY_READS;
+use crate::lent::{check_refused, Lent};
 use crate::seeds::Seeds;
 use crate::stations;
 
@@ -19,7 +21,7 @@ const RUNS: u64 = 2_000;
 /// Calls at one altered memory, each on what the last one left.
 const CALLS: usize = 60;
 /// The calls, write twice: it has the most to look at.
-const CALLED: [&str; 16] = [
+const CALLED: [&str; 19] = [
     "make",
     "make_station",
     "restart",
@@ -36,6 +38,9 @@ const CALLED: [&str; 16] = [
     "load",
     "out",
     "back",
+    "giver",
+    "give",
+    "give",
 ];
 
 /// A number with the limits of what a call compares it with.
@@ -111,7 +116,7 @@ fn reached(random: &mut Random, seed: u64) -> Lent {
 fn alter(random: &mut Random, memory: &mut Lent) {
     let replicas = memory.group.replicas;
     let counts = &mut memory.counts;
-    match random.below(21) {
+    match random.below(22) {
         0 => memory.table[random.below(6)] = row(random),
         1 => memory.table.fill_with(|| row(random)),
         2 => memory.table[random.below(6)].stage = small(random),
@@ -162,6 +167,7 @@ fn alter(random: &mut Random, memory: &mut Lent) {
             fill_numbers(random, &mut memory.group.from);
             fill_numbers(random, &mut memory.group.until);
         }
+        20 => alter_window(random, memory),
         _ => memory.classes[random.below(ITEMS)] = byte(random),
     }
 }
@@ -190,6 +196,7 @@ fn give(random: &mut Random, memory: &mut Lent) {
     memory.slot = random.pick(&[slot, slot.saturating_add(1), slot.saturating_add(3), any]);
     memory.notices.resize(random.pick(&[0, 3, 6, 30, 31]), 0);
     memory.notices.fill_with(|| number(random));
+    tell(random, memory);
 }
 
 /// A journal of a few blocks, with bytes of any kind among and behind them.
@@ -214,7 +221,7 @@ fn journal(random: &mut Random, n: u32) -> Vec<u8> {
 
 #[test]
 fn every_call_returns() {
-    let mut numbers = [0u32; 30];
+    let mut numbers = [0u32; 32];
     let seeds = Seeds::new(RUNS);
     seeds.each(|seed| {
         let mut random = Random::new(seed);
@@ -236,12 +243,11 @@ fn every_call_returns() {
             assert_eq!(answer, again, "{place}");
             assert!(memory == copy, "{place}: the memories differ");
             if answer.0 != 0 {
-                assert_eq!(answer, refused(name, answer.0), "{place}");
-                assert!(answer.0 == 9 || memory == before, "{place}: {answer:?}");
+                check_refused(name, &before, &memory, &answer);
             }
             // Whatever else it holds, a memory without a number is a station's, and no other is.
             let is_station = before.group.own == NO_NUMBER;
-            let only_reads = is_station && ["write", "send"].contains(&name);
+            let only_reads = is_station && ONLY_READS.contains(&name);
             assert_eq!(answer.0 == 25, only_reads, "{place}: {answer:?}");
             assert!(answer.0 != 19 || !is_station, "{place}: 19");
             match name {
@@ -251,8 +257,9 @@ fn every_call_returns() {
                     assert_eq!(is_turn, answer.0 == 0, "{place}: is_turn");
                 }
                 "deliver" => same_take(&before),
+                "give" => same_give(&before, &memory, answer.0),
                 "work" => {
-                    same_append(&before, &memory, &answer.1);
+                    same_window(&before, &memory, &answer.1);
                     let waits = Replica::from_memory(before.memory()).waits();
                     assert_eq!(waits, answer.0 != 21, "{place}: waits");
                 }
@@ -261,34 +268,12 @@ fn every_call_returns() {
             numbers[usize::from(answer.0)] += 1;
         }
     });
-    let met: Vec<usize> = (1..30).filter(|&number| numbers[number] > 0).collect();
+    let met: Vec<usize> = (1..32).filter(|&number| numbers[number] > 0).collect();
     // Every number of the table is met here too, unless fewer runs are asked for, and no other is.
-    let known = met.iter().all(|number| NUMBERS.contains(number));
+    let due = [&NUMBERS[..], &[30, 31]].concat();
+    let known = met.iter().all(|number| due.contains(number));
     assert!(known, "{numbers:?}");
-    assert!(seeds.runs < RUNS || met == NUMBERS, "{numbers:?}");
-}
-
-/// A work that says so leaves the block of the turn in the lent one, or the next of a slot that is out; any
-/// other leaves that as it was.
-fn same_append(before: &Lent, after: &Lent, answer: &str) {
-    let (group, slot) = (before.group, before.turn.slot);
-    let place = match group.replicas {
-        0 => 0,
-        n => slot as usize % usize::from(n),
-    };
-    let is_out = group.is_out(slot);
-    match answer.contains("append: true") {
-        true if is_out => {
-            let mut next = [0; BLOCK];
-            let sender = owner(slot, group.replicas.into()) as u8;
-            next[..4].copy_from_slice(&[block::NEXT, sender, group.replicas, 0]);
-            next[4..8].copy_from_slice(&slot.to_le_bytes());
-            block::put_check(&mut next);
-            assert!(after.block == next);
-        }
-        true => assert!(after.block == before.places[BLOCK * place..][..BLOCK]),
-        false => assert!(after.block == before.block),
-    }
+    assert!(seeds.runs < RUNS || met == due, "{numbers:?}");
 }
 
 /// A take is a deliver and its works, as many as a take has at most; all return. At a station it is the

@@ -1,6 +1,7 @@
 //! Journals in C. The example program goes on where it ended, leaves damaged files as they are, and takes its
 //! steps at the disk in the right order.
 
+mod givings;
 mod notices;
 mod opens;
 mod outcomes;

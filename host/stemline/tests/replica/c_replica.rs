@@ -1,20 +1,21 @@
 //! The replica in a struct of the C header, in C programs: beside the model, at memory with any bytes in
 //! it, and at what a make is refused by.
 
+mod noted;
+
 use std::cell::RefCell;
 use std::path::{Path, PathBuf};
 use std::rc::Rc;
 
 use model::block::MAX_TICKET;
-use model::drive::{start_values, Group, Machine, Peers, Powered, Seen, Style, Subject, STYLES};
-use model::replay::{hex, run as answers};
-use model::replica::{Replica, Report, Restarted, ITEMS, SLOTS};
+use model::drive::{Givings, Group, Peers, Seen, Style, Subject, STYLES};
+use model::replay::run as answers;
+use model::replica::SLOTS;
 use model::samples::Random;
-use model::trace::{Answer, Call, Restart};
 use soak::runs::NUMBERS;
 
+use self::noted::{List, Noted};
 use crate::c::{build, printed, run, run_c};
-use crate::lines::{line, shown};
 use crate::seeds::Seeds;
 
 const CALLS: usize = 2_000;
@@ -72,110 +73,15 @@ fn the_stored_sends() {
     compare(&lent("lent_sends"), calls, due);
 }
 
-/// Lines for the C program, and what it must print.
-#[derive(Default)]
-struct List {
-    lines: String,
-    due: String,
-}
-
-impl List {
-    fn add(&mut self, line: &str, answer: &str) {
-        self.lines.push_str(&format!("{line}\n"));
-        self.due.push_str(&format!("{answer}\n"));
-    }
-}
-
-/// A replica or station of the model at a place, whose calls are put down.
-struct Noted {
-    place: usize,
-    model: Machine,
-    list: Rc<RefCell<List>>,
-}
-
-impl Noted {
-    /// Replica `own` of `n`, as it is after so many slots and tickets, at the place of its number.
-    fn new(list: &Rc<RefCell<List>>, n: u32, own: u32, late: (u32, u32)) -> Noted {
-        let model = Replica::make(n, own, &start_values()).unwrap();
-        let line = format!("L {own} {n} {own} {} {}", late.0, late.1);
-        Noted::of(list, own as usize, model, late, &line)
-    }
-
-    /// A station of a group of `n` so, at a place above those of the replicas.
-    fn station(list: &Rc<RefCell<List>>, n: u32, place: usize, late: (u32, u32)) -> Noted {
-        let model = Replica::station(n, &start_values()).unwrap();
-        let line = format!("I {place} {n} {} {}", late.0, late.1);
-        Noted::of(list, place, model, late, &line)
-    }
-
-    fn of(
-        list: &Rc<RefCell<List>>,
-        place: usize,
-        model: Replica,
-        late: (u32, u32),
-        line: &str,
-    ) -> Noted {
-        let noted = Noted {
-            place,
-            model: Machine::new(model.fast_forward(late.0, late.1)),
-            list: list.clone(),
-        };
-        noted.note(line, "0");
-        noted
-    }
-
-    fn note(&self, line: &str, answer: &str) {
-        self.list.borrow_mut().add(line, answer);
-    }
-}
-
-impl Subject for Noted {
-    fn call(&mut self, call: &Call) -> Result<Answer, u8> {
-        let answer = self.model.call(call);
-        self.note(&line(self.place, call), &shown(&answer));
-        answer
-    }
-
-    fn report(&self) -> Report {
-        self.model.report()
-    }
-
-    fn values(&self) -> [i32; ITEMS] {
-        self.model.values()
-    }
-}
-
-impl Powered for Noted {
-    fn disk(&self) -> &[u8] {
-        self.model.disk()
-    }
-
-    fn floor(&self) -> usize {
-        self.model.floor()
-    }
-
-    fn ended(&mut self, call: &Call) {
-        let floor = self.model.floor;
-        let _ = self.call(call);
-        self.model.floor = floor;
-    }
-
-    fn restart(&mut self, restart: &Restart) -> Result<Restarted, u8> {
-        let answer = self.model.restart(restart);
-        let (k, n, own) = (self.place, restart.n, restart.own);
-        let line = format!("T {k} {n} {own} {}", restart.journal.len());
-        let shown = match &answer {
-            Ok(restarted) => format!("0 {} {}", restarted.count, hex(&*restarted.block)),
-            Err(number) => number.to_string(),
-        };
-        self.note(&line, &shown);
-        answer
-    }
-}
-
 /// A group with two stations, and a single replica and a station among forged peers, as they are after so
 /// many slots and tickets. Where these are none, the group's replicas lose power, and so do its stations.
-fn play(list: &Rc<RefCell<List>>, seed: u64, style: Style, late: (u32, u32), seen: &mut Seen) {
+fn play(
+    list: &Rc<RefCell<List>>,
+    seed: u64,
+    style: Style,
+    late: (u32, u32),
+    (seen, givings): (&mut Seen, &mut Givings),
+) {
     let n = 2 + seed as u32 % 5;
     let mut random = Random::new(seed);
     let members = (0..n).map(|own| Noted::new(list, n, own, late)).collect();
@@ -186,6 +92,10 @@ fn play(list: &Rc<RefCell<List>>, seed: u64, style: Style, late: (u32, u32), see
     for _ in 0..CALLS {
         match random.below(1_000) {
             0..20 if late == (0, 0) => group.random_cut(&mut random),
+            21..40 => group.random_giving(&mut random),
+            40..42 if style.notices > 0 => {
+                group.holiday(random.below(n as usize), 70);
+            }
             20 => {
                 let lost = random.pick(group.stations());
                 let place = group.members[lost].place;
@@ -202,6 +112,7 @@ fn play(list: &Rc<RefCell<List>>, seed: u64, style: Style, late: (u32, u32), see
         member.note(&line, &format!("0 {}", values.join(" ")));
     }
     seen.add(&group.seen);
+    givings.add(&group.givings);
 
     let own = seed as u32 / 5 % n;
     let mut replica = Noted::new(list, n, own, late);
@@ -225,7 +136,7 @@ fn alone(single: &mut Noted, mut peers: Peers, style: Style, random: &mut Random
 /// Random lists: the C program answers as the model does.
 #[test]
 fn random_lists() {
-    let mut seen = Seen::default();
+    let (mut seen, mut givings) = (Seen::default(), Givings::default());
     let list = Rc::new(RefCell::new(List::default()));
     let program = replay("random");
     let seeds = Seeds::new(RUNS);
@@ -235,12 +146,12 @@ fn random_lists() {
             seed,
             STYLES[seed as usize / 5 % 4].with_notices([6, 0][seed as usize % 2]),
             (0, 0),
-            &mut seen,
+            (&mut seen, &mut givings),
         );
         if seed.is_multiple_of(5) {
             let late = (SLOTS - 60, MAX_TICKET - 60);
             let style = Style::new(30, 40, 6).with_notices(4);
-            play(&list, seed, style, late, &mut seen);
+            play(&list, seed, style, late, (&mut seen, &mut givings));
         }
         let list = list.take();
         compare(&program, &list.lines, &list.due);
@@ -248,6 +159,8 @@ fn random_lists() {
     let enough = seen.numbers(20) == NUMBERS && seen.restarts > 500 && seen.offered_again > 20;
     let enough = enough && seen.notices > 1_000 && seen.passed_out > 1_000;
     assert!(seeds.runs < RUNS || enough, "{seen:?}");
+    let enough = givings.given > 50 && givings.lacking > 5 && givings.nobody_up > 5;
+    assert!(seeds.runs < RUNS || enough, "{givings:?}");
 }
 
 /// Every call at a struct with any bytes in it. The program says where something does not hold; here it
@@ -272,6 +185,8 @@ fn any_bytes() {
         ("load", 4),
         ("out", 4),
         ("back", 4),
+        ("giver", 4),
+        ("give", 5),
     ];
     assert_eq!(lines.len(), least.len(), "{said}");
     for (line, (name, numbers)) in lines.into_iter().zip(least) {

@@ -34,14 +34,14 @@ impl Drop for Room {
 }
 
 /// A new group of `n` over files of the folder, with so many calls of a hundred about notices.
-fn group(room: &Room, n: u32, seed: u64, notices: usize) -> Group<Studio> {
+pub fn group(room: &Room, n: u32, seed: u64, notices: usize) -> Group<Studio> {
     let member = |own| Studio::new(room.0.join(format!("{own}.journal")), n, own);
     let style = STYLES[seed as usize % 4].with_notices(notices);
     Group::new((0..n).map(member).collect(), style)
 }
 
 /// Lets all come to rest; then demand 3 holds, and all journals are the same.
-fn check(group: &mut Group<Studio>) {
+pub fn check(group: &mut Group<Studio>) {
     (0..group.members.len()).for_each(|k| group.open(k));
     group.settle(1);
     assert_eq!(group.violations(), [""; 0]);

@@ -5,8 +5,8 @@ use std::collections::BTreeMap;
 use std::mem::offset_of;
 
 use stemline::ffi::{
-    AskReply, BeginReply, BlockReply, Counts, Entry, Group, Header, ReadReply, RecordHead, Report,
-    ReportReply, RestartReply, Turn, Txn, WorkReply,
+    AskReply, BeginReply, BlockReply, Counts, Entry, GiveReply, GiverReply, Group, Header,
+    ReadReply, RecordHead, Report, ReportReply, RestartReply, Turn, Txn, WorkReply,
 };
 use stemline::{Refusal, Replica, ITEMS, REPLICAS};
 
@@ -19,11 +19,22 @@ const HEADERS: &str = concat!(
 const FIRST: &str = include_str!("../../../examples/first.c");
 const PRINT_ROOM: &str = include_str!("../../../examples/print_room.c");
 const CLOSED: &str = include_str!("../../../examples/closed_studio.c");
+const HOLIDAY: &str = include_str!("../../../examples/holiday.c");
 const CLOSED_SAYS: &str = "\
 all three: turn 4, item 5 is 3; turn 4, item 5 is 3; turn 4, item 5 is 3
 closed: turn 9, item 5 is 7; turn 9, item 5 is 7; turn 4, item 5 is 3
 back: turn 9, item 5 is 7; turn 9, item 5 is 7; turn 9, item 5 is 7
 all three: turn 12, item 5 is 11; turn 12, item 5 is 11; turn 12, item 5 is 11
+";
+const HOLIDAY_SAYS: &str = "\
+closed: turn 40, item 5 is 39; turn 40, item 5 is 39; turn 4, item 5 is 3
+studio 0 gives: accepted (0)
+back: turn 48, item 5 is 47; turn 48, item 5 is 47; turn 48, item 5 is 47
+closed: turn 150, item 5 is 148; turn 150, item 5 is 148; turn 48, item 5 is 47
+studio 0 gives: the giver's window lacks a block of a slot up to its turn (31)
+up to turn 86 from its journal
+studio 0 gives: accepted (0)
+back: turn 160, item 5 is 159; turn 160, item 5 is 159; turn 160, item 5 is 159
 ";
 const PRINT_ROOM_SAYS: &str = "\
 the last block, too early: the block's slot is too far above the turn (18)
@@ -33,7 +44,7 @@ slot 2: accepted, item 5 is 42
 slot 3: accepted, item 5 is 43
 slot 4: accepted, item 5 is 44
 slot 5: accepted, item 5 is 45
-a write: a station neither writes nor sends (25)
+a write: a station neither writes nor sends nor is given blocks (25)
 read in the print room: 45
 ";
 
@@ -82,6 +93,8 @@ fn structs_have_one_layout() {
     layout!(due, lines, "stemline_report_reply", ReportReply, number report);
     layout!(due, lines, "stemline_work_reply", WorkReply,
         number sender moved count ticket aborted append);
+    layout!(due, lines, "stemline_giver_reply", GiverReply, number giver);
+    layout!(due, lines, "stemline_give_reply", GiveReply, number giver count aborted);
     layout!(due, lines, "stemline_restart_reply", RestartReply, number count);
     layout!(due, lines, "stemline_header_values", Header, kind sender replicas count slot);
     layout!(due, lines, "stemline_block_reply", BlockReply, number header);
@@ -105,6 +118,8 @@ fn parts_have_one_length() {
         )*};
     }
     part!(table queue items writes snapshots values stamps classes places outbox);
+    due.push_str(&format!("{}\n", replica.window().bytes().len()));
+    lines.push_str("printf(\"%zu\\n\", sizeof ((stemline_replica *)0)->window);\n");
     lines.push_str("printf(\"%zu %zu\\n\", STEMLINE_PLACES(0), STEMLINE_PLACES(5));\n");
     due.push_str("0 2560\n");
     assert_eq!(run_c("lengths", &program(&lines), b""), due);
@@ -116,7 +131,9 @@ fn limits(text: &str, start: &str, between: &[char], end: char) -> BTreeMap<Stri
     let limit = |line: &str| {
         let (name, rest) = line.split_once(between)?;
         let number = rest.split(end).next()?.trim().rsplit(' ').next()?;
-        Some((name.to_string(), number.replace('_', "").parse().ok()?))
+        // As C writes one that fits an unsigned number alone.
+        let number = number.trim_end_matches('u').replace('_', "");
+        Some((name.to_string(), number.parse().ok()?))
     };
     lines.filter_map(limit).collect()
 }
@@ -129,7 +146,7 @@ fn limits_have_one_name() {
     let rust = limits(include_str!("../../src/lib.rs"), "pub const ", &[':'], ';');
     assert_eq!(c, rust);
     assert!(
-        rust.len() == 12 && rust["ITEMS"] == ITEMS as u64,
+        rust.len() == 15 && rust["ITEMS"] == ITEMS as u64,
         "{rust:?}"
     );
 }
@@ -193,7 +210,8 @@ fn numbers_have_one_name() {
     }
     let cases = cases!(WrongLength OutOfRange NotOpen NotActive AllOpen TicketsSpent Applying Locked Stale
         WritesetFull NotOurTurn AlreadySent SlotsSpent WrongCheck WrongForm WrongGroup PastSlot FarSlot
-        NotSent SlotTaken NothingWaits LoadWhileApplying StationOnlyReads NoticeRefused SlotOut);
+        NotSent SlotTaken NothingWaits LoadWhileApplying StationOnlyReads NoticeRefused SlotOut NobodyUp
+        WindowLacks);
     let (mut due, mut lines) = (String::new(), String::new());
     for (case, refusal) in cases {
         let mut name = String::new();
@@ -251,8 +269,8 @@ int main(void) {
 }
 "#;
 
-/// The headers with the first program, the one with a station and the one with a closed studio, and that of the calls alone, without a
-/// warning, in each language that they are for.
+/// The headers with the first program, the one with a station and those with a closed studio and a holiday, and that
+/// of the calls alone, without a warning, in each language that they are for.
 #[test]
 fn every_language() {
     let mut languages = vec![("cc", "c", "c99"), ("cc", "c", "c11")];
@@ -263,6 +281,7 @@ fn every_language() {
         ("first", FIRST, "the write: accepted\nitem 5: 40 and 40\n"),
         ("print-room", PRINT_ROOM, PRINT_ROOM_SAYS),
         ("closed-studio", CLOSED, CLOSED_SAYS),
+        ("holiday", HOLIDAY, HOLIDAY_SAYS),
         ("lent-alone", LENT, "1 3\n1 15\n9 2: 5 = -84\n"),
     ];
     for (compiler, extension, standard) in languages {

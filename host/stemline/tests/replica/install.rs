@@ -9,14 +9,16 @@ use std::sync::Once;
 
 use crate::c::{printed, say};
 
-const FILES: [&str; 12] = [
+const FILES: [&str; 14] = [
     "include/stemline.h",
     "include/stemline_calls.h",
+    "include/stemline_window.h",
     "include/stemline_journal.h",
     "share/stemline/stemline_journal.c",
     "share/stemline/journal_head.h",
     "share/stemline/journal_disk.h",
     "share/stemline/journal_notices.h",
+    "share/stemline/journal_outcome.h",
     "lib/libstemline.a",
     "lib/pkgconfig/stemline.pc",
     "share/man/man1/replay.1",

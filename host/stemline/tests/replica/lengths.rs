@@ -3,12 +3,12 @@
 use model::drive::start_values;
 use model::samples::{block_of, Random};
 use stemline::ffi::Txn;
-use stemline::{Replica, Station, ITEMS, NO_NUMBER};
+use stemline::{Replica, Station, DOWN, ITEMS, NO_NUMBER};
 
 use crate::lent::{refused, Lent};
 
 /// The parts with a length, by name; a call is lent some of them.
-const PARTS: [&str; 14] = [
+const PARTS: [&str; 17] = [
     "table",
     "queue",
     "items",
@@ -19,10 +19,13 @@ const PARTS: [&str; 14] = [
     "classes",
     "places",
     "outbox",
+    "window",
     "start",
     "block",
     "bytes",
     "given",
+    "turns",
+    "lent",
 ];
 
 fn length(lent: &Lent, part: &str) -> usize {
@@ -37,10 +40,13 @@ fn length(lent: &Lent, part: &str) -> usize {
         "classes" => lent.classes.len(),
         "places" => lent.places.len(),
         "outbox" => lent.outbox.len(),
+        "window" => lent.window.len(),
         "start" => lent.start.len(),
         "block" => lent.block.len(),
         "bytes" => lent.bytes.len(),
         "given" => lent.given.len(),
+        "turns" => lent.turns.len(),
+        "lent" => lent.lent.len(),
         _ => panic!("no part {part}"),
     }
 }
@@ -57,28 +63,31 @@ fn resize(lent: &mut Lent, part: &str, length: usize) {
         "classes" => lent.classes.resize(length, 0),
         "places" => lent.places.resize(length, 0),
         "outbox" => lent.outbox.resize(length, 0),
+        "window" => lent.window.resize(length, 0),
         "start" => lent.start.resize(length, 0),
         "block" => lent.block.resize(length, 0),
         "bytes" => lent.bytes.resize(length, 0),
         "given" => lent.given.resize(length, 1),
+        "turns" => lent.turns.resize(length, 2),
+        "lent" => lent.lent.resize(length, 0),
         _ => panic!("no part {part}"),
     }
 }
 
 /// The calls and the parts that each is lent. A journal has no wrong length; that of notices is wrong where it
 /// is no multiple of 3.
-pub const CALLS: [(&str, &str); 15] = [
+pub const CALLS: [(&str, &str); 17] = [
     (
         "make",
-        "table queue items writes snapshots values stamps classes places outbox start",
+        "table queue items writes snapshots values stamps classes places outbox window start",
     ),
     (
         "make_station",
-        "table queue items writes snapshots values stamps classes places outbox start",
+        "table queue items writes snapshots values stamps classes places outbox window start",
     ),
     (
         "restart",
-        "table queue items writes snapshots values stamps classes places outbox start block",
+        "table queue items writes snapshots values stamps classes places outbox window start block",
     ),
     ("begin", "table values snapshots"),
     ("read", "table items writes snapshots"),
@@ -88,11 +97,19 @@ pub const CALLS: [(&str, &str); 15] = [
     ("report", "table"),
     ("send", "table queue items writes outbox block"),
     ("deliver", "places outbox bytes"),
-    ("work", "table queue items values stamps places block"),
+    ("work", "table queue items values stamps places window"),
+    ("giver", "turns"),
+    (
+        "give",
+        "table queue items values stamps places outbox window turns lent",
+    ),
     ("load", "classes given"),
     ("out", "places"),
     ("back", "places"),
 ];
+
+/// The calls that a station refuses by 25, before all else.
+pub const ONLY_READS: [&str; 4] = ["write", "send", "giver", "give"];
 
 /// The calls that fill the parts, whatever they held.
 pub const FILLING: [&str; 3] = ["make", "make_station", "restart"];
@@ -127,6 +144,9 @@ pub fn states(name: &str) -> Vec<(Lent, u8)> {
     let block = sent.send().unwrap();
     let mut back = sent.clone();
     back.deliver(&block).unwrap();
+    if name == "giver" || name == "give" {
+        return giving(name, &lent(&sent), &block);
+    }
     let good = lent(if name == "work" { &back } else { &replica });
     let mut bad = lent(if name == "send" { &sent } else { &replica });
     bad.ticket = 77;
@@ -205,6 +225,47 @@ pub fn states(name: &str) -> Vec<(Lent, u8)> {
     states
 }
 
+/// A replica 0 of 2 that has sent its block of slot 0, and is to get it back with that of slot 1; one to which nobody
+/// gives; one whose giver lacks slot 1; one that is level; and a station.
+fn giving(name: &str, sent: &Lent, block: &[u8; 512]) -> Vec<(Lent, u8)> {
+    let mut giver = Replica::new(2, 1, &start_values()).unwrap();
+    giver.take(block).unwrap();
+    let mut lacks = Lent {
+        turns: vec![DOWN, 1],
+        lent: giver.window().bytes().to_vec(),
+        ..sent.clone()
+    };
+    let ticket = giver.begin().unwrap();
+    giver.write(ticket, 9, 1).unwrap();
+    giver.ask(ticket).unwrap();
+    let own = giver.send().unwrap();
+    giver.take(&own).unwrap();
+    let good = Lent {
+        turns: vec![DOWN, 2],
+        lent: giver.window().bytes().to_vec(),
+        ..sent.clone()
+    };
+    lacks.turns[1] = 2;
+    let nobody = Lent {
+        turns: vec![7, DOWN],
+        ..good.clone()
+    };
+    let level = Lent {
+        turns: vec![9, 0],
+        ..good.clone()
+    };
+    let mut station = good.clone();
+    station.group.own = NO_NUMBER;
+    let number = if name == "give" { 31 } else { 0 };
+    vec![
+        (good, 0),
+        (nobody, 30),
+        (lacks, number),
+        (level, 0),
+        (station, 25),
+    ]
+}
+
 /// A station of 2 with one transaction, at slot 0 of which one of two writesets is applied; with replica 1 out
 /// from slot 3 on, or not.
 fn station(out: bool) -> Station {
@@ -238,7 +299,7 @@ fn applying() -> Replica {
 }
 
 /// Calls with these parts at wrong lengths; none of the parts may be lent to it, or it is 1. At a station a
-/// write and a send are refused by 25 whatever is lent.
+/// write and a send are refused by 25 whatever is lent, a giving whatever is lent but the table.
 fn check(name: &str, lent: &str, good: &Lent, number: u8, wrong: &[(&str, usize)]) {
     let mut state = good.clone();
     for &(part, length) in wrong {
@@ -251,9 +312,10 @@ fn check(name: &str, lent: &str, good: &Lent, number: u8, wrong: &[(&str, usize)
         let any = FILLING.contains(&name) && part == "places" && good.n == 7;
         lent.split(' ').any(|of_call| of_call == part) && !any
     };
-    let only_reads = good.group.own == NO_NUMBER && ["write", "send"].contains(&name);
+    let only_reads = good.group.own == NO_NUMBER && ONLY_READS.contains(&name);
     if wrong.iter().any(|&(part, _)| seen(part)) {
-        let due = if only_reads { 25 } else { 1 };
+        let table = name == "give" && wrong.iter().any(|&(part, _)| part == "table");
+        let due = if only_reads && !table { 25 } else { 1 };
         assert_eq!(answer, refused(name, due), "{name}, {wrong:?}");
         assert!(state == before, "{name}, {wrong:?}: something is changed");
     } else {

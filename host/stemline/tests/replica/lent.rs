@@ -2,7 +2,7 @@
 
 use model::drive::start_values;
 use stemline::ffi::{self, Counts, Group, Turn, Txn};
-use stemline::{Memory, BLOCK, ITEMS};
+use stemline::{Memory, Window, BLOCK, ITEMS, WINDOW};
 
 /// All that the calls are lent, and what else they are given.
 #[derive(Clone, Debug, PartialEq)]
@@ -20,9 +20,10 @@ pub struct Lent {
     pub classes: Vec<u8>,
     pub places: Vec<u8>,
     pub outbox: Vec<u8>,
+    pub window: Vec<u8>,
     /// What a make starts with.
     pub start: Vec<i32>,
-    /// What a send, a work or a restart fills.
+    /// What a send or a restart fills.
     pub block: Vec<u8>,
     /// What a deliver gets.
     pub bytes: Vec<u8>,
@@ -32,6 +33,9 @@ pub struct Lent {
     pub notices: Vec<u32>,
     /// What a load gets.
     pub given: Vec<u8>,
+    /// What a giving is told, and the giver's window.
+    pub turns: Vec<u32>,
+    pub lent: Vec<u8>,
     pub n: u32,
     pub own: u32,
     pub ticket: u32,
@@ -58,12 +62,15 @@ impl Lent {
             classes: memory.classes.to_vec(),
             places: memory.places.to_vec(),
             outbox: memory.outbox.to_vec(),
+            window: memory.window.bytes().to_vec(),
             start: start_values().to_vec(),
             block: vec![0xa5; BLOCK],
             bytes: vec![0; BLOCK],
             journal: Vec::new(),
             notices: Vec::new(),
             given: vec![1; ITEMS],
+            turns: vec![0; memory.group.replicas.into()],
+            lent: vec![0; WINDOW],
             n: 2,
             own: 0,
             ticket: 0,
@@ -91,6 +98,7 @@ impl Lent {
             classes: self.classes[..].try_into().expect(wrong),
             places: self.places.clone().into_boxed_slice(),
             outbox: self.outbox[..].try_into().expect(wrong),
+            window: Window::from_bytes(self.window[..].try_into().expect(wrong)),
         }
     }
 
@@ -121,6 +129,7 @@ impl Lent {
                 &mut l.classes,
                 &mut l.places,
                 &mut l.outbox,
+                &mut l.window,
             ),
             "make_station" => ffi::make_station(
                 &mut l.table,
@@ -138,6 +147,7 @@ impl Lent {
                 &mut l.classes,
                 &mut l.places,
                 &mut l.outbox,
+                &mut l.window,
             ),
             "restart" => {
                 return said!(ffi::restart(
@@ -157,6 +167,7 @@ impl Lent {
                     &mut l.classes,
                     &mut l.places,
                     &mut l.outbox,
+                    &mut l.window,
                     &l.journal,
                     &l.notices,
                     &mut l.block
@@ -226,7 +237,25 @@ impl Lent {
                     &mut l.values,
                     &mut l.stamps,
                     &mut l.places,
-                    &mut l.block
+                    &mut l.window
+                ))
+            }
+            "giver" => return said!(ffi::giver(&l.group, &l.turns)),
+            "give" => {
+                return said!(ffi::give(
+                    &mut l.table,
+                    &l.group,
+                    &mut l.turn,
+                    &mut l.counts,
+                    &mut l.queue,
+                    &l.items,
+                    &mut l.values,
+                    &mut l.stamps,
+                    &mut l.places,
+                    &l.outbox,
+                    &mut l.window,
+                    &l.turns,
+                    &l.lent
                 ))
             }
             "load" => ffi::load(&l.turn, &mut l.classes, &l.given),
@@ -236,6 +265,24 @@ impl Lent {
         };
         (number, format!("{number}"))
     }
+}
+
+/// That a call which is refused answers nothing beside its number and has changed nothing, but for 9. Of a giving:
+/// behind 31 it names its giver, and where a deliver ended it, what went before stands.
+pub fn check_refused(name: &str, before: &Lent, after: &Lent, answer: &(u8, String)) {
+    let number = answer.0;
+    if name != "give" || [1, 25, 30].contains(&number) {
+        assert_eq!(*answer, refused(name, number), "{name}");
+    } else {
+        let named = ffi::giver(&before.group, &before.turns);
+        let giver = format!("giver: {},", named.giver);
+        assert!(named.number == 0 && answer.1.contains(&giver), "{answer:?}");
+    }
+    let ended = name == "give" && [14, 15, 16, 17, 18, 19, 20, 21, 29].contains(&number);
+    assert!(
+        number == 9 || ended || after == before,
+        "{name}: {answer:?} changed something"
+    );
 }
 
 /// What a call answers where it is refused by a number: zeros beside it.
@@ -253,6 +300,8 @@ pub fn refused(name: &str, number: u8) -> (u8, String) {
         "ask" => zeros!(AskReply),
         "report" => zeros!(ReportReply),
         "work" => zeros!(WorkReply),
+        "giver" => zeros!(GiverReply),
+        "give" => zeros!(GiveReply),
         _ => format!("{number}"),
     };
     (number, text)

@@ -10,6 +10,8 @@ mod counts;
 mod crash;
 mod ends;
 mod files;
+mod forged_windows;
+mod givings;
 mod groups;
 mod header;
 mod install;

@@ -30,14 +30,14 @@ fn every_call() {
         .filter_map(|(_, line)| line.strip_prefix(".B "))
         .collect();
     assert_eq!(entries, calls);
-    assert_eq!(calls.len(), 20);
+    assert_eq!(calls.len(), 21);
 }
 
 /// Each number with its words, and the page has no others.
 #[test]
 fn every_number() {
     // There is no 22 any more, and no 24; 26 and 27 are the program `week`'s.
-    let numbers = (1..=21).chain([23, 25, 28, 29]);
+    let numbers = (1..=21).chain([23, 25]).chain(28..=31);
     let due: Vec<String> = numbers
         .map(|number| {
             let words = Refusal::from_number(number).unwrap().words();

@@ -1,4 +1,4 @@
-//! The fifteen calls and the three functions that read a block, with their parameters, in order, as the crates
+//! The seventeen calls and the three functions that read a block, with their parameters, in order, as the crates
 //! of the engine export them; the C header and the Rust crate declare the same. A compiler sees types alone, of
 //! which several parameters have the same.
 
@@ -55,6 +55,8 @@ fn in_c(name: &str) -> String {
         "AskReply" => "stemline_ask_reply",
         "ReportReply" => "stemline_report_reply",
         "WorkReply" => "stemline_work_reply",
+        "GiverReply" => "stemline_giver_reply",
+        "GiveReply" => "stemline_give_reply",
         "BlockReply" => "stemline_block_reply",
         "RecordHead" => "stemline_record_values",
         "Entry" => "stemline_entry_values",
@@ -99,7 +101,7 @@ fn source() -> String {
 
 fn engine() -> Vec<Function> {
     let found = functions(&source(), "pub extern \"C\" fn ", &['\n', '{']);
-    assert_eq!(found.len(), 15 + 3);
+    assert_eq!(found.len(), 17 + 3);
     sorted(found)
 }
 

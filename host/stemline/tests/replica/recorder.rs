@@ -2,6 +2,7 @@
 //! and by the proved program.
 
 mod durable;
+mod givings;
 mod program;
 mod stations;
 

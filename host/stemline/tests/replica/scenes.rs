@@ -1,15 +1,17 @@
 //! The scenes of `model/testdata`: the library answers what stands there, in the words of this crate.
 
 use model::block::BLOCK;
-use model::drive::{Powered, Subject};
+use model::drive::{Gives, Powered, Subject};
+use model::giving::Given;
 use model::replica::{self as second, Restarted, ITEMS};
 use model::scenes::{self, Player};
 use model::trace::{Answer, Call, Restart};
+use model::window::Window;
 use soak::played_at_station;
 use stemline::ffi::Txn;
-use stemline::{Memory, Refusal, Replica, Station};
+use stemline::{Memory, Refusal, Replica, Station, KEPT};
 
-use crate::both::{play, report, restarted, stepped};
+use crate::both::{answered, append, lent, play, report, restarted, stepped};
 
 /// A replica of the library and its disk, or a station.
 enum Library {
@@ -89,6 +91,31 @@ impl Powered for Library {
         let restarted = restarted(replica, restart)?;
         *disk = restart.journal[..BLOCK * restarted.count as usize].to_vec();
         Ok(restarted)
+    }
+}
+
+impl Gives for Library {
+    fn window(&self) -> Window {
+        let Memory { turn, window, .. } = self.memory();
+        let slots = turn.slot.saturating_sub(KEPT as u32)..turn.slot;
+        let first = slots.clone().find(|&slot| window.block(slot).is_some());
+        let first = first.unwrap_or(turn.slot);
+        let block = |slot| *window.block(slot).expect("behind the first there is each");
+        Window::of(first, (first..turn.slot).map(block))
+    }
+    fn give(&mut self, turns: &[u32], window: &Window) -> Given {
+        let Library::Replica(replica, disk) = self else {
+            panic!("a station is not given what it missed");
+        };
+        let given = answered(replica.giver(turns), replica.give(turns, &lent(window)));
+        append(disk, replica.memory());
+        let (number, giver, aborted) = given;
+        Given {
+            number,
+            giver,
+            aborted,
+            calls: Vec::new(),
+        }
     }
 }
 

@@ -135,7 +135,7 @@ fn library() {
         assert_eq!((&out[..], status), ("", Some(1)), "{when}");
         let lines: Vec<&str> = err.lines().collect();
         // One for each crate that exports functions, and the last.
-        assert!(lines.len() <= 8 && err.starts_with("rt: memory"), "{err}");
+        assert!(lines.len() <= 9 && err.starts_with("rt: memory"), "{err}");
         assert!(err.ends_with(&what), "{err}");
     }
 }

@@ -4,7 +4,7 @@ use model::drive::{start_values, Group, Peers, Powered, Subject, STYLES};
 use model::replica::{self as second, Report, ITEMS};
 use model::samples::{block_of, Random};
 use model::trace::{Answer, Call};
-use stemline::{Recorder, Refusal, Replica, StationRecorder, Work, LEFT, REPLICAS, STEPS};
+use stemline::{Recorder, Refusal, Replica, StationRecorder, BLOCK, LEFT, REPLICAS, STEPS};
 
 use crate::both::{stepped, worked, Both};
 use crate::seeds::Seeds;
@@ -65,9 +65,10 @@ impl Taking {
             assert_eq!(steps.map_err(Refusal::number), due, "a station's take");
             assert!(station.memory() == library.memory(), "another memory");
         } else {
-            let steps = taken.iter().flat_map(|taken| &taken.steps);
-            let appended = steps.filter_map(Work::append).flatten().copied();
-            let appended: Vec<u8> = appended.collect();
+            let first = self.both.disk().len() / BLOCK;
+            let left =
+                (first as u32..library.report().turn).map(|slot| library.window().block(slot));
+            let appended: Vec<u8> = left.flat_map(|block| *block.unwrap()).collect();
             assert!(appended == calls.disk()[self.both.disk().len()..]);
         }
         let given = taken.map(|taken| taken.steps.iter().map(worked).collect());

@@ -1,29 +1,7 @@
 //! The answers of the parts.
 
 use super::*;
-use crate::replay::Replay;
-
-/// The answers to the lines of a part, each without the digits of a block and without the rest of a report.
-fn answers(part: impl Fn(&mut List)) -> String {
-    let mut list = List::default();
-    part(&mut list);
-    let mut replay = Replay::default();
-    let text = String::from_utf8(list.lines()).unwrap();
-    let short = |line: &str| {
-        let answer = replay.answer(line.as_bytes());
-        let fields = answer
-            .split(' ')
-            .take(if line.starts_with('Q') { 2 } else { 5 });
-        let fields = fields.map(|field| match field.len() {
-            1024 if field.starts_with("00") => "none".to_string(),
-            // Of a block its slot.
-            1024 => format!("#{}", u8::from_str_radix(&field[8..10], 16).unwrap()),
-            _ => field.to_string(),
-        });
-        fields.collect::<Vec<_>>().join(" ")
-    };
-    text.split('\n').map(short).collect::<Vec<_>>().join(", ")
-}
+use crate::workload::tests::shown as answers;
 
 #[test]
 fn lines_that_are_none() {

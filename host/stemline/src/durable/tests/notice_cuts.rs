@@ -130,10 +130,12 @@ impl Run {
         };
         let turn = self.replica.report().turn;
         if Notice::is_out(&self.notices, self.n, turn) {
-            let work = self.replica.work().unwrap();
-            self.blocks.push(*work.append().unwrap());
+            assert!(self.replica.work().unwrap().append);
+            self.left();
             for replica in &mut self.group {
-                assert_eq!(replica.work().unwrap().append(), work.append());
+                assert!(replica.work().unwrap().append);
+                let block = replica.window().block(turn);
+                assert_eq!(block, self.replica.window().block(turn));
             }
             self.check(due(self.floor));
             self.floor = self.blocks.len();
@@ -153,9 +155,8 @@ impl Run {
             self.check(due(self.floor));
             self.floor = self.blocks.len();
         }
-        let taken = self.replica.take(&block).unwrap();
-        let appended = taken.steps.iter().filter_map(Work::append);
-        self.blocks.extend(appended);
+        self.replica.take(&block).unwrap();
+        self.left();
         self.check(due(self.floor));
         for replica in &mut self.group {
             replica.take(&block).unwrap();
@@ -166,6 +167,14 @@ impl Run {
 }
 
 impl Run {
+    /// The blocks of the slots that the turn has left are due in the journal.
+    fn left(&mut self) {
+        let window = self.replica.window();
+        for slot in self.blocks.len() as u32..self.replica.report().turn {
+            self.blocks.push(*window.block(slot).unwrap());
+        }
+    }
+
     /// Goes on until a block of another was appended that is not durable yet, where there is one.
     fn unsure(&mut self) {
         while self.n > 2 && self.blocks.len() == self.floor {

@@ -129,9 +129,10 @@ fn a_slot_passed_is_durable() {
     assert_eq!(told::steps(), [&write, copy, "sync"]);
     assert!(group.replica.is_turn());
     let mut due = group.blocks.clone();
-    due.push(*work.append().unwrap());
+    due.push(*group.replica.window().block(5).unwrap());
     for other in &mut group.others {
-        due[5] = *other.work().unwrap().append().unwrap();
+        assert!(other.work().unwrap().append);
+        assert_eq!(other.window().block(5), Some(&due[5]));
     }
     assert!(blocks_of(&room) == due.concat());
     // A take of slot 7 passes slot 8 too, by one sync.

@@ -5,7 +5,7 @@ use std::fs;
 use std::path::{Path, PathBuf};
 use std::process::{Command, Output, Stdio};
 
-use stemline::{notices_path, Durable, Failure, Notice, Replica, BLOCK, ITEMS};
+use stemline::{notices_path, Block, Durable, Failure, Notice, Replica, Window, BLOCK, ITEMS};
 
 use super::{told, JOURNAL, STEPS};
 use crate::c::build;
@@ -13,11 +13,11 @@ use crate::files::Room;
 use crate::looks::digits;
 
 const PROGRAM: &str = include_str!("../../c/notices.c");
-const N: u32 = 3;
-const OWN: u32 = 1;
+pub const N: u32 = 3;
+pub const OWN: u32 = 1;
 
 /// A line for the program, and the same call in Rust, which gives what the program prints.
-fn play(replica: &mut Durable, line: &str) -> String {
+pub fn play(replica: &mut Durable, line: &str) -> String {
     let mut fields = line.split(' ');
     let verb = fields.next().unwrap();
     let mut number = || fields.next().unwrap().parse().unwrap();
@@ -26,9 +26,25 @@ fn play(replica: &mut Durable, line: &str) -> String {
             Ok(block) => return format!("0 {}", digits(&block)),
             Err(failure) => Err(failure),
         },
-        "take" => {
-            let block: stemline::Block = fields.next().unwrap().parse().unwrap();
-            replica.take(block.bytes()).map(|_| ())
+        "take" | "slot" => {
+            let block: Block = fields.next().unwrap().parse().unwrap();
+            let taken = match verb {
+                "take" => replica.take(block.bytes()),
+                _ => replica.take_slot(block.bytes()),
+            };
+            taken.map(|_| ())
+        }
+        "give" => {
+            let turns = [number(), number(), number()];
+            let mut window = Window::new();
+            for digits in fields.skip(1) {
+                let block: Block = digits.parse().unwrap();
+                assert!(window.put(block.slot(), block.bytes()));
+            }
+            match replica.give(&turns, &window) {
+                Ok(given) => return given.ended.map_or(0, |by| by.number()).to_string(),
+                Err(failure) => Err(failure),
+            }
         }
         "work" => replica.work().map(|_| ()),
         "out" => replica.out(number(), number()),
@@ -38,7 +54,7 @@ fn play(replica: &mut Durable, line: &str) -> String {
     done.map_or_else(refused, |()| "0".to_string())
 }
 
-fn opened(path: &Path) -> Durable {
+pub fn opened(path: &Path) -> Durable {
     let opened = Durable::open(path, "grotesque", N, OWN, &[0; ITEMS]);
     opened.unwrap().0
 }
@@ -119,7 +135,7 @@ fn run(rust: &Path, c: &Path) -> Vec<(String, String)> {
 }
 
 /// The program, whose steps at the disk go by way of `steps.c`.
-fn program(name: &str) -> PathBuf {
+pub fn program(name: &str) -> PathBuf {
     build(
         name,
         &[
@@ -131,7 +147,7 @@ fn program(name: &str) -> PathBuf {
 }
 
 /// Runs the program on lines; the fsync of this number fails, none for 0.
-fn ran(program: &Path, lines: &[(String, String)], fail: usize) -> Output {
+pub fn ran(program: &Path, lines: &[(String, String)], fail: usize) -> Output {
     let file = program.with_extension("lines");
     let text: String = lines.iter().map(|(line, _)| format!("{line}\n")).collect();
     fs::write(&file, text).unwrap();
@@ -220,7 +236,7 @@ fn failed_fsyncs() {
         );
         if let Some(last) = last {
             let journal = fs::read(&c).unwrap();
-            let block: stemline::Block = last[2..].parse().unwrap();
+            let block: Block = last[2..].parse().unwrap();
             let blocks = &journal[stemline::HEAD..];
             assert!(
                 blocks[BLOCK * block.slot() as usize..].starts_with(block.bytes()),

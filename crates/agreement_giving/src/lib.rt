@@ -1,0 +1,1 @@
+// Definitions and theorems only: windows and givings in a group.

@@ -1,0 +1,2 @@
+-- What is answered to who asks for the giver.
+pub mod Asked

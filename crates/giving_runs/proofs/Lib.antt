@@ -1,0 +1,2 @@
+-- The givings computed.
+pub mod Givings

@@ -1,0 +1,2 @@
+-- Document 02's Req 11, worked.
+pub mod Givings

@@ -1,0 +1,1 @@
+// Theorems only: givings between replicas, computed from the definitions.

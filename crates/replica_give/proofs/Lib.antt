@@ -1,0 +1,3 @@
+-- From the calls by value to the calls on lent parts.
+pub mod Facts
+pub mod Ways
