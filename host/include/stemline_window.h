@@ -48,8 +48,9 @@ static inline bool stemline_window_put(
 }
 
 /* Who is to give, by the turn of each replica of the group, STEMLINE_DOWN for one that is down:
- * the other one that is up with the highest turn, of equal ones that with the lowest number. The
- * own turn is not looked at. Refused by 25, 1 where count is not n, 30 where nobody else is up. */
+ * the other one that is up with the highest turn, of equal ones the first behind r, counting upward
+ * and round. The own turn is not looked at. Refused by 25, 1 where count is not n, 30 where nobody
+ * else is up. */
 static inline stemline_giver_reply stemline_replica_giver(
     const stemline_replica *r, const uint32_t *turns, size_t count) {
     return stemline_giver(&r->group, turns, count);

@@ -46,7 +46,7 @@ use Rattle.agreement_progress.proofs.Parts.{walk}
 use Rattle.giving.proofs.Rings.{blockNo}
 use Rattle.agreement_giving.proofs.JournalBlocks.{read-at, read-fits}
 use Rattle.agreement_giving.proofs.Lists.{PremiseOf, premise-of}
-use Rattle.agreement_giving.proofs.Journaled.{blocks-more, PlacesHanded, OutBlock, JournalHanded, GivesBack, journaled, placed}
+use Rattle.agreement_giving.proofs.Journaled.{blocks-more, PlacesHanded, OutBlock, JournalHanded, GivesBack, Unsent, journaled, placed}
 
 -- ---- what a restart gives back
 
@@ -116,20 +116,29 @@ module _ (n : ℕ) (start : List ℤ) (k : ℕ) (m : Memory) (mine : m .group .o
         let z : getD (getD (blocksIn n j) i []) 0 0 ≡ 0 = ap (λ (b : List ℕ). getD b 0 0) (r .0) ∙ e in
         omega (arith, y .kind (λ q. omega arith))
 
+    pub read-either : (Mem (blockNo j i) B ⊎ OutBlock n T i (blockNo j i)) ⊎ ((suc i ≡ length (blocksIn n j)) × GivesBack k T (blockNo j i) × Unsent m (blockNo j i))
+    read-either = go (journaled n m (F .sound) (d .journal) (F .filled) B T out (H .places) (H .journal) (L .ended) .either i fits)
+      where
+        go : (Mem (blockNo X i) B ⊎ OutBlock n T i (blockNo X i)) ⊎ ((suc i ≡ blocksAt (ended .memory .turn)) × GivesBack (m .group .own) T (blockNo X i) × Unsent m (blockNo X i))
+            → (Mem (blockNo j i) B ⊎ OutBlock n T i (blockNo j i)) ⊎ ((suc i ≡ length (blocksIn n j)) × GivesBack k T (blockNo j i) × Unsent m (blockNo j i))
+        go (inl (inl q)) = inl (inl (subst (λ (x : List ℕ). Mem x B) (sym same) q))
+        go (inl (inr q)) = inl (inr (same ∙ q .0, q .1))
+        go (inr q) = inr (is-last (q .0), rw (same, ← mine) (q .1), rw same (q .2))
+
     abbrev Now : List (List ℕ)
     Now = blocksAfter B (restarted (length (blocksIn n j)) (lastOwn k T zeros (blocksIn n j)))
 
     read-handed : Mem (blockNo j i) Now ⊎ OutBlock n T i (blockNo j i)
-    read-handed = go (journaled n m (F .sound) (d .journal) (F .filled) B T out (H .places) (H .journal) (L .ended) .either i fits)
+    read-handed = go read-either
       where
-        go : (Mem (blockNo X i) B ⊎ OutBlock n T i (blockNo X i)) ⊎ ((suc i ≡ blocksAt (ended .memory .turn)) × GivesBack (m .group .own) T (blockNo X i))
+        go : (Mem (blockNo j i) B ⊎ OutBlock n T i (blockNo j i)) ⊎ ((suc i ≡ length (blocksIn n j)) × GivesBack k T (blockNo j i) × Unsent m (blockNo j i))
             → Mem (blockNo j i) Now ⊎ OutBlock n T i (blockNo j i)
-        go (inl (inl q)) = inl (blocks-more B (restarted (length (blocksIn n j)) (lastOwn k T zeros (blocksIn n j))) (blockNo j i) (subst (λ (x : List ℕ). Mem x B) (sym same) q))
-        go (inl (inr q)) = inr (same ∙ q .0, q .1)
+        go (inl (inl q)) = inl (blocks-more B (restarted (length (blocksIn n j)) (lastOwn k T zeros (blocksIn n j))) (blockNo j i) q)
+        go (inl (inr q)) = inr q
         go (inr q) =
-            let r = read-at n j i h .0 ∙ same in
-            let g : GivesBack k T (getD (blocksIn n j) i []) = rw (r, ← mine) (q .1) in
-            let e : lastOwn k T zeros (blocksIn n j) ≡ blockNo j i = last-own k T (blocksIn n j) zeros i (is-last (q .0)) (joined (g .0) (rw (g .1) refl)) ∙ read-at n j i h .0 in
+            let r = read-at n j i h .0 in
+            let g : GivesBack k T (getD (blocksIn n j) i []) = rw r (q .1) in
+            let e : lastOwn k T zeros (blocksIn n j) ≡ blockNo j i = last-own k T (blocksIn n j) zeros i (q .0) (joined (g .0) (rw (g .1) refl)) ∙ r in
             inl (rw e (given-back B (blockNo j i) kind))
 
   abbrev After : AnyCall → Outcome → Type 0

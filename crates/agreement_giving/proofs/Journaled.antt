@@ -78,6 +78,10 @@ JournalHanded n count l T B = (i : ℕ) → i < count → Mem (blockNo l i) B �
 abbrev pub GivesBack : ℕ → List Notice → List ℕ → Type 0
 GivesBack own T b = (isFrom own b ≡ true) × (putsOut false T own (headerOf b .slot) ≡ false)
 
+-- it is for the turn's slot, m's own, for which m has not sent
+abbrev pub Unsent : Memory → List ℕ → Type 0
+Unsent m b = (sentAlready m ≡ false) × (ownerOf (m .group .replicas) (m .turn .slot) ≡ m .group .own) × (headerOf b .slot ≡ m .turn .slot)
+
 module _ (n : ℕ) (m : Memory) (s : Sound n m) (l : List ℕ) (H : length l ≡ 512 * blocksAt (m .turn)) (B : List (List ℕ)) (T : List Notice)
     (out : m .turn .slot < slotLimit → outAtTurn m ≡ putsOut false T (ownerOf n (m .turn .slot)) (m .turn .slot))
     (places : PlacesHanded (m .group .replicas) (m .turn .slot) (m .blocks .places) B) (journal : JournalHanded n (blocksAt (m .turn)) l T B) where
@@ -91,7 +95,7 @@ module _ (n : ℕ) (m : Memory) (s : Sound n m) (l : List ℕ) (H : length l ≡
   pub record Journaled (c : Call) (o : Outcome) : Type 0 where
     pub all : JournalHanded n (blocksAt (o .memory .turn)) (journalAfter l (call c) (o .answer)) (takenAfter T (call c) (o .answer)) (blocksAfter B (o .answer))
     pub either : (i : ℕ) → i < blocksAt (o .memory .turn) → let x = blockNo (journalAfter l (call c) (o .answer)) i in
-        (Mem x B ⊎ OutBlock n T i x) ⊎ ((suc i ≡ blocksAt (o .memory .turn)) × GivesBack (m .group .own) T x)
+        (Mem x B ⊎ OutBlock n T i x) ⊎ ((suc i ≡ blocksAt (o .memory .turn)) × GivesBack (m .group .own) T x × Unsent m x)
 
   -- the journal as it was, or with blocks of this kind alone
   old : (c : Call) (o : Outcome) → takenAfter T (call c) (o .answer) ≡ T → blocksAfter B (o .answer) ≡ B
@@ -136,7 +140,7 @@ module _ (n : ℕ) (m : Memory) (s : Sound n m) (l : List ℕ) (H : length l ≡
   unfolding sendNow messageFor headerOf messageOf
   send-journaled x e = record {
     all = λ i h. added y (B ++ (y ∷ [])) (p .unsent) (r .long) (λ z q. Memᴰ·append-left (y ∷ []) q) (inl (Memᴰ·append-right B (List·Memᴰ·head refl))) i (omega arith);
-    either = λ i h. less-by i t (λ v. inl (was i v)) (λ v. let z : i ≡ t = omega arith in inr (omega arith, rw (z, is-new) (from, live)));
+    either = λ i h. less-by i t (λ v. inl (was i v)) (λ v. let z : i ≡ t = omega arith in inr (omega arith, rw (z, is-new) (from, live), rw (z, is-new) (p .unsent, p .owner, ap (λ (d : Message). d .slot) (r .message))));
   }
     where
       y : List ℕ

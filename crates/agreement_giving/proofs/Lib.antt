@@ -15,3 +15,6 @@ pub mod OneLog
 pub mod Values
 pub mod Stages
 pub mod Promise
+-- tied replicas give the same: one block for a slot, and the theorem
+pub mod OneBlock
+pub mod Spread

@@ -1,4 +1,5 @@
-// The choice of the giver, from the turns told: one for each replica. Another choice is another `candidate`.
+// The choice of the giver, from the turns told: one for each replica. Who of the tied gives is for `candidate` alone to say.
+ghost use Prim.Native.Nat.{_+_, _^_, _<_};
 ghost use mathlib.Core.Path.{_≡_};
 ghost use Rattle.memory.specs.Memory.{Memory};
 ghost use Rattle.giving.specs.Choice.{toldTurn, mayGive, isBetter, candidate, giverOf};
@@ -49,11 +50,12 @@ fn is_better(own: usize, turns: &[u32], best: usize, replica: usize) -> bool
     told_turn(turns, best) < told_turn(turns, replica)
 }
 
-// The i-th of n replicas to be looked at.
+// The i-th of n replicas to be looked at: upward from the one after the own number, and round.
 fn candidate(own: usize, n: usize, i: usize) -> usize
+    requires { ⌜ (i < n) × (own + n < 2 ^ 64) ⌝ }
     ensures { λ r. ⌜ r ≡ candidate own n i ⌝ }
 {
-    i
+    (own + 1 + i) % n
 }
 
 // Of the others that are up the one with the highest turn; the own number where nobody is.

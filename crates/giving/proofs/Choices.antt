@@ -1,11 +1,12 @@
 -- The choice of the giver: the first candidate with the highest turn. Assumes nothing.
 -- modules are checked in the order of their names, this one first: so what is computed comes before the proofs, and a wrong definition is refused there
 use Rattle.giving.proofs.Worked.{right-choices, right-givings}
-use Prim.Native.Nat.{ℕ, zero, suc, _<_}
-use mathlib.Core.Path.{_≡_, refl}
+use Prim.Native.Nat.{ℕ, zero, suc, _+_, _≤_, _<_}
+use mathlib.Core.Path.{_≡_, refl, sym, subst}
 use mathlib.Core.Bool.{Bool, true, false, cond, not}
 use mathlib.Core.Logic.{_⊎_, inl, inr}
 use mathlib.Core.List.{List}
+use native.Mathlib.Nat.{mod-lt}
 use native.Mathlib.Omega.{arith}
 use lib.Dec.{eqb, ltb}
 use lib.ListN.{length}
@@ -19,15 +20,23 @@ use Rattle.giving.specs.Statement.{FirstHighest, Choices}
 pub not-own : (own : ℕ) (told : List ℕ) (g : ℕ) → mayGive own told g ≡ true → g ≡ own → ⊥
 not-own own told g h = eqb-false g own (not-true (eqb g own) (both (not (eqb g own)) _ h .left))
 
-module _ (own : ℕ) (told : List ℕ) where
-  abbrev order : ℕ → ℕ
-  order c = candidate own (length told) c
+-- ---- the best of the first c in an order, found one by one
 
-  abbrev NoneOf : ℕ → Type 0
+module _ (own : ℕ) (told : List ℕ) (order : ℕ → ℕ) where
+  -- g is the first with the highest turn
+  pub record FirstIn (c g : ℕ) : Type 0 where
+    pub place : ℕ
+    pub among : place < c
+    pub is : g ≡ order place
+    pub may : mayGive own told g ≡ true
+    pub highest : (i : ℕ) → i < c → mayGive own told (order i) ≡ true → toldTurn told (order i) ≤ toldTurn told g
+    pub first : (i : ℕ) → i < place → mayGive own told (order i) ≡ true → toldTurn told (order i) < toldTurn told g
+
+  abbrev pub NoneOf : ℕ → Type 0
   NoneOf c = (i : ℕ) → i < c → mayGive own told (order i) ≡ false
 
-  abbrev Best : ℕ → ℕ → Type 0
-  Best c g = ((g ≡ own) × NoneOf c) ⊎ FirstHighest own told c g
+  abbrev pub Best : ℕ → ℕ → Type 0
+  Best c g = ((g ≡ own) × NoneOf c) ⊎ FirstIn c g
 
   abbrev test : ℕ → ℕ → Bool
   test c g = isBetter own told g (order c)
@@ -50,7 +59,7 @@ module _ (own : ℕ) (told : List ℕ) where
       (λ t. inl (e, none-more c n (not-so (mayGive own told (order c)) (λ m. clash {b = test c g} (rw (m, eq-eqb g own e) refl) t))))
 
   -- g so far
-  from-some : (c g : ℕ) → FirstHighest own told c g → Best (suc c) (cond (test c g) (order c) g)
+  from-some : (c g : ℕ) → FirstIn c g → Best (suc c) (cond (test c g) (order c) g)
   from-some c g F =
       let d : eqb g own ≡ false = ne-eqb g own (not-own own told g (F .may)) in
       cond-by (Best (suc c)) (test c g)
@@ -78,14 +87,15 @@ module _ (own : ℕ) (told : List ℕ) where
         first = F .first;
       }))
 
-  best : (c : ℕ) → Best c (bestOf own told c)
-  unfolding bestOf
-  best zero = inl (refl, λ i h. absurd (let z : ⊥ = omega arith in z))
-  best (suc c) = go (bestOf own told c) (best c)
-    where
-      go : (g : ℕ) → Best c g → Best (suc c) (cond (test c g) (order c) g)
-      go g (inl n) = from-none c g (n .0) (n .1)
-      go g (inr F) = from-some c g F
+  -- best c is the best of the first c
+  module _ (best : ℕ → ℕ) (none : best 0 ≡ own) (more : (c : ℕ) → best (suc c) ≡ cond (isBetter own told (best c) (order c)) (order c) (best c)) where
+    pub best-in : (c : ℕ) → Best c (best c)
+    best-in zero = inl (none, λ i h. absurd (let z : ⊥ = omega arith in z))
+    best-in (suc c) = subst (Best (suc c)) (sym (more c)) (go (best-in c))
+      where
+        go : Best c (best c) → Best (suc c) (cond (test c (best c)) (order c) (best c))
+        go (inl n) = from-none c (best c) (n .0) (n .1)
+        go (inr F) = from-some c (best c) F
 
 -- ---- candidate by candidate
 
@@ -98,17 +108,25 @@ pub best-more : (own : ℕ) (told : List ℕ) (c : ℕ)
 unfolding bestOf
 best-more own told c = refl
 
+pub best : (own : ℕ) (told : List ℕ) (c : ℕ) → Best own told (candidate own (length told)) c (bestOf own told c)
+best own told = best-in own told (candidate own (length told)) (bestOf own told) (best-none own told) (best-more own told)
+
 -- a candidate is one that a turn is told of
-candidate-below : (own n i : ℕ) → i < n → candidate own n i < n
-candidate-below own n i h = h
+pub candidate-below : (own n i : ℕ) → i < n → candidate own n i < n
+candidate-below own n i h = mod-lt (own + 1 + i) {m = n} (omega arith)
 
 -- and so is the giver, another one that is up
 pub giver-may : (own : ℕ) (told : List ℕ) → (giverOf own told ≡ own → ⊥) → (giverOf own told < length told) × (mayGive own told (giverOf own told) ≡ true)
 giver-may own told d = go (best own told (length told))
   where
-    go : Best own told (length told) (giverOf own told) → (giverOf own told < length told) × (mayGive own told (giverOf own told) ≡ true)
+    go : Best own told (candidate own (length told)) (length told) (giverOf own told) → (giverOf own told < length told) × (mayGive own told (giverOf own told) ≡ true)
     go (inl q) = absurd (d (q .0))
     go (inr F) = (rw (F .is) (candidate-below own (length told) (F .place) (F .among)), F .may)
 
 pub choices : Choices
-choices = record { best = best }
+choices = record { best = λ own told c. go own told c (best own told c) }
+  where
+    go : (own : ℕ) (told : List ℕ) (c : ℕ) → Best own told (candidate own (length told)) c (bestOf own told c)
+        → ((bestOf own told c ≡ own) × ((i : ℕ) → i < c → mayGive own told (candidate own (length told) i) ≡ false)) ⊎ FirstHighest own told c (bestOf own told c)
+    go own told c (inl q) = inl q
+    go own told c (inr F) = inr (record { place = F .place; among = F .among; is = F .is; may = F .may; highest = F .highest; first = F .first })

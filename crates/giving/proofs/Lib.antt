@@ -2,6 +2,7 @@
 pub mod Worked
 -- The choice of the giver, the window as a ring and the giving, on every memory.
 pub mod Choices
+pub mod Spread
 pub mod Rings
 pub mod Kept
 pub mod Givings

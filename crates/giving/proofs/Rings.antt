@@ -3,17 +3,17 @@ use Prim.Native.Nat.{ℕ, zero, suc, _+_, _-_, _*_, _%_, _≤_, _<_}
 use mathlib.Core.Path.{_≡_, refl, sym, ap, _∙_, subst}
 use mathlib.Core.Bool.{true, false, not, _&&_}
 use mathlib.Core.Logic.{_⊎_, inl, inr}
-use mathlib.Core.List.{List, [], _∷_}
+use mathlib.Core.List.{List, [], _∷_, _++_}
 use native.Mathlib.Nat.{mod-lt, mod-eq-of-lt}
 use native.Mathlib.Omega.{arith}
 use lib.Dec.{eqb, ltb, leb}
-use lib.ListN.{length, getD, take, drop, getD-replicate}
+use lib.ListN.{length, getD, take, drop, drop-of-length-le, getD-replicate}
 use lib.Seq.{slice}
 use borrow.Author.Tests.{eqb-true, eq-eqb, ne-eqb, lt-ltb, le-ltb, le-leb, not-true, not-false}
 use Rattle.block.specs.Message.{ownerOf}
 use Rattle.block.specs.Answers.{blockRefusal, headerOf}
 use Rattle.block.proofs.BoolLaws.{both, joined}
-use Rattle.block.proofs.ListLaws.{part-take, part-drop}
+use Rattle.block.proofs.ListLaws.{part-take, part-drop, cut}
 use Rattle.memory.specs.Memory.{windowSlots, windowBytes}
 use Rattle.memory.specs.Turns.{placeStart, isEmpty}
 use Rattle.memory.specs.Window.{emptyWindow, keptBlock, keeping, keepingAll}
@@ -28,15 +28,10 @@ use Rattle.giving.specs.Giving.{holds, lacks}
 pub record Ring (t : ℕ) (f : ℕ → List ℕ) (w : List ℕ) : Type 0 where
   pub long : length w ≡ windowBytes
   pub blocks : (s : ℕ) → s < t → t ≤ s + windowSlots → keptBlock w s ≡ f s
-  pub none : (s : ℕ) → t ≤ s → s < windowSlots → isEmpty windowSlots s w ≡ true
+  pub none : (s : ℕ) → t ≤ s → s < windowSlots → keptBlock w s ≡ keptBlock emptyWindow s
 
 pub ring-none : (f : ℕ → List ℕ) → Ring 0 f emptyWindow
-unfolding emptyWindow placeStart
-ring-none f = record {
-  long = length-empty;
-  blocks = λ s h. absurd (let z : ⊥ = omega arith in z);
-  none = λ s h u. eq-eqb _ 0 (getD-replicate windowBytes (512 * (s % 64)) 0 0 (let l = mod-lt s {m = 64} (omega arith) in omega arith));
-}
+ring-none f = record { long = length-empty; blocks = λ s h. absurd (let z : ⊥ = omega arith in z); none = λ s h u. refl }
 
 pub ring-same : (t : ℕ) (f g : ℕ → List ℕ) (w : List ℕ) → ((s : ℕ) → s < t → f s ≡ g s) → Ring t f w → Ring t g w
 ring-same t f g w e R = record { long = R .long; blocks = λ s h u. R .blocks s h u ∙ e s h; none = R .none }
@@ -48,7 +43,7 @@ ring-next t f w b h e R = record {
   blocks = λ s l u. less-by s t
       (λ v. kept-other w (R .long) s s t b h (omega arith) (omega arith) (omega arith) (omega arith) (λ q. omega arith) ∙ R .blocks s v (omega arith))
       (λ v. let z : s ≡ t = omega arith in rw z (kept-same w (R .long) t b h ∙ e));
-  none = λ s l u. empty-same windowSlots s (keeping w t b) w (kept-other w (R .long) t s t b h (omega arith) (omega arith) (omega arith) (omega arith) (λ q. omega arith)) ∙ R .none s (omega arith) u;
+  none = λ s l u. kept-other w (R .long) t s t b h (omega arith) (omega arith) (omega arith) (omega arith) (λ q. omega arith) ∙ R .none s (omega arith) u;
 }
 
 -- and all of a list
@@ -78,6 +73,25 @@ same-place : (s r : ℕ) → s % 64 ≡ r % 64 → placeStart windowSlots s ≡ 
 unfolding placeStart
 same-place s r e = ap (λ (k : ℕ). 512 * k) e
 
+same-kept : (w : List ℕ) (s r : ℕ) → s % 64 ≡ r % 64 → keptBlock w s ≡ keptBlock w r
+same-kept w s r e = ap (λ (k : ℕ). slice k (k + 512) w) (same-place s r e)
+
+none-kept : (s : ℕ) → isEmpty windowSlots s emptyWindow ≡ true
+unfolding emptyWindow placeStart
+none-kept s = eq-eqb _ 0 (getD-replicate windowBytes (512 * (s % 64)) 0 0 (let l = mod-lt s {m = 64} (omega arith) in omega arith))
+
+-- the slot of the last 64 below t that is in the place of s; while there are not so many, perhaps none
+abbrev InPlace : ℕ → ℕ → Type 0
+InPlace t s = ((r : ℕ) × (r < t) × (t ≤ r + 64) × (s % 64 ≡ r % 64)) ⊎ ((r : ℕ) × (t ≤ r) × (r < 64) × (s % 64 ≡ r % 64))
+
+in-place : (t s : ℕ) → InPlace t s
+unfolding ownerOf
+in-place t s =
+    let l = mod-lt s {m = 64} (omega arith) in
+    less-by 64 t
+    (λ u. let o = own-slot 64 (s % 64) (t - 65) l in let a = o .1 in let b = o .2 in inl (o .0, omega arith, omega arith, sym (o .3)))
+    (λ u. less-by (s % 64) t (λ v. inl (s % 64, v, omega arith, sym (mod-eq-of-lt l))) (λ v. inr (s % 64, v, l, sym (mod-eq-of-lt l))))
+
 module _ (t : ℕ) (f : ℕ → List ℕ) (w : List ℕ) (R : Ring t f w) (good : (s : ℕ) → s < t → (blockRefusal (f s) ≡ 0) × (headerOf (f s) .slot ≡ s)) where
   pub ring-holds : (s : ℕ) → s < t → t ≤ s + windowSlots → holds w s ≡ true
   unfolding holds
@@ -90,18 +104,9 @@ module _ (t : ℕ) (f : ℕ → List ℕ) (w : List ℕ) (R : Ring t f w) (good 
       let y : not (isEmpty windowSlots s w) ≡ true = rw z refl in
       joined y (eq-eqb _ s (ap (λ (b : List ℕ). headerOf b .slot) e ∙ g .1))
 
-  -- the slot of the window in the same place
-  at-place : (s : ℕ) → ((r : ℕ) × (r < t) × (t ≤ r + 64) × (s % 64 ≡ r % 64)) ⊎ ((r : ℕ) × (t ≤ r) × (r < 64) × (s % 64 ≡ r % 64))
-  unfolding ownerOf
-  at-place s =
-      let l = mod-lt s {m = 64} (omega arith) in
-      less-by 64 t
-      (λ u. let o = own-slot 64 (s % 64) (t - 65) l in let a = o .1 in let b = o .2 in inl (o .0, omega arith, omega arith, sym (o .3)))
-      (λ u. less-by (s % 64) t (λ v. inl (s % 64, v, omega arith, sym (mod-eq-of-lt l))) (λ v. inr (s % 64, v, l, sym (mod-eq-of-lt l))))
-
   pub ring-only : (s : ℕ) → holds w s ≡ true → (s < t) × (t ≤ s + windowSlots)
   unfolding holds
-  ring-only s h = go (at-place s)
+  ring-only s h = go (in-place t s)
     where
       full : isEmpty windowSlots s w ≡ false
       full = not-true _ (both (not (isEmpty windowSlots s w)) _ h .left)
@@ -109,12 +114,12 @@ module _ (t : ℕ) (f : ℕ → List ℕ) (w : List ℕ) (R : Ring t f w) (good 
       says : headerOf (keptBlock w s) .slot ≡ s
       says = eqb-true _ s (both (not (isEmpty windowSlots s w)) _ h .right)
 
-      go : ((r : ℕ) × (r < t) × (t ≤ r + 64) × (s % 64 ≡ r % 64)) ⊎ ((r : ℕ) × (t ≤ r) × (r < 64) × (s % 64 ≡ r % 64)) → (s < t) × (t ≤ s + windowSlots)
+      go : InPlace t s → (s < t) × (t ≤ s + windowSlots)
       go (inl r) =
-          let p = same-place s (r .0) (r .3) in
-          let e : s ≡ r .0 = sym says ∙ ap (λ (k : ℕ). headerOf (slice k (k + 512) w) .slot) p ∙ ap (λ (b : List ℕ). headerOf b .slot) (R .blocks (r .0) (r .1) (r .2)) ∙ good (r .0) (r .1) .1 in
+          let e : s ≡ r .0 = sym says ∙ ap (λ (b : List ℕ). headerOf b .slot) (same-kept w s (r .0) (r .3) ∙ R .blocks (r .0) (r .1) (r .2)) ∙ good (r .0) (r .1) .1 in
           rw e (r .1, r .2)
-      go (inr r) = clash (ap (λ (k : ℕ). eqb (getD w k 0) 0) (same-place s (r .0) (r .3)) ∙ R .none (r .0) (r .1) (r .2)) full
+      go (inr r) =
+          clash (ap (λ (k : ℕ). eqb (getD w k 0) 0) (same-place s (r .0) (r .3)) ∙ empty-same windowSlots (r .0) w emptyWindow (R .none (r .0) (r .1) (r .2)) ∙ none-kept (r .0)) full
 
   -- the ends of a range decide
   pub lacks-none : (from to : ℕ) → lacks w from to ≡ false → (s : ℕ) → from ≤ s → s < to → holds w s ≡ true
@@ -140,6 +145,31 @@ module _ (t : ℕ) (f : ℕ → List ℕ) (w : List ℕ) (R : Ring t f w) (good 
       let k : leb (to - from) windowSlots ≡ true = le-leb (to - from) windowSlots (omega arith) in
       rw (k, p, q, lt-ltb from to l) refl)
       (λ l. rw (le-ltb from to l) refl)
+
+-- ---- two windows with the same blocks are one
+
+module _ (t : ℕ) (f g : ℕ → List ℕ) (v w : List ℕ) (R : Ring t f v) (S : Ring t g w) (same : (s : ℕ) → s < t → t ≤ s + windowSlots → f s ≡ g s) where
+  one-place : (s : ℕ) → keptBlock v s ≡ keptBlock w s
+  one-place s = go (in-place t s)
+    where
+      go : InPlace t s → keptBlock v s ≡ keptBlock w s
+      go (inl r) = same-kept v s (r .0) (r .3) ∙ R .blocks (r .0) (r .1) (r .2) ∙ same (r .0) (r .1) (r .2) ∙ sym (S .blocks (r .0) (r .1) (r .2)) ∙ sym (same-kept w s (r .0) (r .3))
+      go (inr r) = same-kept v s (r .0) (r .3) ∙ R .none (r .0) (r .1) (r .2) ∙ sym (S .none (r .0) (r .1) (r .2)) ∙ sym (same-kept w s (r .0) (r .3))
+
+  -- from place i on
+  one-rest : (c i : ℕ) → i + c ≡ 64 → drop (512 * i) v ≡ drop (512 * i) w
+  unfolding placeStart
+  one-rest zero i e = drop-of-length-le v {i = 512 * i} (let l = R .long in omega arith) ∙ sym (drop-of-length-le w {i = 512 * i} (let l = S .long in omega arith))
+  one-rest (suc c) i e =
+      let z : 512 * suc i ≡ 512 * i + 512 = omega arith in
+      let p : i % 64 ≡ i = mod-eq-of-lt (omega arith) in
+      cut (512 * i) (512 * i + 512) v (omega arith)
+      ∙ ap (λ (b : List ℕ). b ++ drop (512 * i + 512) v) (rw p at (one-place i))
+      ∙ ap (λ (b : List ℕ). slice (512 * i) (512 * i + 512) w ++ b) (rw z at (one-rest c (suc i) (omega arith)))
+      ∙ sym (cut (512 * i) (512 * i + 512) w (omega arith))
+
+  pub ring-one : v ≡ w
+  ring-one = one-rest 64 0 refl
 
 -- ---- the blocks that a restart reads
 

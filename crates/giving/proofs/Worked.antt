@@ -21,7 +21,7 @@ use Rattle.giving.specs.Worked.{RightChoices, RightGivings}
 
 pub right-choices : RightChoices
 unfolding bestOf
-right-choices = record { highest = refl; own-higher = refl; own-zero = refl; own-down = refl; nobody = refl }
+right-choices = record { highest = refl; upward = refl; round = refl; own-zero = refl; own-down = refl; nobody = refl }
 
 pub right-givings : RightGivings
 unfolding bytesOf numberFrom valueBytes valueOf word sumTo weightedTo firstCheck secondCheck checkBytes checkMatches ownerOf within kindFits entriesFit recordFits recordsFit ticketAbsent ticketsDiffer valid entryBytes entriesBytes recordBytes recordsBytes headerFor headerBytes bodyBytes blockOf entryOf entriesOf recordOf recordsOf messageOf allZero entriesPadded recordPadded recordsPadded padded wellFormed firstOf headerOf recordAt entryAt bump openCount rowFrom rowOf freeRow indexFrom has holderFrom countBelow placeStart emptyWindow madeMemory hasClass classFrom classToCome mustWait beginRefusal beginAt beginRow writeRefusal insertWrite writeRow rewriteAt staleAt sameBytes deliverRefusal deliverNow deliverStep entriesFor applied stamped shares afterAborts insertRising hitTickets without workRefusal passNext commitWriteset workStep passOut passBlock step after bestOf holds lacks gathered doing workOut takeSlot giveSlots giveRefusal giveStep

@@ -1,5 +1,5 @@
--- The giver: "the other replica that is up with the highest turn, ties to the lowest number."
-use Prim.Native.Nat.{ℕ, zero, suc}
+-- The giver: "the other replica that is up with the highest turn"; ties go "to the first of the tied replicas after the returner, counting upward and round from N − 1 to 0."
+use Prim.Native.Nat.{ℕ, zero, suc, _+_, _%_}
 use mathlib.Core.Bool.{Bool, cond, not, _&&_, _||_}
 use mathlib.Core.List.{List}
 use lib.Dec.{eqb, ltb}
@@ -21,9 +21,9 @@ mayGive own told g = not (eqb g own) && not (eqb (toldTurn told g) down)
 abbrev pub isBetter : ℕ → List ℕ → ℕ → ℕ → Bool
 isBetter own told g h = mayGive own told h && (eqb g own || ltb (toldTurn told g) (toldTurn told h))
 
--- the i-th to be looked at: by number
+-- the i-th to be looked at: upward from the one after the returner, and round
 abbrev pub candidate : (own n i : ℕ) → ℕ
-candidate own n i = i
+candidate own n i = (own + 1 + i) % n
 
 -- of the first c candidates the first with the highest turn; the returner's own number where nobody may give
 unfoldable pub bestOf : ℕ → List ℕ → ℕ → ℕ

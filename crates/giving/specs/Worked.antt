@@ -12,9 +12,10 @@ use Rattle.giving.specs.Choice.{down, giverOf}
 use Rattle.giving.specs.Giving.{giveStep}
 
 pub record RightChoices : Type 0 where
-  -- the highest turn, the first of the tied; the own entry is not looked at, be it higher or lower
+  -- the highest turn, of the tied the first after the returner, upward and round; the own entry is not looked at, be it higher or lower
   pub highest : giverOf 0 (9 ∷ 3 ∷ 4 ∷ 4 ∷ []) ≡ 2
-  pub own-higher : giverOf 3 (3 ∷ 4 ∷ 4 ∷ 9 ∷ []) ≡ 1
+  pub upward : giverOf 1 (4 ∷ 9 ∷ 3 ∷ 4 ∷ []) ≡ 3
+  pub round : giverOf 2 (4 ∷ 4 ∷ 9 ∷ 3 ∷ []) ≡ 0
   pub own-zero : giverOf 3 (0 ∷ 0 ∷ 0 ∷ 0 ∷ []) ≡ 0
   pub own-down : giverOf 0 (down ∷ down ∷ 2 ∷ []) ≡ 2
   pub nobody : giverOf 2 (down ∷ down ∷ 0 ∷ []) ≡ 2

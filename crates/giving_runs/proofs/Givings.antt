@@ -35,4 +35,4 @@ worked-place = record { given = refl; turns = refl; window = refl; station = ref
 
 pub worked-ties : WorkedTies
 unfolding bestOf
-worked-ties = record { at-one = refl; at-three = refl; at-zero = refl }
+worked-ties = record { at-one = refl; at-three = refl; last-down = refl; at-two = refl; at-zero = refl }

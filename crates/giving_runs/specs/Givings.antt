@@ -111,9 +111,11 @@ pub record WorkedPlace : Type 0 where
   -- the choice alone
   pub choice : giverRefusal half (1 ∷ down ∷ 1 ∷ []) ∷ giverRefusal half (down ∷ 1 ∷ []) ∷ giverRefusal half (1 ∷ down ∷ []) ∷ [] ≡ 1 ∷ 30 ∷ 0 ∷ []
 
--- ---- ties go to the lowest number
+-- ---- ties go to the first after the returner
 
 pub record WorkedTies : Type 0 where
-  pub at-one : giverOf 1 (0 ∷ 0 ∷ 0 ∷ 0 ∷ []) ≡ 0
+  pub at-one : giverOf 1 (0 ∷ 0 ∷ 0 ∷ 0 ∷ []) ≡ 2
   pub at-three : giverOf 3 (0 ∷ 0 ∷ 0 ∷ 0 ∷ []) ≡ 0
+  pub last-down : giverOf 2 (0 ∷ 0 ∷ 0 ∷ down ∷ []) ≡ 0
+  pub at-two : giverOf 2 (0 ∷ 0 ∷ 0 ∷ 0 ∷ []) ≡ 3
   pub at-zero : giverOf 0 (9 ∷ 0 ∷ 0 ∷ 0 ∷ []) ≡ 1

@@ -1,2 +1,2 @@
--- Document 02's Req 11, worked.
+-- Document 02's Req 11 and 12, worked.
 pub mod Givings

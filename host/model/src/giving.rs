@@ -1,4 +1,4 @@
-//! Coming back after a while (document 02, Req 11): who gives a replica what it missed, and the giving.
+//! Coming back after a while (document 02, Req 11 and 12): who gives a replica what it missed, and the giving.
 
 use std::cmp::Reverse;
 
@@ -11,11 +11,13 @@ use crate::window::Window;
 pub const DOWN: u32 = u32::MAX;
 
 /// The number of the replica that gives to the one with number `own`, by the turns told, one for each
-/// replica: of the others that are up that with the highest turn, and of several the lowest number.
+/// replica: of the others that are up that with the highest turn, and of several the first behind `own`,
+/// counting upward and round.
 pub fn giver(own: u8, turns: &[u32]) -> Option<u8> {
     let others = (0..).zip(turns).filter(|&(k, _)| k != own);
     let up = others.filter(|&(_, &turn)| turn != DOWN);
-    up.min_by_key(|&(k, turn)| (Reverse(turn), k))
+    let behind = |k: u8| (i64::from(k) - i64::from(own) - 1).rem_euclid(turns.len() as i64);
+    up.min_by_key(|&(k, turn)| (Reverse(turn), behind(k)))
         .map(|(k, _)| k)
 }
 

@@ -27,7 +27,7 @@ pub fn calls() -> Vec<u8> {
     list.lines()
 }
 
-/// The worked lists of document 02's Req 11 alone, as a list.
+/// The worked lists of document 02's Req 11 and 12 alone, as a list.
 pub fn worked_givings() -> Vec<u8> {
     let mut list = List::default();
     worked::play(&mut list, &givings::worked::LISTS);

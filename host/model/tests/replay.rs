@@ -84,7 +84,7 @@ fn stored_notices() {
     check("examples/notices.out", &output(&input));
 }
 
-/// Those of Req 11 (`workload::givings`).
+/// Those of Req 11 and 12 (`workload::givings`).
 #[test]
 fn stored_givings() {
     let input = workload::worked_givings();

@@ -1,5 +1,5 @@
 //! Prints the list of calls that is stored as the input of the program `replay`; with the argument `notices`
-//! the worked lists of document 02's Req 10 alone, with `givings` those of Req 11.
+//! the worked lists of document 02's Req 10 alone, with `givings` those of Req 11 and 12.
 
 use std::io::{self, Write};
 

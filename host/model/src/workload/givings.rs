@@ -1,4 +1,4 @@
-//! Givings (document 02, Req 11): worked lists, lines that are none, who gives, whose window is lent, what a
+//! Givings (document 02, Req 11 and 12): worked lists, lines that are none, who gives, whose window is lent, what a
 //! window has, and what ends a giving. Groups in which replicas come back are in `recorded`.
 
 pub(super) mod worked;
@@ -82,7 +82,7 @@ fn places(list: &mut List) {
     list.calls(
         "A 2 3 1, G 1 0 0 1, G 1 0 0 0, G 1 0 4294967295 4294967295, G 1 0 0 4294967295, G 1 1 0 0",
     );
-    list.calls("M 5 6 5 1, A 4 6 1, M 3 6 3 1, G 3 4 3 2 1 5 0, G 3 4 3 2 1 0 0, G 3 0 0 0 0 0 5, G 3 0 0 0 0 0 0");
+    list.calls("M 5 6 5 1, A 4 6 1, M 3 6 3 1, G 3 4 3 2 1 5 0, G 3 4 3 2 1 0 0, G 3 0 0 0 0 0 5, G 3 0 0 0 0 4294967295 4294967295");
 }
 
 /// What a window has after a make, a station, a restart of the place and one from other bytes; a refused one leaves it.

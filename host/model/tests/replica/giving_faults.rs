@@ -1,4 +1,4 @@
-//! Replicas that are wrong about windows and givings (document 02, Req 11) and look finished. Each differs from
+//! Replicas that are wrong about windows and givings (document 02, Req 11 and 12) and look finished. Each differs from
 //! the model in some giving; and a group with a membership service shows each, but where turns told wrongly are
 //! what it takes.
 
@@ -60,8 +60,14 @@ pub enum Fault {
     OwnCounted,
     /// Who is down has the highest turn.
     DownCounted,
+    /// Ties go to the lowest number, as before Req 12.
+    TiesToLowest,
     /// Ties go to the highest number.
     TiesToHighest,
+    /// Ties go to the first before the own number: counted downward.
+    TiesDownward,
+    /// Ties go upward from the own number, and not round: else to the last before it.
+    TiesNotRound,
     /// The lowest number gives that is up.
     LowestGives,
     /// The giver's turn is taken from its window, and not as it was told.
@@ -69,7 +75,7 @@ pub enum Fault {
 }
 
 /// All faults.
-pub const FAULTS: [Fault; 26] = [
+pub const FAULTS: [Fault; 29] = [
     Fault::OwnNotKept,
     Fault::OthersNotKept,
     Fault::OutNotKept,
@@ -93,7 +99,10 @@ pub const FAULTS: [Fault; 26] = [
     Fault::TakenBack,
     Fault::OwnCounted,
     Fault::DownCounted,
+    Fault::TiesToLowest,
     Fault::TiesToHighest,
+    Fault::TiesDownward,
+    Fault::TiesNotRound,
     Fault::LowestGives,
     Fault::TrueTurn,
 ];
@@ -110,11 +119,11 @@ const OF_WINDOWS: [Fault; 8] = [
     Fault::KeptOnArrival,
 ];
 
-/// Whether some of so many runs tells a fault that all replicas of a group have, or only the first.
+/// Whether some of so many runs tells a fault that all replicas of a group have, or only one.
 fn told(fault: Fault, every: bool, runs: u64, tells: fn(&Group<Faulty>) -> bool) -> bool {
     (0..runs).any(|seed| {
         let n = 2 + seed as u32 % 5;
-        let member = |own| match every || own == 0 {
+        let member = |own| match every || own == seed as u32 / 5 % n {
             true => Faulty::of(Machine::new(make(n, own)), fault),
             false => Faulty::of(Machine::new(make(n, own)), Fault::None),
         };
@@ -150,7 +159,7 @@ fn a_giving_tells() {
     let untold = [Fault::None, Fault::RefusalPassed, Fault::TakenBack];
     for fault in [Fault::None].into_iter().chain(FAULTS) {
         let due = !untold.contains(&fault);
-        let runs = if due { 300 } else { 10 };
+        let runs = if due { 1000 } else { 10 };
         for every in [true, false] {
             assert_eq!(told(fault, every, runs, tells), due, "{fault:?}, {every}");
         }

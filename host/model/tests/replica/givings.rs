@@ -1,4 +1,4 @@
-//! The choice of the giver and the giving (document 02, Req 11), by hand; at random in `giving_runs`.
+//! The choice of the giver and the giving (document 02, Req 11 and 12), by hand; at random in `giving_runs`.
 
 use model::block::BLOCK;
 use model::drive::{Gives, Group, Machine, Style, Subject, STYLES};
@@ -17,10 +17,15 @@ fn who_gives() {
     for (own, turns, due) in [
         (2, vec![3, 2, 9], Some(0)),
         (2, vec![2, 3, 9], Some(1)),
-        // Ties go to the lowest number, wherever the own one is.
+        // Ties go to the first behind the own number, upward and round.
         (0, vec![5, 3, 3, 3], Some(1)),
-        (1, vec![3, 5, 3, 3], Some(0)),
+        (1, vec![3, 5, 3, 3], Some(2)),
+        (2, vec![3, 3, 5, 3], Some(3)),
+        (3, vec![3, 3, 3, 5], Some(0)),
         (3, vec![2, 3, 3, 5], Some(1)),
+        (1, vec![3, 5, 2, 3], Some(3)),
+        (2, vec![3, 3, 5, 2], Some(0)),
+        (2, vec![3, 3, 5, DOWN], Some(0)),
         // The own entry is not looked at, whatever it says.
         (1, vec![0, DOWN], Some(0)),
         (1, vec![0, DOWN - 1], Some(0)),
@@ -31,10 +36,21 @@ fn who_gives() {
         (0, vec![DOWN, DOWN], None),
         (0, vec![DOWN - 1, DOWN - 1], Some(1)),
         (5, vec![4, 8, 8, 2, DOWN, 8], Some(1)),
+        (1, vec![8, 8, 4, 2, DOWN, 8], Some(5)),
     ] {
         assert_eq!(giver(own, &turns), due, "{own}, {turns:?}");
         let n = turns.len() as u32;
         assert_eq!(make(n, own.into()).giver(&turns), due.ok_or(30));
+    }
+}
+
+/// Where all stand level, each gives to one: the one before it.
+#[test]
+fn each_gives_once() {
+    for n in 2..=6u8 {
+        let due = (1..n).chain([0]).map(Some);
+        let givers = (0..n).map(|own| giver(own, &vec![7; n.into()]));
+        assert!(givers.eq(due), "{n}");
     }
 }
 

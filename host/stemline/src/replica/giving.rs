@@ -6,8 +6,8 @@ use crate::{accepted, Given, Refusal, Window};
 
 impl Replica {
     /// Who is to give, by the turn of each replica of the group, [`crate::DOWN`] for one that is down: the other
-    /// one that is up with the highest turn, of equal ones that with the lowest number. The own turn is not looked
-    /// at. Refused by 25, 1 where it is not told of n, 30 where nobody else is up.
+    /// one that is up with the highest turn, of equal ones the first behind this one, counting upward and round.
+    /// The own turn is not looked at. Refused by 25, 1 where it is not told of n, 30 where nobody else is up.
     pub fn giver(&self, turns: &[u32]) -> Result<u8, Refusal> {
         let reply = ffi::giver(&self.memory.group, turns);
         accepted(reply.number, reply.giver)

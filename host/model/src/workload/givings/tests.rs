@@ -13,7 +13,7 @@ fn lines_that_are_none() {
     assert_eq!(answers(lines), due);
 }
 
-/// By the number of replicas and the returner's: of all that are level the lowest other one, of rising turns the
+/// By the number of replicas and the returner's: of all that are level the first behind it, of rising turns the
 /// last other one, of falling ones the first; then nobody, the last, and one of odd number.
 #[test]
 fn who_gives() {
@@ -21,14 +21,16 @@ fn who_gives() {
         let mut due = vec!["0".to_string(); n as usize];
         for own in 0..n {
             let others = || (0..n).filter(|&g| g != own);
+            let round = || (own + 1..n).chain(0..own);
+            let behind = round().next();
+            let odd = round().find(|g| g % 2 == 1);
             let first = others().next();
-            let odd = others().find(|g| g % 2 == 1);
             let last = others().next_back();
             let ends = others().find(|&g| g + 1 == n);
-            let eighth = others().find(|g| [1, 2, 4, 5].contains(g)).or(first);
+            let eighth = round().find(|g| [1, 2, 4, 5].contains(g)).or(first);
             let lacks = |g: Option<u32>| g.map_or("30".to_string(), |g| format!("31 {g}"));
-            due.extend([first, last, first, None, ends, odd, eighth].map(lacks));
-            due.push(format!("0 {} 0", first.unwrap()));
+            due.extend([behind, last, first, None, ends, odd, eighth].map(lacks));
+            due.push(format!("0 {} 0", behind.unwrap()));
         }
         assert_eq!(answers(|list| choices(list, n)), due.join(", "));
     }

@@ -1,11 +1,12 @@
-//! The worked lists of document 02's Req 11.
+//! The worked lists of document 02's Req 11 and 12.
 
 /// Name and lines of each list.
-pub const LISTS: [(&str, &str); 4] = [
+pub const LISTS: [(&str, &str); 5] = [
     ("a giving", GIVING),
     ("a giving ended by a deliver", ENDED),
     ("in place already, half applied", IN_PLACE),
     ("a window of 64 slots", WINDOW),
+    ("ties", TIES),
 ];
 
 /// Ticket 2 is aborted by the first writeset and 1 by the second: they are named in rising order. The own entry
@@ -157,3 +158,15 @@ const WINDOW: &str = concat!(
     Q 1 -> 0 66 0 0 0 0 0 0 0
     J 1 65 -> 0 {next 65 3}"
 );
+
+/// All stand level: the first behind the returner gives, counting upward and round; who is down is passed over.
+const TIES: &str = "
+    M 0 4 0 0 -> 0
+    M 1 4 1 0 -> 0
+    M 2 4 2 0 -> 0
+    M 3 4 3 0 -> 0
+    G 1 0 0 0 0 -> 0 2 0
+    G 3 0 0 0 0 -> 0 0 0
+    G 2 0 0 0 4294967295 -> 0 0 0
+    G 2 0 0 0 0 -> 0 3 0
+    G 0 9 0 0 0 -> 0 1 0";

@@ -1,5 +1,6 @@
 //! A replica of the model with a fault put around its window and its givings.
 
+use std::cmp::Reverse;
 use std::collections::VecDeque;
 
 use model::block::{self, BLOCK};
@@ -59,6 +60,8 @@ impl Faulty {
         let replica = &self.machine.replica;
         let own = replica.own?;
         let mut others: Vec<(u8, u32)> = (0..).zip(turns.iter().copied()).collect();
+        // From the one behind on, and round.
+        others.rotate_left(usize::from(own) + 1);
         if self.fault != Fault::OwnCounted {
             others.retain(|&(k, _)| k != own);
         }
@@ -66,16 +69,20 @@ impl Faulty {
             others.retain(|&(_, turn)| turn != DOWN);
         }
         match self.fault {
-            Fault::LowestGives => {}
-            Fault::TiesToHighest => others.sort_by_key(|&(k, turn)| (turn, k)),
-            // By turn alone: what is equal stays in its order.
-            _ => others.sort_by_key(|&(_, turn)| DOWN - turn),
+            Fault::TiesToLowest | Fault::LowestGives => others.sort_unstable(),
+            Fault::TiesToHighest => others.sort_unstable_by_key(|&(k, _)| Reverse(k)),
+            Fault::TiesDownward => others.reverse(),
+            Fault::TiesNotRound => {
+                let behind = others.iter().filter(|&&(k, _)| k > own).count();
+                others[behind..].reverse();
+            }
+            _ => {}
         }
-        let chosen = match self.fault {
-            Fault::TiesToHighest => others.last(),
-            _ => others.first(),
-        };
-        chosen.map(|&(k, _)| k)
+        if self.fault != Fault::LowestGives {
+            // By turn alone: what is equal stays in its order.
+            others.sort_by_key(|&(_, turn)| Reverse(turn));
+        }
+        others.first().map(|&(k, _)| k)
     }
 
     /// Whether 31 refuses a giving.
