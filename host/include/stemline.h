@@ -28,7 +28,7 @@
  *   order, by stemline_replica_take, and sends none.
  * - Nobody waits for it, so it may fall behind and be refused a block by 18 that was handed
  *   out. Keep that block, and offer it again when the station's turn has come nearer. (A
- *   replica is waited for: no block that its group handed out is refused so there.)
+ *   replica is waited for: where nobody is out, no block of its group is refused so there.)
  * - It has no journal and no restart. After a cut of the power it is made anew, with the
  *   values that the group started with, and needs all blocks from slot 0 on. A replica's
  *   journal, as far as it is durable, has them in order.
@@ -36,14 +36,14 @@
  * A replica that is to outlast a cut of the power has a journal: a file of blocks,
  * one behind the other, which the host keeps. stemline_journal.h does that. Who keeps
  * one by other means hands no block of a send out before it is appended and durable
- * (fsync), and before the next of these appends what works, takes and givings have left:
- * the window's blocks of the slots from the journal's number of blocks on up to the turn.
+ * (fsync), and behind each work, take and giving appends what the turn has left: the
+ * window's blocks of the slots from the journal's number of blocks on up to the turn.
  * host/README.md ("The journal") has all steps, also for a disk that fails.
  *
  * A call answers 0 where it is accepted, else the number of the first condition
  * that holds, in the order that its comment names; stemline_words says what a
  * number stands for. A refused call changes nothing; only STEMLINE_STALE ends its
- * transaction. Every call is defined on any content of the memory, and returns.
+ * transaction, and of a giving that a deliver ended the refused call is that. Every call is defined on any content of the memory, and returns.
  *
  * host/examples/first.c is a whole program, host/examples/story.c a longer one,
  * host/examples/durable.c one with a journal, host/examples/print_room.c one with a
@@ -365,7 +365,7 @@ static inline void stemline_replica_works(
  * nothing waits for the turn. Gives the steps in their order: none where the
  * block is early and has to wait; those of blocks that waited already too, where
  * this is the one that they waited for. The blocks of the slots that they leave go to
- * the journal, from the window.
+ * the journal, from the window, but for an own one, which is there since its send.
  * Refused by 1, 14, 15, 16, 17, 29, 18, 19, 20, as the deliver is: nothing is worked,
  * and what waits already goes on waiting. So it is with a block that comes a
  * second time (17 or 20), which a host may pass over.

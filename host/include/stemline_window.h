@@ -10,8 +10,8 @@
  * 3. The giver's host answers with the blocks of the slots from the returner's turn on up to
  *    its own as told, out of its window: stemline_window_block.
  * 4. The returner's host puts them into a window of zeros, by stemline_window_put, and calls
- *    stemline_replica_give with the turns that were told. Then it appends what the turn has
- *    left to its journal, as behind a take.
+ *    stemline_replica_give with the turns that were told, where each was put. Then it appends
+ *    what the turn has left to its journal, as behind a take.
  *
  * A longer holiday is made up for block by block from the giver's journal, by
  * stemline_replica_take_slot. host/README.md ("Coming back after a holiday") says more. */
@@ -62,11 +62,13 @@ static inline stemline_giver_reply stemline_replica_giver(
  * Where r is level with the giver or ahead, nothing is done, and the window is not looked at.
  *
  * r has taken the notices that the giver has taken: then it comes to the giver's turn as told, with
- * the values that the giver had there. The blocks of the slots that it left go to the journal.
+ * the values that the giver had there. The blocks of the slots that it left go to the journal, as
+ * behind a take, and are durable before anything goes on where one of them was out.
  *
  * Refused by 25, 1, 30, and by 31 where the window lacks a block of these slots, by the first and
- * the last of them. Any other number is a deliver's, as with other notices or an altered window:
- * that ended it, and what went before stands. The window is not r's own. */
+ * the last of them. Any other number is a deliver's, or a work's 21, as with other notices or a
+ * window that lacks one in between: that ended it, and what went before stands. The window is not
+ * r's own. */
 static inline stemline_give_reply stemline_replica_give(
     stemline_replica *r, const uint32_t *turns, size_t count, const uint8_t window[STEMLINE_WINDOW]) {
     return stemline_give(
@@ -79,8 +81,8 @@ static inline stemline_give_reply stemline_replica_give(
 /* Takes the turn's slot, with its block as another's journal has it: delivers that, unless the slot
  * is out or a block is in place, and works until the turn has left the slot. What is behind it
  * waits, so that a notice can be taken before. Also at a station, which is fed from a journal.
- * Refused as the deliver is. A block of another slot is kept as by a deliver, and nothing is
- * worked. */
+ * Refused as the deliver is. Where nothing is in place, a block of another slot is kept as by a
+ * deliver, and nothing is worked. */
 static inline stemline_take_reply stemline_replica_take_slot(
     stemline_replica *r, const uint8_t *bytes, size_t length) {
     stemline_take_reply reply;

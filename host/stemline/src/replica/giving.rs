@@ -23,8 +23,8 @@ impl Replica {
     /// journal, in order.
     ///
     /// Refused by 25, 1, 30, and by 31 where the window lacks a block of these slots, by the first and the last
-    /// of them. Where a deliver is refused, as with other notices or an altered window, that ends it
-    /// ([`Given::ended`]), and what went before stands.
+    /// of them. Where a deliver is refused, as with other notices, or a work, as with a window that lacks a block
+    /// in between, that ends it ([`Given::ended`]), and what went before stands.
     pub fn give(&mut self, turns: &[u32], window: &Window) -> Result<Given, Refusal> {
         Given::of(&self.given(turns, window))
     }

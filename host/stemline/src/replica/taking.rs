@@ -11,7 +11,7 @@ impl Replica {
     /// What a replica does with a block that arrives: delivers it, then works until nothing waits for the
     /// turn. Gives the steps in their order: none where the block is early and has to wait; those of
     /// blocks that waited already too, where this is the one that they waited for. The blocks of the slots that
-    /// they leave go to the journal.
+    /// they leave go to the journal, but for an own one, which is there since its send.
     ///
     /// Refused by 1, 14, 15, 16, 17, 29, 18, 19, 20, as the deliver is: nothing is worked, and what waits
     /// already goes on waiting. So it is with a block that comes a second time (17 or 20), which a
@@ -28,7 +28,8 @@ impl Replica {
     /// or a block is in place, and works until the turn has left the slot. What is behind it waits, so that a
     /// notice can be taken before.
     ///
-    /// Refused as the deliver is. A block of another slot is kept as by a deliver, and nothing is worked.
+    /// Refused as the deliver is. Where nothing is in place, a block of another slot is kept as by a deliver, and
+    /// nothing is worked.
     pub fn take_slot(&mut self, bytes: &[u8]) -> Result<Taken, Refusal> {
         if !self.waits() {
             self.deliver(bytes)?;
