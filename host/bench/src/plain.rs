@@ -4,6 +4,7 @@
 
 mod classes;
 mod client;
+mod giving;
 mod notice;
 mod restart;
 mod turn;
@@ -12,6 +13,7 @@ use model::block::{BLOCK, ENTRIES, RECORDS};
 use model::refusal::OUT_OF_RANGE;
 use model::replica::{Report, ITEMS};
 
+pub use self::giving::giver;
 pub use self::restart::Restarted;
 
 /// The most replicas of a group.

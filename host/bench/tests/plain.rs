@@ -234,3 +234,33 @@ fn all_give_the_same() {
     assert!(seen.restarts > 1_000, "{seen:?}");
     assert!(seen.offered_again > 100, "{seen:?}");
 }
+
+/// All turns of 0, 1 and down, for every returner: the library, the model and plain Rust name the same.
+#[test]
+fn who_gives() {
+    let mut ties = 0;
+    for n in 2..=6u32 {
+        for own in 0..n {
+            let both = Both::new(n, own, &start_values());
+            for told in 0..3usize.pow(n) {
+                let turn = |k: u32| [0, 1, u32::MAX][told / 3usize.pow(k) % 3];
+                let turns: Vec<u32> = (0..n).map(turn).collect();
+                let plain = plain::giver(own as usize, &turns);
+                let library = both.library.giver(&turns).ok();
+                assert_eq!(library.map(usize::from), plain, "{own} of {turns:?}");
+                assert_eq!(
+                    model::giving::giver(own as u8, &turns),
+                    library,
+                    "{turns:?}"
+                );
+                let lowest = (0..n as usize)
+                    .find(|&k| k != own as usize && Some(turns[k]) == plain.map(|g| turns[g]));
+                ties += usize::from(plain != lowest);
+            }
+        }
+    }
+    assert!(
+        ties > 100,
+        "{ties} ties that the number would give to another"
+    );
+}

@@ -148,7 +148,7 @@ fn each_slot_in_order() {
     let given = holiday.give().unwrap();
     assert_eq!(
         (given.giver, given.ended, given.aborted()),
-        (0, None, &[][..])
+        (2, None, &[][..])
     );
     let write = |slot| format!("write 512 at {}", place(slot));
     let mut due = vec![write(4), "write 1552 at 8192".into(), "sync".into()];
@@ -170,7 +170,7 @@ fn each_slot_in_order() {
     let given = holiday.returner.give(&turns, &Window::new()).unwrap();
     assert_eq!(
         (given.giver, given.ended, given.aborted()),
-        (0, None, &[][..])
+        (2, None, &[][..])
     );
     assert_eq!(told::steps(), [""; 0]);
     holiday.is_level(&room);
@@ -263,7 +263,7 @@ fn ended_by_a_deliver() {
     holiday.out(&[1], 4);
     holiday.sends(4);
     let given = holiday.give().unwrap();
-    assert_eq!((given.giver, given.ended), (0, Some(Refusal::NotSent)));
+    assert_eq!((given.giver, given.ended), (2, Some(Refusal::NotSent)));
     assert_eq!(holiday.returner.report().turn, 4);
     assert!(blocks_of(&room) == holiday.blocks[..4].concat());
     // It is as one that never was given to.
