@@ -111,6 +111,15 @@ def tables():
     return {a: b for a, b in table.items() if a != b} | OWN
 
 
+def library(code):
+    """The names that a file takes from the library: they stay there."""
+    out = set()
+    for m in re.finditer(r"\buse ([^{;\n]*)\{([^}]*)\}", code):
+        if not re.match(r"Rattle\.(?!std\b)", m[1]):
+            out |= {it.split(" as ")[0].strip() for it in m[2].split(",")}
+    return out
+
+
 def turn(text, table):
     def one(m):
         new = table.get(m[0], m[0])
@@ -150,7 +159,9 @@ def main():
     changed = 0
     for path in files(".antt", ".rt"):
         text = read(path)
-        new = (antt_turned if path.endswith(".antt") else rt_turned)(text, table)
+        stay = library(bare(text) if path.endswith(".antt") else text)
+        own = {a: b for a, b in table.items() if a not in stay}
+        new = (antt_turned if path.endswith(".antt") else rt_turned)(text, own)
         if new != text:
             changed += 1
             if not check:

@@ -1,7 +1,7 @@
 -- Laws of the form check over plain lists and numbers: one step of each recursion of the definitions, from a place in the whole list,
 -- for each answer that the code gives there. Assumes nothing.
 use Prim.Native.Nat.{ℕ, zero, suc, ◌+◌, ◌*◌, ◌-◌, ◌%◌, ◌<◌, ◌≤◌}
-use mathlib.Core.Bool.{Bool, true, false, not, cond, ◌&&◌, and_false, and_true, and_self, and_assoc, and_comm}
+use mathlib.Core.Bool.{Bool, true, false, not, cond, ◌&&◌, and-false, and-true, and_self, and_assoc, and_comm}
 use mathlib.Core.List.{List, [], ◌∷◌, ◌++◌}
 use mathlib.Core.Path.{◌≡◌, refl, sym, ◌∙◌}
 use native.Mathlib.Nat.{add-zero, sub_self}
@@ -30,7 +30,7 @@ within-below low high x h = rw (lt-leb low x h)
 
 pub within-above : (low high x : ℕ) → high < x → within low high x ≡ false
 unfolding within
-within-above low high x h = rw (lt-leb x high h, and_false)
+within-above low high x h = rw (lt-leb x high h, and-false)
 
 -- what a call's result r says, where the test `!r` holds and where it does not
 pub refused : {r b : Bool} → r ≡ b → not r ≡ true → b ≡ false
@@ -41,7 +41,7 @@ passed {r} e h = sym e ∙ not-false r h
 
 and_left : (a b c : Bool) → (a && (b && c)) ≡ (b && (a && c))
 and_left true b c = refl
-and_left false b c = sym (and_false b)
+and_left false b c = sym (and-false b)
 
 ruleset sorted = (and_assoc, and_comm, and_left)
 
@@ -104,7 +104,7 @@ zero_differ w (suc x) b h = rw (ne_eqb (suc x) 0 (omega arith))
 -- by eight: x is the number of the last eight bytes, which stand from place k on, and w that of the eight from place i on
 module _ (l : List ℕ) (k x : ℕ) (full : k + 8 ≡ length l) (last : x ≡ number_from (slice k (k + 8) l)) where
   zero-last : eqb x 0 ≡ all_zero (drop k l)
-  zero-last = rw (zero_part l k x last, zero-end l (k + 8) (sym full), and_true)
+  zero-last = rw (zero_part l k x last, zero-end l (k + 8) (sym full), and-true)
 
   pub eight-start : all_zero l ≡ (eqb x 0 && all_zero l)
   eight-start = rw (zero-last, and_comm) (sym (zero_later l 0 k (omega arith)))
@@ -126,9 +126,9 @@ packed : (low high b y : ℕ) (P : ℕ → Bool) → high < 256
     → (within low high b && eqb y 0 && P b) ≡ (within low high (b + 256 * y) && P (b + 256 * y))
 packed low high b zero P h =
     let e : b + 256 * 0 ≡ b = omega arith in
-    rw (and_true (within low high b), e)
+    rw (and-true (within low high b), e)
 packed low high b (suc y) P h =
-    rw (within-above low high (b + 256 * suc y) (omega arith), ne_eqb (suc y) 0 (omega arith), and_false (within low high b))
+    rw (within-above low high (b + 256 * suc y) (omega arith), ne_eqb (suc y) 0 (omega arith), and-false (within low high b))
 
 packed-at : (l : List ℕ) (f t x low high : ℕ) (P : ℕ → Bool) → high < 256 → f < t → t ≤ length l → x ≡ number_from (slice f t l)
     → (within low high (get_or l f 0) && all_zero (slice (f + 1) t l) && P (get_or l f 0)) ≡ (within low high x && P x)
@@ -197,7 +197,7 @@ module _ (l : List ℕ) (t : ℕ) (ticket : t ≡ number_from (take 4 l)) where
         rw (record_is, packed-at l 4 8 w 1 8 (λ n. entries_good 0 n (lent 8 (length l) l)) (omega arith) (omega arith) room writes)
 
     pub record-writes : within 1 8 w ≡ false → record_good l ≡ false
-    record-writes e = rw (record-packed, e, and_false)
+    record-writes e = rw (record-packed, e, and-false)
 
     pub record-entries : within 1 max_ticket t ≡ true → within 1 8 w ≡ true → record_good l ≡ entries_good 0 w (lent 8 (length l) l)
     record-entries e k = rw (record-packed, e, k)
@@ -289,11 +289,11 @@ header_replicas b e = rw e
 module _ (b : List ℕ) (t : ℕ) (slot : t ≡ number_from (slice 4 8 b)) where
   pub header-slot : max_slot < t → header_fits b ≡ false
   unfolding header_fits
-  header-slot h = rw (← slot, lt-leb t max_slot h, and_false)
+  header-slot h = rw (← slot, lt-leb t max_slot h, and-false)
 
   pub header-sender : (get_or b 1 0 ≡ t % get_or b 2 0 → ⊥) → header_fits b ≡ false
   unfolding header_fits owner_of
-  header-sender h = rw (← slot, ne_eqb (get_or b 1 0) (t % get_or b 2 0) h, and_false (leb t max_slot), and_false)
+  header-sender h = rw (← slot, ne_eqb (get_or b 1 0) (t % get_or b 2 0) h, and-false (leb t max_slot), and-false)
 
   pub header-rest : within 2 6 (get_or b 2 0) ≡ true → t ≤ max_slot → get_or b 1 0 ≡ t % get_or b 2 0 → header_fits b ≡ eqb (number_from (slice 8 16 b)) 0
   unfolding header_fits owner_of
@@ -312,11 +312,11 @@ cond_same false = refl
 module _ (k n : ℕ) (l : List ℕ) where
   pub rest-next : k ≡ 1 → n ≡ 0 → rest_fits k n l ≡ all_zero l
   unfolding kind_fits records_fit records_of records_padded tickets_differ
-  rest-next e z = rw (e, z) (and_true (all_zero l))
+  rest-next e z = rw (e, z) (and-true (all_zero l))
 
   pub rest-none : n ≡ 0 → (k ≡ 1 → ⊥) → rest_fits k n l ≡ false
   unfolding kind_fits
-  rest-none z e = rw (ne_eqb k 1 e, within-below 1 6 n (omega arith), and_false)
+  rest-none z e = rw (ne_eqb k 1 e, within-below 1 6 n (omega arith), and-false)
 
   pub rest_some : 1 ≤ n → (k ≡ 2 → ⊥) → rest_fits k n l ≡ false
   unfolding kind_fits
@@ -324,7 +324,7 @@ module _ (k n : ℕ) (l : List ℕ) where
 
   pub rest_over : 6 < n → rest_fits k n l ≡ false
   unfolding kind_fits
-  rest_over h = rw (ne_eqb n 0 (omega arith), within-above 1 6 n h, and_false, cond_same)
+  rest_over h = rw (ne_eqb n 0 (omega arith), within-above 1 6 n h, and-false, cond_same)
 
   module _ (kind : k ≡ 2) (low : 1 ≤ n) (high : n ≤ 6) where
     rest-two : rest_fits k n l ≡ (records_good n l && tickets_differ (records_of n l))

@@ -1,6 +1,6 @@
 -- The reader's functions: each answer of its definition, from the tests that lead to it. Assumes nothing.
 use Prim.Native.Nat.{ℕ, ◌+◌, ◌*◌, ◌≤◌, ◌<◌}
-use mathlib.Core.Bool.{true, false, and_false}
+use mathlib.Core.Bool.{true, false, and-false}
 use mathlib.Core.List.{List}
 use mathlib.Core.Path.{◌≡◌}
 use native.Mathlib.Omega.{arith}
@@ -27,7 +27,7 @@ module _ (b : List ℕ) (j : ℕ) where
 
   pub record-past : 6 ≤ j → record { ticket = 0; writes = 0 } ≡ record_at b j
   unfolding record_at
-  record-past h = rw (le-ltb j 6 h, and_false (eqb (length b) 512))
+  record-past h = rw (le-ltb j 6 h, and-false (eqb (length b) 512))
 
   pub record-some : length b ≡ 512 → j < 6 → (t : ℕ) → t ≡ number_from (slice (16 + 72 * j) (16 + 72 * j + 4) b) → record { ticket = t; writes = get_or b (16 + 72 * j + 4) 0 } ≡ record_at b j
   unfolding record_at
@@ -40,11 +40,11 @@ module _ (b : List ℕ) (j : ℕ) where
 
     pub entry_past : 6 ≤ j → no_entry ≡ entry_at b j e
     unfolding entry_at
-    entry_past h = rw (le-ltb j 6 h, and_false (eqb (length b) 512))
+    entry_past h = rw (le-ltb j 6 h, and-false (eqb (length b) 512))
 
     pub entry-over : 8 ≤ e → no_entry ≡ entry_at b j e
     unfolding entry_at
-    entry-over h = rw (le-ltb e 8 h, and_false (ltb j 6), and_false (eqb (length b) 512))
+    entry-over h = rw (le-ltb e 8 h, and-false (ltb j 6), and-false (eqb (length b) 512))
 
     pub entry-some : length b ≡ 512 → j < 6 → e < 8 → (n : ℕ) → n ≡ number_from (slice (24 + 72 * j + 8 * e + 4) (24 + 72 * j + 8 * e + 4 + 4) b) → (v : ℤ) → v ≡ to_z w32 n
         → record { item = get_or b (24 + 72 * j + 8 * e) 0; value = v } ≡ entry_at b j e

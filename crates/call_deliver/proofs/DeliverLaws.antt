@@ -1,7 +1,7 @@
 -- Each answer of a deliver, from the tests that lead to it, and the bytes that it compares. Assumes nothing.
 use Prim.Native.Nat.{ℕ, suc, ◌+◌, ◌*◌, ◌-◌, ◌≤◌, ◌<◌}
 use mathlib.Core.Path.{◌≡◌, refl, sym, ap, ◌∙◌}
-use mathlib.Core.Bool.{Bool, true, false, not, ◌&&◌, and_false}
+use mathlib.Core.Bool.{Bool, true, false, not, ◌&&◌, and-false}
 use mathlib.Core.List.{List, [], ◌∷◌}
 use native.Mathlib.Numerals.{add-one}
 use native.Mathlib.Omega.{arith}
@@ -39,7 +39,7 @@ unfolding same_bytes
 same_lengths [] [] h = absurd (h refl)
 same_lengths [] (y ∷ ys) h = refl
 same_lengths (x ∷ xs) [] h = refl
-same_lengths (x ∷ xs) (y ∷ ys) h = rw (← same_lengths xs ys (λ e. h (ap suc e))) (sym (and_false (eqb x y)))
+same_lengths (x ∷ xs) (y ∷ ys) h = rw (← same_lengths xs ys (λ e. h (ap suc e))) (sym (and-false (eqb x y)))
 
 module _ (a b : List ℕ) (i : ℕ) (h : i < length a) (k : i < length b) where
   same_here : same_bytes (drop i a) (drop i b) ≡ eqb (get_or a i 0) (get_or b i 0) && same_bytes (drop (suc i) a) (drop (suc i) b)

@@ -1,7 +1,7 @@
 -- The answers of a restart, from what the make that it begins with gave. Assumes nothing.
 use Prim.Native.Nat.{ℕ, ◌%◌}
 use mathlib.Core.Path.{◌≡◌, refl, sym, ap, ◌∙◌}
-use mathlib.Core.Bool.{Bool, true, false, ◌&&◌, and_false}
+use mathlib.Core.Bool.{Bool, true, false, ◌&&◌, and-false}
 use mathlib.Core.List.{List}
 use lib.Dec.{eqb}
 use lib.IntN.{ℤ}
@@ -39,7 +39,7 @@ module _ (m : Memory) (n own : ℕ) (start : List ℤ) (journal notices block : 
   unfolding restart_lent restart_step restart_refusal first_of
   restart-other h =
       bool_by (eqb (length notices % 3) 0)
-      (λ e. let f : eqb (length block) 512 ≡ false = rw e at h in rw (e, f, and_false (eqb (length start) 128)))
+      (λ e. let f : eqb (length block) 512 ≡ false = rw e at h in rw (e, f, and-false (eqb (length start) 128)))
       (λ e. rw e)
 
   module _ (fits : fit ≡ true) where

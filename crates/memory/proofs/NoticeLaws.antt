@@ -1,7 +1,7 @@
 -- Outages: what a slot's tests say, and a notice past the sixth replica. Assumes nothing.
 use Prim.Native.Nat.{ℕ, ◌≤◌, ◌<◌}
 use mathlib.Core.Path.{◌≡◌, refl, sym}
-use mathlib.Core.Bool.{Bool, true, false, and_false, and_true}
+use mathlib.Core.Bool.{Bool, true, false, and-false, and-true}
 use mathlib.Core.List.{List}
 use native.Mathlib.Omega.{arith}
 use lib.Dec.{ltb, leb}
@@ -19,14 +19,14 @@ none_past l six k h = sym (get_or-eq_default l 0 (omega arith))
 
 module _ (g : Group) (s k : ℕ) (owner : k ≡ owner_at g s) (end : ℕ) (last : end ≡ get_or g.until k 0) where
   pub behind-it : end ≤ s → false ≡ is_out g s
-  behind-it h = rw (← owner, ← last, le-ltb s end h, and_false (leb (get_or g.from k 0) s)) (sym (and_false (ltb s slot_limit)))
+  behind-it h = rw (← owner, ← last, le-ltb s end h, and-false (leb (get_or g.from k 0) s)) (sym (and-false (ltb s slot_limit)))
 
   module _ (below : s < end) where
     pub no_slot : slot_limit ≤ s → false ≡ is_out g s
     no_slot h = rw (le-ltb s slot_limit h)
 
     pub from-it : s < slot_limit → (start : ℕ) → start ≡ get_or g.from k 0 → leb start s ≡ is_out g s
-    from-it slot start first = rw (lt-ltb s slot_limit slot, ← owner, ← first, ← last, lt-ltb s end below) (sym (and_true (leb start s)))
+    from-it slot start first = rw (lt-ltb s slot_limit slot, ← owner, ← first, ← last, lt-ltb s end below) (sym (and-true (leb start s)))
 
 -- an owner that is out is one of the six
 pub owner_within : (g : Group) (s : ℕ) → length g.until ≡ 6 → is_out g s ≡ true → owner_at g s < 6

@@ -1,7 +1,7 @@
 -- `entries_fit_lem` meets its contract. The loop's invariant: all of the entries fit just if the last one read is at most 127 and those from `e` on, above it, fit.
 -- Assumes nothing.
 use Prim.Native.Nat.{ℕ, ◌+◌, ◌-◌, ◌*◌, ◌≤◌, ◌<◌}
-use mathlib.Core.Bool.{Bool, true, false, ◌&&◌, and_false}
+use mathlib.Core.Bool.{Bool, true, false, ◌&&◌, and-false}
 use mathlib.Core.List.{List}
 use mathlib.Core.Path.{◌≡◌, refl, sym, ◌∙◌}
 use native.Mathlib.Nat.{sub-zero as minus-zero}
@@ -33,7 +33,7 @@ module _ (n e : ℕ) (l : List ℕ) (x : ℕ) (h : e < n) (room : 8 * e + 4 ≤ 
       cases true q =
           let k = leb-true x 127 q in
           rw (le-leb last 127 (omega (arith, above, k)))
-      cases false q = rw q (and_false (leb last 127))
+      cases false q = rw q (and-false (leb last 127))
 
 abbrev invariant-loop : tie.invariant-loop
 invariant-loop part n last₀ e₀ last e = (e ≤ n) × (1 ≤ e) × (entries_good 0 n part ≡ (leb last 127 && entries_rest (last + 1) n e part))
@@ -63,7 +63,7 @@ returns c =
     sym
     (b.loop.invariant.2
     ∙ rw (entries-bad (b.loop.last + 1) a.n b.loop.e a.part.now n.number-at2.result (omega arith) (omega arith) n.number-at2.ensures
-    (within-below _ 127 _ (omega arith))) (and_false (leb b.loop.last 127)))
+    (within-below _ 127 _ (omega arith))) (and-false (leb b.loop.last 127)))
 
 add-e : tie.Need-overflow-add-e invariant-loop decreases-loop
 add-e c = omega arith

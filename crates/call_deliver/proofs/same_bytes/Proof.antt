@@ -1,7 +1,7 @@
 -- `same_bytes_lem` meets its contract. The loop's invariant: the lists are the same if they are so far and from i on. Assumes nothing.
 use Prim.Native.Nat.{◌-◌, ◌≤◌}
 use mathlib.Core.Path.{◌≡◌, refl, sym, ◌∙◌}
-use mathlib.Core.Bool.{◌&&◌, and_false, and_true}
+use mathlib.Core.Bool.{◌&&◌, and-false, and-true}
 use mathlib.Core.Logic.{⊎_elim}
 use native.Mathlib.Omega.{arith}
 use borrow.Author.Rules.{rules}
@@ -41,7 +41,7 @@ loop-again c =
     let a = b.before.before.args in (
       omega arith,
       ⊎_elim
-          (λ w. rw w.1 (b.loop.invariant.1 ∙ rw (same-differ a.a.now a.b.now b.loop.i (omega arith) (omega arith) w.0.taken) (and_false b.loop.same)))
+          (λ w. rw w.1 (b.loop.invariant.1 ∙ rw (same-differ a.a.now a.b.now b.loop.i (omega arith) (omega arith) w.0.taken) (and-false b.loop.same)))
           (λ w. rw w.1 (b.loop.invariant.1 ∙ rw (same_next a.a.now a.b.now b.loop.i (omega arith) (omega arith) w.0.left)))
           c.if2.branch,
     )
@@ -51,7 +51,7 @@ returns-2 c =
     let b = c.before in
     let a = b.before.before.args in
     let e : b.loop.i ≡ length a.a.now = omega arith in
-    sym (b.loop.invariant.1 ∙ rw (e, same_end a.a.now a.b.now b.before.if1.false) (and_true b.loop.same))
+    sym (b.loop.invariant.1 ∙ rw (e, same_end a.a.now a.b.now b.before.if1.false) (and-true b.loop.same))
 
 pub same-bytes-spec : {M : Type 1} → statement M
 same-bytes-spec =

@@ -1,7 +1,7 @@
 -- `rows::holds` meets its contract. The loop's invariant: the item stands there if it was found or stands among those from k on. Assumes nothing.
 use Prim.Native.Nat.{◌-◌, ◌≤◌}
 use mathlib.Core.Path.{◌≡◌, refl, sym, ◌∙◌}
-use mathlib.Core.Bool.{◌||◌, or_true, or_false}
+use mathlib.Core.Bool.{◌||◌, or-true, or-false}
 use mathlib.Core.Logic.{⊎_elim}
 use native.Mathlib.Omega.{arith}
 use borrow.Author.Rules.{rules}
@@ -35,7 +35,7 @@ loop-again c =
     let a = b.before.args in (
       omega arith,
       ⊎_elim
-          (λ w. rw w.1 (b.loop.invariant.1 ∙ rw (has_here a.items.now b.loop.k (omega arith) a.item w.0.taken) (or_true b.loop.found)))
+          (λ w. rw w.1 (b.loop.invariant.1 ∙ rw (has_here a.items.now b.loop.k (omega arith) a.item w.0.taken) (or-true b.loop.found)))
           (λ w. rw w.1 (b.loop.invariant.1 ∙ rw (has-later a.items.now b.loop.k (omega arith) a.item w.0.left)))
           c.if1.branch,
     )
@@ -44,7 +44,7 @@ returns : tie.Need-returns invariant-loop decreases-loop
 returns c =
     let b = c.before in
     let a = b.before.args in
-    sym (b.loop.invariant.1 ∙ rw (has_none a.items.now b.loop.k (omega arith) a.item) (or_false b.loop.found))
+    sym (b.loop.invariant.1 ∙ rw (has_none a.items.now b.loop.k (omega arith) a.item) (or-false b.loop.found))
 
 pub holds-spec : {M : Type 1} → statement M
 holds-spec =
