@@ -1,1 +1,2 @@
 // Definitions and theorems only: windows and givings in a group.
+#![tactic(auto)]

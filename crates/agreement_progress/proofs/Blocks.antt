@@ -38,9 +38,9 @@ module _ (n : ℕ) (start : List ℤ) (setting : Setting n start) where
     last : (k : ℕ) → k < n → SentLast k (g.memories k) g.blocks
 
   -- a block's sender owns its slot
-  owner_of : (b : List ℕ) → GoodBlock n b → (header_of b).sender ≡ owner_of n (header_of b).slot
+  owner_of_lem : (b : List ℕ) → GoodBlock n b → (header_of b).sender ≡ owner_of n (header_of b).slot
   unfolding header_of
-  owner_of b G = (taken_block b G.taken).sender ∙ ap (λ (r : ℕ). owner_of r (header_of b).slot) G.replicas
+  owner_of_lem b G = (taken_block b G.taken).sender ∙ ap (λ (r : ℕ). owner_of r (header_of b).slot) G.replicas
 
   -- ---- a call
 
@@ -65,7 +65,7 @@ module _ (n : ℕ) (start : List ℤ) (setting : Setting n start) where
   -- no block is from a member without a number
   none_from : (b : List ℕ) → GoodBlock n b → (header_of b).sender ≡ no_number → ⊥
   unfolding owner_of
-  none_from b G e = let a = owner_of b G in let s = setting.least in let t = setting.most in let l = mod-lt (header_of b).slot {m = n} (omega arith) in omega arith
+  none_from b G e = let a = owner_of_lem b G in let s = setting.least in let t = setting.most in let l = mod-lt (header_of b).slot {m = n} (omega arith) in omega arith
 
   -- a station's call; it has no restart
   station-hands : (B : List (List ℕ)) → ((b : List ℕ) → Mem b B → GoodBlock n b) → (k : ℕ) (m : Memory) → Sound n m → n ≤ k → m.group.own ≡ no_number → (d : AnyCall) → MayBeAt n k d
@@ -93,7 +93,7 @@ module _ (n : ℕ) (start : List ℤ) (setting : Setting n start) where
         member = stood n start setting cs f p mid (c ∷ q.0) q.1 c.at
 
         mark : (b : List ℕ) → Mem b (at mid).blocks → (header_of b).sender ≡ c.at → (header_of b).slot ≡ ((at mid).memories c.at).turn.slot → sent_already ((at mid).memories c.at) ≡ true
-        mark b r o z = marked n start setting cs f p mid (c ∷ q.0) q.1 c.at b r (sym (owner_of b (B.good b r)) ∙ o) z
+        mark b r o z = marked n start setting cs f p mid (c ∷ q.0) q.1 c.at b r (sym (owner_of_lem b (B.good b r)) ∙ o) z
 
         by : Standing n start setting (owes n start) c.at ((at mid).memories c.at) → Blocks (next (at mid) c)
         by (as-replica h e) = blocks-by (at mid) c c.at (λ l. refl) (λ l. refl) B
@@ -122,7 +122,7 @@ module _ (n : ℕ) (start : List ℤ) (setting : Setting n start) where
         -- an own block that the turn has not passed is the one sent for it
         sent-for : k < n → slot_past mine b ≡ false → (header_of b).sender ≡ k → is_own_block mine b ≡ true
         sent-for h u o =
-            let w : owner_of n (header_of b).slot ≡ k = sym (owner_of b good) ∙ o in
+            let w : owner_of n (header_of b).slot ≡ k = sym (owner_of_lem b good) ∙ o in
             let a = past n start setting cs f p before rest e k b m w in
             let c = ltb-false (header_of b).slot mine.turn.slot u in
             let z : (header_of b).slot ≡ mine.turn.slot = omega arith in

@@ -1,1 +1,2 @@
 // Theorems only: the group goes on, and what a block handed out is answered.
+#![tactic(auto)]

@@ -1,1 +1,2 @@
 // Theorems only: two runs of a group, computed from the definitions.
+#![tactic(auto)]

@@ -1,6 +1,5 @@
 -- The reader refuses nothing just where its three tests hold; what the last of them says. Assumes nothing.
 -- modules are checked in the order of their names, this one first: so what is computed comes before the proofs, and a wrong definition is refused there
-use Rattle.block.proofs.Worked.{worked_blocks}
 use Prim.Native.Nat.{ℕ}
 use mathlib.Core.Path.{◌≡◌, refl}
 use mathlib.Core.Bool.{Bool, true, false, not, ◌&&◌}

@@ -1,13 +1,13 @@
 -- Laws of the form check over plain lists and numbers: one step of each recursion of the definitions, from a place in the whole list,
 -- for each answer that the code gives there. Assumes nothing.
 use Prim.Native.Nat.{ℕ, zero, suc, ◌+◌, ◌*◌, ◌-◌, ◌%◌, ◌<◌, ◌≤◌}
-use mathlib.Core.Bool.{Bool, true, false, not, cond, ◌&&◌, and-false, and-true, and_self, and_assoc, and_comm}
+use mathlib.Core.Bool.{Bool, true, false, cond, ◌&&◌, and-false, and-true, and_self, and_assoc, and_comm}
 use mathlib.Core.List.{List, [], ◌∷◌, ◌++◌}
 use mathlib.Core.Path.{◌≡◌, refl, sym, ◌∙◌}
 use native.Mathlib.Nat.{add-zero, sub_self}
 use native.Mathlib.Numerals.{add-one}
 use native.Mathlib.Omega.{arith}
-use borrow.Author.Tests.{eq-eqb, ne_eqb, le-leb, lt-leb, not-true, not-false}
+use borrow.Author.Tests.{eq-eqb, ne_eqb, le-leb, lt-leb}
 use lib.Dec.{eqb, leb}
 use lib.ListN.{length, get_or, take, drop}
 use lib.Seq.{slice, drop-cons, drop-length, drop-drop, take-take, get_or-take, get_or-drop}
@@ -33,11 +33,11 @@ unfolding within
 within-above low high x h = rw (lt-leb x high h, and-false)
 
 -- what a call's result r says, where the test `!r` holds and where it does not
-pub refused : {r b : Bool} → r ≡ b → not r ≡ true → b ≡ false
-refused {r} e h = sym e ∙ not-true r h
+pub refused : {r b : Bool} → r ≡ b → r ≡ false → b ≡ false
+refused e h = sym e ∙ h
 
-pub passed : {r b : Bool} → r ≡ b → not r ≡ false → b ≡ true
-passed {r} e h = sym e ∙ not-false r h
+pub passed : {r b : Bool} → r ≡ b → r ≡ true → b ≡ true
+passed e h = sym e ∙ h
 
 and_left : (a b c : Bool) → (a && (b && c)) ≡ (b && (a && c))
 and_left true b c = refl

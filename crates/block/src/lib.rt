@@ -1,4 +1,6 @@
 // The 512-byte block in which replicas send each other their messages.
+#![tactic(auto)]
+
 ghost use Rattle.std.specs.Prelude.{◌≡◌, [], ◌∷◌};
 ghost use Rattle.std.specs.Int.{w32};
 ghost use Rattle.std.proofs.Common.{of_z, to_z};
@@ -7,7 +9,7 @@ ghost use Rattle.block.specs.Answers.{number_and_header};
 
 // An entry of a record: an item and its new value.
 #[repr(C)]
-#[derive(Drop)]
+#[derive(Clone, Copy)]
 pub struct Entry {
     pub item: u8,
     pub value: i32,
@@ -15,7 +17,7 @@ pub struct Entry {
 
 // A block's first eight bytes.
 #[repr(C)]
-#[derive(Drop)]
+#[derive(Clone, Copy)]
 pub struct Header {
     pub kind: u8,
     pub sender: u8,
@@ -26,14 +28,14 @@ pub struct Header {
 
 // A record's ticket and its number of writes.
 #[repr(C)]
-#[derive(Drop)]
+#[derive(Clone, Copy)]
 pub struct RecordHead {
     pub ticket: u32,
     pub writes: u8,
 }
 
 // What the reader answers.
-#[derive(Drop)]
+#[derive(Clone, Copy)]
 pub enum Read {
     Message(Header),
     Refused(u8),

@@ -1,4 +1,6 @@
 // The check: two whole sums over the 16-bit words of a block's first 504 bytes.
+#![tactic(auto)]
+
 ghost use Rattle.std.specs.Prelude.{◌≡◌, ◌+◌, ◌*◌, ◌≤◌, ◌<◌, length};
 ghost use Rattle.block.specs.Check.{word as word_of, first_check, second_check, check_matches};
 ghost use Rattle.block.specs.Writing.{written, checked_step};
@@ -6,7 +8,7 @@ ghost use Rattle.block.specs.Writing.{written, checked_step};
 use block::{number, number16};
 
 // The check: two 32-bit numbers.
-#[derive(Drop)]
+#[derive(Clone, Copy)]
 struct Check {
     first: u32,
     second: u32,

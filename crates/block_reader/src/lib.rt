@@ -1,4 +1,6 @@
 // Reading a block: its header or a refusal, its records and their entries.
+#![tactic(auto)]
+
 ghost use Rattle.std.specs.Prelude.{◌≡◌, length};
 ghost use Rattle.block.specs.Answers.{number_and_header, block_read, header_of, record_at, entry_at};
 

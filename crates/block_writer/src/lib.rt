@@ -1,4 +1,6 @@
 // Writing a block's header and its records, each straight into its own bytes; what is zero in a fresh block is left.
+#![tactic(auto)]
+
 ghost use Rattle.std.specs.Prelude.{◌≡◌, ◌*◌, ◌≤◌, ◌++◌, length, drop};
 ghost use Rattle.block.specs.Numbers.{bytes_of};
 ghost use Rattle.block.specs.Bytes.{entry_bytes, entries_bytes};

@@ -1,4 +1,6 @@
 // Conflict classes: the load of a table of them, and whether an item waits for the writesets still to be applied.
+#![tactic(auto)]
+
 ghost use Rattle.std.specs.Prelude.{◌-◌, ◌≡◌, ◌&&◌, ltb, length, get_or};
 ghost use Rattle.memory.specs.Memory.{Memory};
 ghost use Rattle.engine.specs.Moves.{writeset_at};

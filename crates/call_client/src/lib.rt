@@ -1,6 +1,8 @@
 // What a client may do, but for a write. `at` is any number, and `t` the record that the table has at that row, a free one past its end. Small parts go in and out by value,
 // large ones are lent. Each contract gives the reply and the memory after by a step of engine's `specs/Client.antt`, on every memory that has the parts lent; every row and
 // record are those of some table (`specs/Tables.antt`).
+#![tactic(auto)]
+
 ghost use Rattle.std.specs.Prelude.{◌<◌, ◌≡◌, true, false, List, length, set};
 ghost use Rattle.memory.specs.declared.Txn.{Txn};
 ghost use Rattle.memory.specs.Memory.{Memory, bump, with_read_only};

@@ -1,5 +1,7 @@
 // Committing a writeset: its values and stamps, the rows that it aborts, and the queue without those. Each contract is in the words of engine's
 // `specs/Moves.antt`, on any bytes and any lengths; the marks are those of `specs/Marks.antt`.
+#![tactic(auto)]
+
 ghost use Rattle.std.specs.Prelude.{◌≡◌, ◌+◌, ◌-◌, ◌≤◌, ◌<◌, min, take, drop, replicate};
 ghost use Rattle.block.specs.Answers.{record_at};
 ghost use Rattle.memory.specs.Rows.{has};
@@ -11,7 +13,7 @@ use memory::Txn;
 use memory::rows::{clear_numbers, holds, lesser, write_count};
 
 // The marks of the rows aborted, and their tickets: the first `count`, rising, with zeros behind.
-#[derive(Drop)]
+#[derive(Clone, Copy)]
 pub struct Aborts {
     pub marks: [bool; 6],
     pub tickets: [u32; 6],

@@ -1,4 +1,6 @@
 // A block that arrives: kept in its place, or refused.
+#![tactic(auto)]
+
 ghost use Rattle.std.specs.Prelude.{◌≡◌, true, ◌&&◌, not, eqb, length};
 ghost use Rattle.block.specs.Answers.{header_of, block_refusal};
 ghost use Rattle.memory.specs.Memory.{Memory, span};

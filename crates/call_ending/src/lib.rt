@@ -1,4 +1,6 @@
 // A writeset's end: the transactions that it ends, its values and its stamps.
+#![tactic(auto)]
+
 ghost use Rattle.std.specs.Prelude.{◌≡◌, true, false, cond, ◌+◌, min, eqb, get_or, set, replicate};
 ghost use Rattle.block.specs.Answers.{record_at};
 ghost use Rattle.memory.specs.Memory.{bump, with_commit};
@@ -14,7 +16,7 @@ use memory::{Counts, Turn, Txn};
 
 // What a writeset leaves of turn and counts, and the marks of the rows ended; its ticket, and the tickets that it aborted. The tickets stand first: behind
 // six bytes of marks a copy of them would begin in padding, and read bytes just written in another width.
-#[derive(Drop)]
+#[derive(Clone, Copy)]
 pub struct Ended {
     pub aborted: [u32; 6],
     pub ticket: u32,

@@ -1,4 +1,6 @@
 // A giving, at the returner: it is told the turns of the group, and lent the window of the giver that they name.
+#![tactic(auto)]
+
 ghost use Rattle.std.specs.Prelude.{ℕ, ◌<◌, ◌≡◌, true, cond, ◌&&◌, List, eqb, length, replicate};
 ghost use Rattle.memory.specs.Memory.{Memory, window_bytes};
 ghost use Rattle.giving.specs.Choice.{told_turn, giver_of};
@@ -22,7 +24,7 @@ use slots::give_slots;
 // A number of the tables, 0 where all was given; the giver, where the returner is a replica, everything lent has its length and somebody is up, else 0; and the tickets aborted, rising, zeros behind
 // the first `count`.
 #[repr(C)]
-#[derive(Drop)]
+#[derive(Clone, Copy)]
 pub struct GiveReply {
     pub number: u8,
     pub giver: u8,
@@ -31,7 +33,7 @@ pub struct GiveReply {
 }
 
 // How far a giving is: what goes by value, the number that ended it, 0 so far, and the tickets aborted.
-#[derive(Drop)]
+#[derive(Clone, Copy)]
 pub struct Giving {
     pub rows: [Txn; 6],
     pub turn: Turn,
@@ -42,7 +44,7 @@ pub struct Giving {
 }
 
 // The answer, turn and counts after the giving, and which rows it ended.
-#[derive(Drop)]
+#[derive(Clone, Copy)]
 pub struct Given {
     pub reply: GiveReply,
     pub turn: Turn,

@@ -1,4 +1,6 @@
 // The choice of the giver, from the turns told: one for each replica. Who of the tied gives is for `candidate` alone to say.
+#![tactic(auto)]
+
 ghost use Rattle.std.specs.Prelude.{◌+◌, ◌^◌, ◌<◌, ◌≡◌};
 ghost use Rattle.memory.specs.Memory.{Memory};
 ghost use Rattle.giving.specs.Choice.{told_turn, may_give, is_better, candidate, giver_of};
@@ -8,7 +10,7 @@ use memory::{Group, NO_NUMBER};
 
 // A number of the tables, 0 where there is a giver; the giver, 0 where there is none.
 #[repr(C)]
-#[derive(Drop)]
+#[derive(Clone, Copy)]
 pub struct GiverReply {
     pub number: u8,
     pub giver: u8,

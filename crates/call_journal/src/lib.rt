@@ -1,5 +1,7 @@
 // A journal read: the blocks that it has in slot order are committed, kept in the window, and tallied. The contracts are in the words of engine's `specs/Restart.antt` and of
 // `specs/Replays.antt`.
+#![tactic(auto)]
+
 ghost use Rattle.std.specs.Prelude.{◌≡◌, ◌&&◌, eqb, length, get_or, ◌+◌, ◌≤◌, ◌<◌, max};
 ghost use Rattle.block.specs.Answers.{header_of};
 ghost use Rattle.memory.specs.Memory.{window_bytes};
@@ -19,7 +21,7 @@ use notices::puts_out;
 
 // What the blocks read so far come to: how many they are, the commit count behind them, and of the own ones the highest ticket, how many writesets they have, and
 // which is the last outside out slots: how many blocks there are up to it, 0 where there is none.
-#[derive(Drop)]
+#[derive(Clone, Copy)]
 pub struct JournalTally {
     pub blocks: u32,
     pub commits: u32,

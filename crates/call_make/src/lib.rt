@@ -1,4 +1,6 @@
 // A replica or a station just made, in the parts lent for it.
+#![tactic(auto)]
+
 ghost use Rattle.std.specs.Prelude.{◌≡◌, ◌&&◌, ◌||◌, not, List, ◌*◌, eqb, ℤ, length, replicate};
 ghost use Rattle.block.specs.Message.{within};
 ghost use Rattle.memory.specs.declared.Counts.{Counts};

@@ -1,4 +1,6 @@
 // A notice, Out or Back, taken or refused.
+#![tactic(auto)]
+
 ghost use Rattle.std.specs.Prelude.{◌≡◌, true, false, ◌*◌, length};
 ghost use Rattle.memory.specs.Memory.{Memory, span};
 ghost use Rattle.engine.specs.Notices.{placed_from, sent_from, bars_out, bars_back, bars_notice, notice_refusal, notice_step};

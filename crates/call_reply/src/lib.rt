@@ -1,4 +1,6 @@
 // What a call answers a host, in numbers, and what it hands back beside that.
+#![tactic(auto)]
+
 use engine::Report;
 use memory::{Counts, Group, Turn, Txn};
 
@@ -6,7 +8,7 @@ pub mod replies;
 
 // In each reply document 01's number, 0 where the call is accepted. The ticket is 0 where the begin is refused.
 #[repr(C)]
-#[derive(Drop)]
+#[derive(Clone, Copy)]
 pub struct BeginReply {
     pub number: u8,
     pub ticket: u32,
@@ -14,7 +16,7 @@ pub struct BeginReply {
 
 // The value is 0 where the read is refused.
 #[repr(C)]
-#[derive(Drop)]
+#[derive(Clone, Copy)]
 pub struct ReadReply {
     pub number: u8,
     pub value: i32,
@@ -22,7 +24,7 @@ pub struct ReadReply {
 
 // Whether the transaction was read-only, and so ended on the spot.
 #[repr(C)]
-#[derive(Drop)]
+#[derive(Clone, Copy)]
 pub struct AskReply {
     pub number: u8,
     pub read_only: bool,
@@ -30,7 +32,7 @@ pub struct AskReply {
 
 // All zero where the report is refused.
 #[repr(C)]
-#[derive(Drop)]
+#[derive(Clone, Copy)]
 pub struct ReportReply {
     pub number: u8,
     pub report: Report,
@@ -39,7 +41,7 @@ pub struct ReportReply {
 // Whose writeset was committed (ticket 0 for a *next*, or for an out slot), whether the turn moved, the tickets aborted, rising, zeros behind the first `count`, and whether the block
 // of the slot that the turn left, which the window now holds, is to be appended to the journal.
 #[repr(C)]
-#[derive(Drop)]
+#[derive(Clone, Copy)]
 pub struct WorkReply {
     pub number: u8,
     pub sender: u8,
@@ -52,28 +54,28 @@ pub struct WorkReply {
 
 // How many blocks of the journal were committed, 0 where the restart is refused: the journal goes on behind them.
 #[repr(C)]
-#[derive(Drop)]
+#[derive(Clone, Copy)]
 pub struct RestartReply {
     pub number: u8,
     pub count: u32,
 }
 
 // The answer, and the counts and the record of the transaction's row after the call.
-#[derive(Drop)]
+#[derive(Clone, Copy)]
 pub struct Changed {
     pub number: u8,
     pub counts: Counts,
     pub row: Txn,
 }
 
-#[derive(Drop)]
+#[derive(Clone, Copy)]
 pub struct Begun {
     pub reply: BeginReply,
     pub counts: Counts,
     pub row: Txn,
 }
 
-#[derive(Drop)]
+#[derive(Clone, Copy)]
 pub struct Asked {
     pub reply: AskReply,
     pub counts: Counts,
@@ -81,7 +83,7 @@ pub struct Asked {
 }
 
 // The answer, and group, turn and counts of a replica just made; of a refused make nothing is stored.
-#[derive(Drop)]
+#[derive(Clone, Copy)]
 pub struct Made {
     pub number: u8,
     pub group: Group,
@@ -90,7 +92,7 @@ pub struct Made {
 }
 
 // The answer, and the turn and all rows after the call.
-#[derive(Drop)]
+#[derive(Clone, Copy)]
 pub struct Sent {
     pub number: u8,
     pub turn: Turn,
@@ -98,7 +100,7 @@ pub struct Sent {
 }
 
 // The answer, the turn and the counts after the call, and which rows it ended.
-#[derive(Drop)]
+#[derive(Clone, Copy)]
 pub struct Worked {
     pub reply: WorkReply,
     pub turn: Turn,
@@ -107,14 +109,14 @@ pub struct Worked {
 }
 
 // The answer to a notice, and the group after the call.
-#[derive(Drop)]
+#[derive(Clone, Copy)]
 pub struct Noticed {
     pub number: u8,
     pub group: Group,
 }
 
 // The answer, and group, turn and counts of a replica restarted; of a refused restart nothing is stored.
-#[derive(Drop)]
+#[derive(Clone, Copy)]
 pub struct Restarted {
     pub reply: RestartReply,
     pub group: Group,

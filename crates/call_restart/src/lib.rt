@@ -1,4 +1,6 @@
 // A restart from a journal: the blocks that it has in slot order are committed, the window is filled with them, and the last own one outside out slots is given back.
+#![tactic(auto)]
+
 ghost use Rattle.std.specs.Prelude.{◌≡◌, ◌&&◌, List, eqb, length, replicate, ◌*◌, ◌%◌, ◌≤◌};
 ghost use Rattle.memory.specs.declared.Counts.{Counts};
 ghost use Rattle.memory.specs.declared.Group.{Group};

@@ -1,4 +1,6 @@
 // What a replica sends for its turn.
+#![tactic(auto)]
+
 ghost use Rattle.std.specs.Prelude.{◌≡◌, ◌&&◌, List, ◌++◌, map, ℕ, ◌+◌, ◌*◌, ◌≤◌, eqb, length, take, drop, replicate};
 ghost use Rattle.block.specs.Bytes.{record_bytes, records_bytes, block_of};
 ghost use Rattle.memory.specs.Memory.{Memory};

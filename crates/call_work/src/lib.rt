@@ -1,4 +1,6 @@
 // The call work: an out slot, or what waits at the turn's place, one writeset a call, over numbers and slices.
+#![tactic(auto)]
+
 ghost use Rattle.std.specs.Prelude.{◌≡◌, true, false, cond, not, ◌&&◌, [], ◌+◌, ◌*◌, ◌≤◌, eqb, leb, length, get_or, set, replicate};
 ghost use Rattle.std.proofs.Math.Seq.{slice};
 ghost use Rattle.block.specs.Bytes.{block_of};

@@ -1,5 +1,7 @@
 // A write, at a row: `at` is any number. Its contract gives the reply and the memory after by `write_row` of engine's `specs/Client.antt`, on every memory that has the parts
 // lent.
+#![tactic(auto)]
+
 ghost use Rattle.std.specs.Prelude.{◌*◌, ◌≤◌, ◌<◌, ◌≡◌, true, ◌&&◌, List, eqb, ℤ, length, set};
 ghost use Rattle.memory.specs.declared.Txn.{Txn};
 ghost use Rattle.memory.specs.Memory.{Memory, bump, with_aborted};

@@ -1,6 +1,5 @@
 -- A block that the reader takes: its slot and replicas, a message's kind and count, and no ticket is 0. Assumes nothing.
 -- modules are checked in the order of their names, this one first: so what is computed comes before the proofs, and a wrong definition is refused there
-use Rattle.engine.proofs.Worked.{right_answers}
 use Prim.Native.Nat.{ℕ, ◌+◌, ◌*◌, ◌≤◌, ◌<◌}
 use mathlib.Core.Path.{◌≡◌, refl, ap, ◌∙◌}
 use mathlib.Core.Bool.{Bool, true, false, cond, ◌&&◌}

@@ -2,7 +2,7 @@
 use Prim.Native.Nat.{ℕ, ◌≤◌, ◌<◌}
 use mathlib.Core.Path.{◌≡◌, refl, ap, ◌∙◌}
 use mathlib.Core.Logic.{◌⊎◌, inl, inr}
-use mathlib.Core.Bool.{true, false}
+use mathlib.Core.Bool.{true, false, cond, not, ◌&&◌}
 use mathlib.Core.List.Memᴰ
 use mathlib.Core.List.{List, [], ◌∷◌, ◌++◌}
 use native.Mathlib.Omega.{arith}
@@ -93,7 +93,7 @@ module _ (notices : List Notice) (own : ℕ) where
       → last_own own notices d (before ++ (b ∷ after)) ≡ b
   unfolding last_own
   given-last d [] after b e o f = given-here d after b e o f
-  given-last d (c ∷ before) after b e o f = given-last _ before after b e o f
+  given-last d (c ∷ before) after b e o f = given-last (cond (is_from own c && not (puts_out false notices own (header_of c).slot)) c d) before after b e o f
 
 -- ---- a notice
 

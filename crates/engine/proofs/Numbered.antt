@@ -27,7 +27,7 @@ use Rattle.engine.proofs.Passed.{make_passed, restart_passed}
 use Rattle.engine.proofs.Refusals.{refusals}
 use Rattle.engine.proofs.Restarts.{restarts}
 use Rattle.engine.proofs.Reports.{made_own, restarted_own}
-use Rattle.engine.proofs.Reached.{Reached, numbered, made_reached, all-reached}
+use Rattle.engine.proofs.Reached.{numbered, made_reached, all-reached}
 
 -- ---- 25 at a replica
 

@@ -1,12 +1,12 @@
 -- With no table of classes loaded a write is that of an engine without classes. Assumes nothing.
-use Prim.Native.Nat.{ℕ, zero, suc, ◌-◌, ◌≤◌, ◌<◌, min}
-use mathlib.Core.Path.{◌≡◌, refl, sym, ap, ◌∙◌}
-use mathlib.Core.Bool.{Bool, true, false, not, ◌&&◌}
+use Prim.Native.Nat.{ℕ, zero, suc, ◌-◌, ◌<◌, min}
+use mathlib.Core.Path.{◌≡◌, refl, ap, ◌∙◌}
+use mathlib.Core.Bool.{true, false, not}
 use mathlib.Core.List.{List, [], ◌∷◌}
 use native.Mathlib.Omega.{arith}
 use lib.IntN.{ℤ}
-use lib.ListN.{length, get_or, replicate}
-use borrow.Author.Tests.{eq-eqb, lt-ltb, not-true}
+use lib.ListN.{length, get_or}
+use borrow.Author.Tests.{eq-eqb, not-true}
 use Rattle.block.specs.Message.{Record}
 use Rattle.block.specs.Answers.{record_at, entry_at}
 use Rattle.block.proofs.BoolLaws.{both}

@@ -1,12 +1,10 @@
 -- The queue is the asked transactions in the order asked: one call, then a list of calls. Assumes nothing.
-use Prim.Native.Nat.{ℕ, zero, suc, ◌≤◌, ◌<◌}
+use Prim.Native.Nat.{ℕ}
 use mathlib.Core.Path.{◌≡◌, refl, sym, ap, ◌∙◌}
-use mathlib.Core.Bool.{Bool, true, false, cond}
+use mathlib.Core.Bool.{Bool, true, false}
 use mathlib.Core.List.{List, [], ◌∷◌, ◌++◌}
 use native.Mathlib.Omega.{arith}
 use lib.IntN.{ℤ}
-use lib.Dec.{eqb}
-use lib.ListN.{length, get_or, replicate}
 use Rattle.block.specs.Message.{Record}
 use Rattle.memory.specs.Memory.{Memory}
 use Rattle.memory.specs.Notices.{Notice}

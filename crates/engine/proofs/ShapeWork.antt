@@ -13,7 +13,7 @@ use Rattle.block.specs.Message.{Record}
 use Rattle.block.proofs.BoolLaws.{both, not_so}
 use Rattle.memory.specs.Memory.{Memory}
 use Rattle.memory.specs.Rows.{closed, row_of, row_at, has}
-use Rattle.engine.specs.Moves.{waiting, block_at_turn, writeset_at, is_hit, hit_tickets, is_sent, ends_own, is_last, commit_writeset}
+use Rattle.engine.specs.Moves.{block_at_turn, writeset_at, is_hit, hit_tickets, is_sent, ends_own, is_last, commit_writeset}
 use Rattle.engine.specs.Shape.{Shape}
 use Rattle.engine.proofs.Tests.{same_by, clash}
 use Rattle.engine.proofs.RowLaws.{row-found, open_close, set-row}

@@ -22,11 +22,11 @@ use Rattle.memory.specs.Memory.{Memory, bump, no_number, is_station, with_group,
 use Rattle.memory.specs.Notices.{Notice, with_notice}
 use Rattle.memory.specs.Rows.{closed, is_open, row_of, row_at, items_of, has}
 use Rattle.memory.specs.Turns.{is_on}
-use Rattle.engine.specs.Answers.{Answer, WorkDone, number_of, Outcome, outcome}
+use Rattle.engine.specs.Answers.{Answer, WorkDone, number_of, Outcome}
 use Rattle.engine.specs.Answers.Answer.{refused, made, began, got, wrote, queued, read_only, withdrew, reported, sent, kept, worked, loaded, noticed, restarted}
 use Rattle.engine.specs.Make.{Setting, made_memory, parts_fit, size_out, make_refusal}
 use Rattle.engine.specs.Classes.{load_refusal}
-use Rattle.engine.specs.Client.{row_no, is_own, no_row, not_active, begin_refusal, begin_at, read_refusal, write_refusal, ask_refusal, read_only_at, withdraw_refusal, withdraw_at, report_of, report_step}
+use Rattle.engine.specs.Client.{row_no, no_row, not_active, begin_refusal, begin_at, read_refusal, write_refusal, ask_refusal, read_only_at, withdraw_refusal, withdraw_at, report_of, report_step}
 use Rattle.engine.specs.Moves.{waiting, send_refusal, deliver_refusal, deliver_now, block_at_turn, writeset_at, shares, is_hit, after_aborts, hit_tickets, ends_own, nothing_waits, work_refusal, is_last, pass_next, commit_writeset, pass_out}
 use Rattle.engine.specs.Notices.{notice_refusal}
 use Rattle.engine.specs.Calls.{Call, step, refusal_of, after}
@@ -42,7 +42,7 @@ use Rattle.engine.proofs.ShapeWriteset.{ends-other}
 use Rattle.engine.proofs.Shapes.{shapes, shape_after}
 use Rattle.engine.proofs.Refusals.{at-replica, refusals}
 use Rattle.engine.proofs.Sent.{sent-shapes}
-use Rattle.engine.proofs.Reports.{report_from_lem, made_own, made_kept, step-counted, tally-kept}
+use Rattle.engine.proofs.Reports.{report_from_lem, made_own, made_kept, tally-kept}
 
 -- ---- every sender is another
 

@@ -7,14 +7,14 @@ use lib.Dec.{eqb}
 use lib.ListN.{length, get_or}
 use Rattle.block.specs.Bytes.{block_of}
 use Rattle.memory.specs.Memory.{Blocks, Memory}
-use Rattle.memory.specs.Window.{kept_block, keeping}
+use Rattle.memory.specs.Window.{kept_block}
 use Rattle.engine.specs.Answers.{WorkDone, Answer, Outcome}
 use Rattle.engine.specs.Answers.Answer.{refused, made, began, got, wrote, queued, read_only, withdrew, reported, sent, kept, worked, loaded, noticed, restarted}
 use Rattle.engine.specs.Moves.{block_at_turn, work_refusal, window_with, is_last, pass_next, commit_writeset, next_at_turn, pass_out}
 use Rattle.engine.specs.Calls.{Call, step}
 use Rattle.engine.specs.Calls.Call.{begin, read, write, ask, withdraw, report, send, deliver, work, load, notice}
 use Rattle.engine.specs.Window.{journaled_block, WindowClaims}
-use Rattle.engine.proofs.Tests.{cond_by, bool_by}
+use Rattle.engine.proofs.Tests.{bool_by}
 use Rattle.engine.proofs.Steps.{work-by}
 use Rattle.engine.proofs.Passed.{work_lent, work_long}
 use Rattle.engine.proofs.RingLaws.{kept_same}

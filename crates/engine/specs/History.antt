@@ -3,7 +3,7 @@ use Rattle.std.specs.Prelude.{ℕ, suc, ◌+◌, ◌-◌, ◌≡◌, cond, not, 
 use Rattle.memory.specs.Memory.{Memory}
 use Rattle.memory.specs.Notices.{Notice}
 use Rattle.engine.specs.declared.Report.{Report}
-use Rattle.engine.specs.Answers.{Answer, WorkDone, number_of, Outcome}
+use Rattle.engine.specs.Answers.{Answer, number_of, Outcome}
 use Rattle.engine.specs.Answers.Answer.{refused, made, began, got, wrote, queued, read_only, withdrew, reported, sent, kept, worked, loaded, noticed, restarted}
 use Rattle.engine.specs.Make.{SettingOf, made_memory}
 use Rattle.engine.specs.Client.{report_of}

@@ -1,10 +1,10 @@
 -- A replica just made.
-use Rattle.std.specs.Prelude.{ℕ, ◌*◌, ◌≤◌, ◌<◌, ◌≡◌, Bool, true, false, not, ◌&&◌, ◌||◌, List, [], ◌∷◌, eqb, leb, ℤ, pos, length, replicate}
-use Rattle.block.specs.Answers.{Refusal, refuse, first_of}
+use Rattle.std.specs.Prelude.{ℕ, ◌*◌, ◌≤◌, ◌<◌, ◌≡◌, Bool, not, ◌&&◌, ◌||◌, List, [], ◌∷◌, eqb, leb, ℤ, pos, length, replicate}
+use Rattle.block.specs.Answers.{refuse, first_of}
 use Rattle.block.specs.Message.{within}
 use Rattle.memory.specs.declared.Counts.{Counts}
 use Rattle.memory.specs.declared.Turn.{Turn}
-use Rattle.memory.specs.Memory.{Transactions, Store, Blocks, Memory, group_of, span, queue_lent, items_lent, snapshots_lent, values_lent, stamps_lent, classes_lent, outbox_lent, window_lent}
+use Rattle.memory.specs.Memory.{Memory, group_of, span, queue_lent, items_lent, snapshots_lent, values_lent, stamps_lent, classes_lent, outbox_lent, window_lent}
 use Rattle.memory.specs.Rows.{closed}
 use Rattle.memory.specs.Window.{empty_window}
 use Rattle.engine.specs.Answers.{Outcome, outcome, unless}

@@ -6,17 +6,15 @@ use Rattle.block.specs.Message.{Record, Message}
 use Rattle.block.specs.Bytes.{block_of}
 use Rattle.block.specs.Check.{check_matches}
 use Rattle.block.specs.Form.{well_formed}
-use Rattle.block.specs.Answers.{Refusal, refuse, first_of, header_of, record_at, entry_at}
+use Rattle.block.specs.Answers.{refuse, first_of, header_of, record_at, entry_at}
 use Rattle.block.specs.Writing.{entries_from}
-use Rattle.memory.specs.declared.Counts.{Counts}
-use Rattle.memory.specs.declared.Turn.{Turn}
 use Rattle.memory.specs.declared.Txn.{Txn}
-use Rattle.memory.specs.Memory.{Transactions, Store, Blocks, Memory, owner_at, span, slot_limit, bump, is_block, queue_lent, items_lent, writes_lent, values_lent, stamps_lent, places_lent, outbox_lent, window_lent, with_done, with_commit, with_table, with_txns, with_blocks, with_turn}
+use Rattle.memory.specs.Memory.{Transactions, Store, Blocks, Memory, owner_at, span, slot_limit, bump, is_block, queue_lent, items_lent, writes_lent, values_lent, stamps_lent, places_lent, outbox_lent, window_lent, with_done, with_commit, with_blocks, with_turn}
 use Rattle.memory.specs.Notices.{is_out}
 use Rattle.memory.specs.Rows.{closed, is_open, row_of, row_at, write_count, items_of, has}
 use Rattle.memory.specs.Turns.{is_on, mark_sent, advance, step_turn, place_start, block_in, is_empty, emptied}
 use Rattle.memory.specs.Window.{keeping}
-use Rattle.engine.specs.Answers.{WorkDone, Outcome, outcome, unless}
+use Rattle.engine.specs.Answers.{Outcome, outcome, unless}
 use Rattle.engine.specs.Answers.Answer.{sent, kept, worked}
 
 -- ---- send

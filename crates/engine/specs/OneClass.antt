@@ -1,6 +1,6 @@
 -- With no table of classes loaded a write is that of an engine without classes, on every memory that calls and restarts lead to: what it was before document 02's Req 02, but for the order of 9 and 8,
 -- which is today's here (`Staleness.antt` has the order of before).
-use Rattle.std.specs.Prelude.{ℕ, ◌≡◌, Bool, true, false, not, ◌&&◌, List, [], ◌∷◌, ◌++◌, eqb, ℤ, replicate}
+use Rattle.std.specs.Prelude.{ℕ, ◌≡◌, Bool, true, false, not, ◌&&◌, List, [], ◌∷◌, ◌++◌, ℤ, replicate}
 use Rattle.block.specs.Answers.{refuse, first_of}
 use Rattle.memory.specs.Memory.{Memory, is_station, writes_lent, stamps_lent}
 use Rattle.memory.specs.Notices.{Notice}

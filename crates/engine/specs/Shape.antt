@@ -4,7 +4,7 @@ use Rattle.block.specs.Answers.{block_refusal, header_of}
 use Rattle.block.specs.Message.{max_ticket}
 use Rattle.memory.specs.Memory.{Memory, span, slot_limit, window_bytes, is_station}
 use Rattle.memory.specs.Notices.{Notice, is_out}
-use Rattle.memory.specs.Rows.{closed, open_count, row_of, row_at, write_count, items_of, has}
+use Rattle.memory.specs.Rows.{closed, open_count, row_of, row_at, items_of, has}
 use Rattle.memory.specs.Turns.{is_on, block_in, is_empty}
 use Rattle.engine.specs.Make.{SettingOf, made_memory}
 use Rattle.engine.specs.Moves.{waiting, block_at_turn}

@@ -1,7 +1,6 @@
 -- What the wrong replicas of documents 01 and 02 get wrong, as what lists of calls answer at a replica or a station just made, and a restart. Few lists, each for several of them: every edit computes them anew.
 -- Document 01's marked cases stand in `engine_runs`.
-use Rattle.std.specs.Prelude.{ℕ, ◌≡◌, Bool, true, false, List, [], ◌∷◌, ◌++◌, map, ℤ, pos, replicate, drop, set}
-use Rattle.block.specs.Message.{Message}
+use Rattle.std.specs.Prelude.{ℕ, ◌≡◌, true, false, List, [], ◌∷◌, ◌++◌, map, ℤ, pos, replicate, drop, set}
 use Rattle.block.specs.Bytes.{block_of}
 use Rattle.memory.specs.Memory.{Memory, with_blocks}
 use Rattle.memory.specs.Notices.{Notice}

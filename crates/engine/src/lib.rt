@@ -1,8 +1,9 @@
 // What the calls at a replica do: definitions and theorems. The code stands in the crates above.
+#![tactic(auto)]
 
 // Document 01's report. `open_count` is its number of open transactions.
 #[repr(C)]
-#[derive(Drop)]
+#[derive(Clone, Copy)]
 pub struct Report {
     pub turn: u32,
     pub commits: u32,

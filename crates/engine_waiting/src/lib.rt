@@ -1,1 +1,2 @@
 // Theorems only: how long a change waits, of every list of calls at a replica.
+#![tactic(auto)]

@@ -1,1 +1,2 @@
 // Theorems only: givings between replicas, computed from the definitions.
+#![tactic(auto)]

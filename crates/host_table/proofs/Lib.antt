@@ -1,14 +1,2 @@
--- What the walks share: calls that lend a reference on, steps, and what a caller has of the functions here.
-pub mod Lend
-pub mod Steps
-pub mod Answers
-pub mod Rows
-pub mod Behind
-pub mod Forms
-pub mod Groups
-pub mod Changes
-pub mod Cursor
-pub mod Numbers
+-- what belongs to no one function: the laws of the table that the proofs cite
 pub mod TableLaws
-pub mod Callees
-pub mod Handed

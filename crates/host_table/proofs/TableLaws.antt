@@ -1,10 +1,11 @@
--- Six rows loaded are the table itself; and one turn of each loop that writes to the table: the table so far, and with one more row done. Assumes nothing.
+-- Six rows loaded are the table itself, and so are its six rows one by one; and one turn of each loop that writes to the table: the table so far, and with one more row done. Assumes nothing.
 use mathlib.Core.Path.{◌≡◌, refl, sym, ap}
 use mathlib.Core.Bool.{Bool, true, false, cond, not}
 use mathlib.Core.List.{List, [], ◌∷◌, map}
 use Prim.Native.Nat.{ℕ, zero, suc, ◌+◌, ◌≤◌, ◌<◌}
 use native.Mathlib.Nat.{not-suc-le-zero, le_of_suc-le-suc}
 use native.Mathlib.Numerals.{add-one}
+use native.Mathlib.Omega.{arith}
 use borrow.Author.Tests.{eq-eqb, ne_eqb}
 use lib.Dec.{T}
 use lib.ListN.{length, get_or, set, take}
@@ -12,6 +13,16 @@ use Rattle.memory.specs.declared.Txn.{Txn}
 use Rattle.memory.specs.Rows.{closed, end_rows, row_at}
 use Rattle.engine.specs.Moves.{send_row}
 use Rattle.host_table.specs.Table.{with_stage, with_writes, loaded}
+
+pub six : (ys : List Txn) → length ys ≡ 6 → (get_or ys 0 closed ∷ get_or ys 1 closed ∷ get_or ys 2 closed ∷ get_or ys 3 closed ∷ get_or ys 4 closed ∷ get_or ys 5 closed ∷ []) ≡ ys
+six [] e = absurd (omega (arith, e))
+six (a ∷ []) e = absurd (omega (arith, e))
+six (a ∷ b ∷ []) e = absurd (omega (arith, e))
+six (a ∷ b ∷ c ∷ []) e = absurd (omega (arith, e))
+six (a ∷ b ∷ c ∷ d ∷ []) e = absurd (omega (arith, e))
+six (a ∷ b ∷ c ∷ d ∷ f ∷ []) e = absurd (omega (arith, e))
+six (a ∷ b ∷ c ∷ d ∷ f ∷ g ∷ []) e = refl
+six (a ∷ b ∷ c ∷ d ∷ f ∷ g ∷ h ∷ ys) e = absurd (omega (arith, e))
 
 pub loaded-six : (t : List Txn) → length t ≡ 6 → loaded t ≡ t
 unfolding loaded
@@ -47,11 +58,11 @@ miss (e ∷ es) (suc i) [] h z = refl
 miss (e ∷ es) (suc i) (y ∷ ys) h z = ap (λ (l : List Txn). cond e closed y ∷ l) (miss es i ys (le_of_suc-le-suc h) z)
 
 module _ (es : List Bool) (i : ℕ) (ys : List Txn) (h : i < length es) where
-  pub ended-hit : T (get_or es i false) → set (end_rows (take i es) ys) i closed ≡ end_rows (take (i + 1) es) ys
-  ended-hit z = rw (add-one i) (hit es i ys h z)
+  pub ended-hit : get_or es i false ≡ true → set (end_rows (take i es) ys) i closed ≡ end_rows (take (i + 1) es) ys
+  ended-hit z = rw (add-one i) (hit es i ys h (rw z tt))
 
-  pub ended-miss : T (not (get_or es i false)) → end_rows (take i es) ys ≡ end_rows (take (i + 1) es) ys
-  ended-miss z = rw (add-one i) (miss es i ys h z)
+  pub ended-miss : get_or es i false ≡ false → end_rows (take i es) ys ≡ end_rows (take (i + 1) es) ys
+  ended-miss z = rw (add-one i) (miss es i ys h (rw z tt))
 
 -- ---- the first i rows sent, the others as they were
 abbrev pub sent_upto : ℕ → List Txn → List Txn
@@ -78,12 +89,12 @@ other i [] h d = absurd (not-suc-le-zero h)
 other zero (y ∷ ys) h d = ap (λ (c : Bool). sent_by y c ∷ ys) (sym (ne_eqb y.stage 1 d))
 other (suc i) (y ∷ ys) h d = ap (λ (l : List Txn). send_row y ∷ l) (other i ys (le_of_suc-le-suc h) d)
 
-module _ (i : ℕ) (ys : List Txn) (h : i < length ys) where
-  pub sent-asked : (row_at (sent_upto i ys) i).stage ≡ 1 → set (sent_upto i ys) i (with_stage (row_at (sent_upto i ys) i) 2) ≡ sent_upto (i + 1) ys
-  sent-asked e = rw (add-one i) (asked i ys h e)
+module _ (i : ℕ) (ys t : List Txn) (so : t ≡ sent_upto i ys) (h : i < length ys) where
+  pub sent-asked : (row_at t i).stage ≡ 1 → set t i (with_stage (row_at t i) 2) ≡ sent_upto (i + 1) ys
+  sent-asked e = rw (add-one i, so) (asked i ys h (rw so at e))
 
-  pub sent-other : ((row_at (sent_upto i ys) i).stage ≡ 1 → ⊥) → sent_upto i ys ≡ sent_upto (i + 1) ys
-  sent-other d = rw (add-one i) (other i ys h d)
+  pub sent-other : ((row_at t i).stage ≡ 1 → ⊥) → t ≡ sent_upto (i + 1) ys
+  sent-other d = rw (add-one i, so) (other i ys h (rw so at d))
 
 pub sent-all : (i : ℕ) (ys : List Txn) → length ys ≤ i → sent_upto i ys ≡ map send_row ys
 sent-all zero [] h = refl

@@ -1,5 +1,7 @@
 // The table, the group, the turn and the counts as a host lends them: a slice of small records, and records behind references. Each function is thin, and defined on a table of
 // any length; what is decided is decided by value elsewhere.
+#![tactic(auto)]
+
 ghost use Rattle.std.specs.Prelude.{◌≡◌, map, eqb, set};
 ghost use Rattle.memory.specs.Memory.{with_tickets, with_read_only, with_aborted, with_withdrawn};
 ghost use Rattle.memory.specs.Rows.{closed, end_rows, row_at, row_from, row_of};

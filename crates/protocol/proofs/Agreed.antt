@@ -12,8 +12,6 @@ use Rattle.protocol.specs.Observer.{Handout, sequence, no_handout}
 use Rattle.protocol.specs.System.{System}
 use Rattle.protocol.specs.Statement.{Agreed}
 -- modules are checked in the order of their names, this one first: so what is computed comes before the proofs, and a wrong definition is refused there
-use Rattle.protocol.proofs.Worked.{right_runs}
-use Rattle.protocol.proofs.WorkedNotices.{notice_runs}
 use Rattle.protocol.proofs.ListLaws.{keep-mem}
 use Rattle.protocol.proofs.Tracking.{within, holds-below}
 use Rattle.protocol.proofs.Invariant.{SystemInv}

@@ -1,29 +1,28 @@
 -- What members do one after the other, of the model or of a machine with a view as it: what holds of each by itself is kept, and a slot once passed and firm stays passed. Assumes nothing.
-use Prim.Native.Nat.{◌+◌, ◌<◌, ◌≤◌, max, suc, ℕ}
+use Prim.Native.Nat.{◌<◌, ◌≤◌, suc, ℕ}
 use mathlib.Core.Path.{◌∙◌, ◌≡◌, ap, refl, subst, sym}
-use mathlib.Core.Bool.{Bool, ◌&&◌, false, not, true, cond}
+use mathlib.Core.Bool.{Bool, ◌&&◌, false, true, cond}
 use mathlib.Core.Logic.{◌⊎◌, inl, inr}
 use mathlib.Core.Option.{Option, none, some}
 use mathlib.Core.List.Memᴰ
 use mathlib.Core.List.{List, [], ◌++◌, ◌∷◌, append_assoc, append-nil}
-use native.Mathlib.Nat.{not-suc-le-zero}
 use native.Mathlib.Omega.{arith}
-use lib.ListN.{length, length-append}
+use lib.ListN.{length-append}
 use lib.Dec.{eqb, ltb}
-use borrow.Author.Tests.{eq-eqb, eqb-false, eqb-true, ne_eqb}
+use borrow.Author.Tests.{eq-eqb, eqb-true, ne_eqb}
 use Rattle.protocol.specs.Lists.{opt, Mem}
 use Rattle.protocol.specs.Writesets.{Message}
 use Rattle.protocol.specs.Notices.{Notice, Outage, is_out}
-use Rattle.protocol.specs.Replica.{Setup, Cursor, Replica, Event, refused, began, got, wrote, requested, withdrew, reported, handed_out, accepted, passed, committed, restarted, loaded, noticed, was_made, Outcome, outcome}
+use Rattle.protocol.specs.Replica.{Setup, Replica, Event, refused, began, got, wrote, requested, withdrew, reported, handed_out, accepted, passed, committed, restarted, loaded, noticed, was_made, Outcome, outcome}
 use Rattle.protocol.specs.Client.{ask_step, withdraw_step, begin_step, read_step, write_step}
 use Rattle.protocol.specs.Moves.{outgoing, out_here}
-use Rattle.protocol.specs.Journal.{Journal, journal, append, Cut, last_of, next_of, journal_after, leaves_out, appended}
-use Rattle.protocol.specs.System.{messages_after, notices_after, Call, begin, read, write, ask, withdraw, report, send, deliver, work, load, restart, notice, System, HandedOut, step, appends, journal_next, Lent, after, made, fresh, PlacesApart, PlacesWithin}
+use Rattle.protocol.specs.Journal.{Journal, Cut, last_of, next_of, journal_after, leaves_out, appended}
+use Rattle.protocol.specs.System.{messages_after, notices_after, Call, begin, read, write, ask, withdraw, report, send, deliver, work, load, restart, notice, System, HandedOut, step, appends, journal_next, Lent, after, PlacesApart, PlacesWithin}
 use Rattle.protocol.specs.Machine.{Alike}
-use Rattle.protocol.proofs.ListLaws.{cond_by, bool_by, less_by, clash, no_some, snoc-all, and_no}
+use Rattle.protocol.proofs.ListLaws.{snoc-all, and_no}
 use Rattle.protocol.proofs.RestartLaws.{last-of}
-use Rattle.protocol.proofs.Moved.{Quiet, Moved, stays, takes, skips, sends, leaves_own, leaves_other, turned, begin-calm, read-calm, write-calm, ask-calm, withdraw-calm, report-calm, load-calm, refusing, call_by}
-use Rattle.protocol.proofs.Lone.{Formed, out_in, Waits, Sent, Told, Ordered, Lone, LoneAt, no_message, lone-more}
+use Rattle.protocol.proofs.Moved.{Moved, stays, takes, skips, sends, leaves_own, leaves_other, turned, begin-calm, read-calm, write-calm, ask-calm, withdraw-calm, report-calm, load-calm, call_by}
+use Rattle.protocol.proofs.Lone.{Formed, out_in, LoneAt, lone-more}
 use Rattle.protocol.proofs.LoneSteps.{P, lone-quiet, client-lone, send-lone, deliver-lone, work-lone, notice-lone}
 use Rattle.protocol.proofs.LoneRestart.{lent-ordered, lent-read, restart-lone}
 

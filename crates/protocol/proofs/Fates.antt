@@ -1,8 +1,7 @@
 -- The fate of every slot, fixed by the one list of notices at the end of a run: what a call passes as out is out, and what it hands out is not. Assumes nothing.
-use Prim.Native.Nat.{◌+◌, ◌<◌, ◌≤◌, max, suc, ℕ}
-use mathlib.Core.Path.{◌∙◌, ◌≡◌, ap, refl, subst, sym}
-use mathlib.Core.Bool.{Bool, ◌&&◌, false, not, true, cond}
-use mathlib.Core.Logic.{◌⊎◌, inl, inr}
+use Prim.Native.Nat.{◌<◌, ◌≤◌, suc, ℕ}
+use mathlib.Core.Path.{◌∙◌, ◌≡◌, ap, refl, sym}
+use mathlib.Core.Bool.{Bool, false, true}
 use mathlib.Core.Option.{Option, none, some}
 use mathlib.Core.List.Memᴰ
 use mathlib.Core.List.{List, [], ◌++◌, ◌∷◌}
@@ -10,16 +9,16 @@ use native.Mathlib.Omega.{arith}
 use lib.ListN.{get_or, length, length-append, length-take, take}
 use lib.Seq.{take_all}
 use lib.Dec.{eqb, ltb}
-use borrow.Author.Tests.{eq-eqb, lt-ltb, ltb-true, ne_eqb}
-use Rattle.protocol.specs.Lists.{opt, update, Mem}
+use borrow.Author.Tests.{lt-ltb, ltb-true, ne_eqb}
+use Rattle.protocol.specs.Lists.{Mem}
 use Rattle.protocol.specs.Writesets.{Message}
-use Rattle.protocol.specs.Notices.{Notice, notices_about, out_by, puts_out, is_out}
-use Rattle.protocol.specs.Replica.{Setup, Cursor, Replica, Event, refused, handed_out, passed, restarted, Outcome}
-use Rattle.protocol.specs.Moves.{outgoing, out_here, at_turn}
-use Rattle.protocol.specs.Journal.{Journal, append, Cut, in_slot_order, of_out_slot, last_of, out_end, next_of, journal_after, leaves_out, appended}
+use Rattle.protocol.specs.Notices.{Notice, notices_about, out_by, puts_out}
+use Rattle.protocol.specs.Replica.{Setup, Cursor, Replica, Event, passed, restarted}
+use Rattle.protocol.specs.Moves.{outgoing, out_here}
+use Rattle.protocol.specs.Journal.{Journal, append, Cut, last_of, out_end, next_of, journal_after, appended}
 use Rattle.protocol.specs.System.{messages_after, notices_after, Call, restart, System, Beginning, OneList, step, appends, journal_next, Lent, PlacesApart, PlacesWithin}
 use Rattle.protocol.specs.Machine.{Alike}
-use Rattle.protocol.proofs.ListLaws.{bool_by, less_by, clash, update_same, keep_append, keep-mem, mem-get_or, and_true}
+use Rattle.protocol.proofs.ListLaws.{bool_by, clash, update_same, keep_append, keep-mem, mem-get_or, and_true}
 use Rattle.protocol.proofs.NoticeLaws.{out-append, out-ahead}
 use Rattle.protocol.proofs.RestartLaws.{last_snoc}
 use Rattle.protocol.proofs.Moved.{Moved, stays, takes, skips, sends, leaves_own, leaves_other, refusing, call_by}
@@ -27,7 +26,7 @@ use Rattle.protocol.proofs.Lone.{Formed, LoneAt, no_message}
 use Rattle.protocol.proofs.LoneSteps.{at_turn_lem}
 use Rattle.protocol.proofs.LoneRestart.{end-above, lent-ordered, lent-read, unsent-long, not-sent, next-appended}
 use Rattle.protocol.proofs.Invariant.{Fits}
-use Rattle.protocol.proofs.Deeds.{messages-grow, Does, refuses, follows, AllLone, Deed, Done, next, reach, AllDone, next-lone, Below, reach-below, reach-messages}
+use Rattle.protocol.proofs.Deeds.{messages-grow, AllLone, Deed, Done, next, reach, AllDone, next-lone, Below, reach-below, reach-messages}
 
 module _ {X : Type 0} (S : Setup X) where
   -- the slots that the one list puts out

@@ -1,5 +1,5 @@
 -- The log: a handout for every slot, that of an out slot empty. It grows by the handouts, and by out slots as replicas pass them. Assumes nothing.
-use Prim.Native.Nat.{suc, ℕ}
+use Prim.Native.Nat.{ℕ}
 use mathlib.Core.Bool.{cond}
 use mathlib.Core.Option.{none, some}
 use mathlib.Core.List.{List, [], ◌++◌, ◌∷◌}

@@ -1,26 +1,23 @@
 -- What holds of one replica by itself, whatever the others do: its journal is in slot order and keeps pace with its turn, what waits and what it sent was handed out, and its outages are
 -- those of the notices that it has taken. Assumes nothing.
-use Prim.Native.Nat.{◌+◌, ◌<◌, ◌≤◌, max, suc, zero, ℕ}
+use Prim.Native.Nat.{◌+◌, ◌<◌, ◌≤◌, suc, ℕ}
 use mathlib.Core.Path.{◌∙◌, ◌≡◌, ap, refl, subst, sym}
-use mathlib.Core.Bool.{Bool, ◌&&◌, ◌||◌, false, not, true, cond}
-use mathlib.Core.Option.{Option, none, some}
+use mathlib.Core.Bool.{Bool, ◌&&◌, false, true, cond}
+use mathlib.Core.Option.{Option, some}
 use mathlib.Core.List.Memᴰ
 use mathlib.Core.List.{List, [], ◌++◌, ◌∷◌}
-use native.Mathlib.Nat.{add-zero, not-suc-le-zero}
+use native.Mathlib.Nat.{add-zero}
 use native.Mathlib.Omega.{arith}
 use lib.ListN.{get_or-append, drop, get_or, length, length-append, length-take, take, take-append-drop}
 use lib.Seq.{get_or-append_seam, get_or-take}
-use lib.Dec.{eqb, leb, ltb}
-use borrow.Author.Tests.{eq-eqb, eqb-false, eqb-true, leb-false, ltb-false, ltb-true, ne_eqb, not-true}
-use Rattle.protocol.specs.Lists.{opt, update, Mem}
-use Rattle.protocol.specs.Writesets.{Message, no_writeset}
+use lib.Dec.{ltb}
+use borrow.Author.Tests.{eq-eqb}
+use Rattle.protocol.specs.Lists.{Mem}
+use Rattle.protocol.specs.Writesets.{Message}
 use Rattle.protocol.specs.Notices.{Notice, puts_out, Outage, is_out, outages_of, no_outages}
-use Rattle.protocol.specs.Replica.{Setup, Cursor, Blocks, Replica, replica, Event, passed, Outcome, outcome}
-use Rattle.protocol.specs.Moves.{out_here, placed_from}
-use Rattle.protocol.specs.Journal.{Journal, journal, in_slot_order, leaves_out, appended}
-use Rattle.protocol.specs.System.{messages_after, notices_after, appends, journal_next}
-use Rattle.protocol.proofs.ListLaws.{less_by, clash, no_some, and_no, snoc-all}
-use Rattle.protocol.proofs.Moved.{Quiet, Calm}
+use Rattle.protocol.specs.Replica.{Setup, Replica}
+use Rattle.protocol.specs.Journal.{Journal, in_slot_order}
+use Rattle.protocol.proofs.ListLaws.{less_by, snoc-all}
 
 module _ {X : Type 0} (S : Setup X) where
   -- a message of a slot's owner

@@ -1,27 +1,26 @@
 -- A restart keeps what holds of one replica by itself: what it is lent is in slot order, and the turn's slot in it is of a known fate. Assumes nothing.
-use Prim.Native.Nat.{◌+◌, ◌<◌, ◌≤◌, max, suc, zero, ℕ}
-use mathlib.Core.Path.{◌∙◌, ◌≡◌, ap, refl, subst, sym}
-use mathlib.Core.Bool.{Bool, ◌&&◌, false, not, true, cond}
+use Prim.Native.Nat.{◌<◌, ◌≤◌, max, suc, ℕ}
+use mathlib.Core.Path.{◌∙◌, ◌≡◌, ap, refl, sym}
+use mathlib.Core.Bool.{Bool, false, true, cond}
 use mathlib.Core.Option.{Option, none, some}
 use mathlib.Core.List.Memᴰ
 use mathlib.Core.List.{List, [], ◌++◌, ◌∷◌}
 use native.Mathlib.Omega.{arith}
-use lib.ListN.{get_or, length, length-append, length-take, take}
-use lib.Seq.{take_all, take-append-le}
-use lib.Dec.{eqb, ltb}
+use lib.ListN.{length}
+use lib.Dec.{ltb}
 use borrow.Author.Tests.{ltb-true, ne_eqb}
 use Rattle.protocol.specs.Lists.{opt, Mem}
 use Rattle.protocol.specs.Writesets.{Message}
-use Rattle.protocol.specs.Notices.{Notice, puts_out, Outage, is_out, outages_of, no_outages}
+use Rattle.protocol.specs.Notices.{Notice, Outage, is_out, outages_of, no_outages}
 use Rattle.protocol.specs.Replica.{Setup, Replica, Event}
 use Rattle.protocol.specs.Moves.{outgoing, out_here, at_turn}
-use Rattle.protocol.specs.Journal.{Journal, append, Cut, in_slot_order, of_out_slot, last_of, out_end, next_of, journal_after, restart_step, leaves_out, appended}
-use Rattle.protocol.specs.System.{messages_after, notices_after, Call, restart, step, appends, Lent, PlacesApart, PlacesWithin}
-use Rattle.protocol.proofs.ListLaws.{cond_by, bool_by, less_by, clash, no_some, and_true}
+use Rattle.protocol.specs.Journal.{Journal, append, Cut, in_slot_order, of_out_slot, last_of, out_end, next_of, journal_after, appended}
+use Rattle.protocol.specs.System.{messages_after, notices_after, Call, restart, step, appends, PlacesApart, PlacesWithin}
+use Rattle.protocol.proofs.ListLaws.{cond_by, bool_by, clash, no_some, and_true}
 use Rattle.protocol.proofs.SequenceLaws.{mem_at}
 use Rattle.protocol.proofs.RestartLaws.{last-of}
-use Rattle.protocol.proofs.Moved.{Moved, stays, takes, skips, sends, leaves_own, leaves_other, refusing, call_by}
-use Rattle.protocol.proofs.Lone.{Formed, Waits, Ordered, Lone, LoneAt, no_message, ordered-snoc, ordered-take, ordered-read}
+use Rattle.protocol.proofs.Moved.{Moved, stays, takes, skips, sends, leaves_own, leaves_other, call_by}
+use Rattle.protocol.proofs.Lone.{Formed, Ordered, Lone, LoneAt, no_message, ordered-snoc, ordered-take, ordered-read}
 use Rattle.protocol.proofs.LoneSteps.{P, at_turn_lem}
 
 module _ {X : Type 0} (S : Setup X) (A : PlacesApart S) (N : PlacesWithin S) (B : List (Message X)) (formed : (m : Message X) → Mem m B → Formed S m)

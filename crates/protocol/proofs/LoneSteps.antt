@@ -1,5 +1,5 @@
 -- Every call keeps what holds of one replica by itself. Assumes nothing.
-use Prim.Native.Nat.{◌+◌, ◌<◌, ◌≤◌, max, suc, zero, ℕ}
+use Prim.Native.Nat.{◌+◌, ◌<◌, ◌≤◌, suc, zero, ℕ}
 use mathlib.Core.Path.{◌∙◌, ◌≡◌, ap, refl, subst, sym}
 use mathlib.Core.Bool.{Bool, ◌&&◌, ◌||◌, false, not, true, cond}
 use mathlib.Core.Option.{Option, none, some}
@@ -10,18 +10,18 @@ use native.Mathlib.Omega.{arith}
 use lib.ListN.{get_or, length, length-append}
 use lib.Dec.{eqb, leb, ltb}
 use borrow.Author.Tests.{eq-eqb, eqb-false, eqb-true, leb-false, le-ltb, lt-leb, lt-ltb, ltb-false, ltb-true, ne_eqb, not-false}
-use Rattle.protocol.specs.Lists.{opt, update, Mem}
+use Rattle.protocol.specs.Lists.{opt, Mem}
 use Rattle.protocol.specs.Writesets.{Message, no_writeset}
-use Rattle.protocol.specs.Notices.{Notice, puts_out, Outage, is_out, outage_after, outages_after, outages_of, no_outages}
-use Rattle.protocol.specs.Replica.{Setup, Cursor, Blocks, Replica, replica, Event, refused, passed, committed, noticed, Outcome, outcome}
+use Rattle.protocol.specs.Notices.{Notice, Outage, is_out, outage_after, outages_after, outages_of, no_outages}
+use Rattle.protocol.specs.Replica.{Setup, Cursor, Blocks, Replica, refused, noticed, Outcome, outcome}
 use Rattle.protocol.specs.Client.{ClientOutcome, find_txn, from_client}
 use Rattle.protocol.specs.Moves.{cursor_after, outgoing, is_next, occupied, is_sent, out_here, send_step, sent_for_turn, deliver_step, clear_turn, blocks_after, commit_step, at_turn, pass_out, work_step, placed_from, bars_out, bars_back, bars_notice, taking, notice_step}
 use Rattle.protocol.specs.Journal.{Journal, journal, append, next_of, journal_after, leaves_out, leaving, appended}
 use Rattle.protocol.specs.System.{messages_after, notices_after, HandedOut, journal_next, PlacesApart, PlacesWithin}
 use Rattle.protocol.proofs.ListLaws.{cond_by, opt-by, bool_by, less_by, same_by, clash, no_some, update-by, and_no, and_true, and_false, or_false}
 use Rattle.protocol.proofs.NoticeLaws.{outages_snoc, puts_about, puts_other, out-after, back-after}
-use Rattle.protocol.proofs.Moved.{Quiet, Calm, turned}
-use Rattle.protocol.proofs.Lone.{Formed, out_in, Waits, Sent, Told, Ordered, Lone, LoneAt, waits-more, sent-more, lone-more, ordered-snoc}
+use Rattle.protocol.proofs.Moved.{Calm, turned}
+use Rattle.protocol.proofs.Lone.{Formed, out_in, Waits, Ordered, Lone, LoneAt, ordered-snoc}
 
 module _ {X : Type 0} (S : Setup X) (A : PlacesApart S) (N : PlacesWithin S) (B : List (Message X)) (formed : (m : Message X) → Mem m B → Formed S m)
     (l : List Notice) (J : Journal X) (r : Replica X) (L : LoneAt S B l J r) where

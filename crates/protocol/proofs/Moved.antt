@@ -1,7 +1,7 @@
 -- How a call other than a restart moves the turn and the journal. Assumes nothing.
 use Prim.Native.Nat.{◌+◌, ◌<◌, ◌≤◌, suc, ℕ}
 use mathlib.Core.Path.{◌∙◌, ◌≡◌, refl}
-use mathlib.Core.Bool.{Bool, ◌&&◌, false, not, true}
+use mathlib.Core.Bool.{◌&&◌, false, not, true}
 use mathlib.Core.Option.{Option, none, some}
 use mathlib.Core.List.{List, []}
 use native.Mathlib.Omega.{arith}
@@ -11,7 +11,7 @@ use borrow.Author.Tests.{eq-eqb, eqb-false, eqb-true, le-ltb, leb-false, ltb-fal
 use Rattle.protocol.specs.Writesets.{has, Message, no_writeset}
 use Rattle.protocol.specs.Notices.{Notice}
 use Rattle.protocol.specs.Replica.{Setup, Cursor, Replica, Event, refused, wrote, requested, reported, handed_out, passed, committed, loaded, noticed, Outcome}
-use Rattle.protocol.specs.Client.{ClientOutcome, find_txn, held_by_other, is_stale, is_empty, ask_step, withdraw_step, from_client, begin_step, read_step, write_found, write_step}
+use Rattle.protocol.specs.Client.{ClientOutcome, find_txn, held_by_other, is_stale, is_empty, ask_step, withdraw_step, begin_step, read_step, write_found, write_step}
 use Rattle.protocol.specs.Moves.{cursor_after, outgoing, is_next, occupied, is_sent, out_here, send_step, sent_for_turn, deliver_step, commit_step, at_turn, work_step, bars_notice, notice_step}
 use Rattle.protocol.specs.Journal.{Journal, journal, append, journal_after, leaving, appended}
 use Rattle.protocol.specs.Observer.{Observed, Handout}

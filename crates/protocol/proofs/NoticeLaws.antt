@@ -1,11 +1,10 @@
 -- Laws of notices: what a list of them puts out, and the outages kept of it. Assumes nothing.
 use Prim.Native.Nat.{◌<◌, ◌≤◌, ℕ}
-use mathlib.Core.Path.{◌∙◌, ◌≡◌, ap, refl, sym}
+use mathlib.Core.Path.{◌≡◌, refl}
 use mathlib.Core.Bool.{Bool, ◌&&◌, false, true, cond}
 use mathlib.Core.List.Memᴰ
 use mathlib.Core.List.{List, [], ◌++◌, ◌∷◌}
-use native.Mathlib.Omega.{arith}
-use lib.Dec.{eqb, leb, ltb}
+use lib.Dec.{eqb, leb}
 use borrow.Author.Tests.{eq-eqb, le-leb, le-ltb, lt-leb, lt-ltb, ne_eqb}
 use Rattle.protocol.specs.Lists.{Mem, keep}
 use Rattle.protocol.specs.Notices.{Notice, notices_about, out_by, puts_out, Outage, is_out, outage_after, outages_after, outages_of}

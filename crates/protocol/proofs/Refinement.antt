@@ -10,12 +10,12 @@ use borrow.Author.Tests.{eqb-true}
 use Rattle.protocol.specs.Lists.{update}
 use Rattle.protocol.specs.Writesets.{Message}
 use Rattle.protocol.specs.Notices.{Notice}
-use Rattle.protocol.specs.Replica.{Setup, Cursor, Replica, Event, refused, Outcome, outcome}
+use Rattle.protocol.specs.Replica.{Setup, Cursor, Replica, Event, refused, outcome}
 use Rattle.protocol.specs.Journal.{Journal, Cut, appended}
 use Rattle.protocol.specs.Observer.{Observed, Placed, Handout, sequence}
-use Rattle.protocol.specs.System.{Call, begin, read, write, ask, withdraw, report, send, deliver, work, load, restart, notice, System, HandedOut, OneList, step, appends, Lent, made, fresh, PlacesApart, PlacesWithin}
+use Rattle.protocol.specs.System.{Call, begin, read, write, ask, withdraw, report, send, deliver, work, load, restart, notice, System, HandedOut, OneList, step, appends, Lent, made, PlacesApart, PlacesWithin}
 use Rattle.protocol.specs.Statement.{Agreed}
-use Rattle.protocol.specs.Machine.{Alike, Performed, Refines, refuses, follows, Machine, CommandClaim, MachineSystem, CommandAt, fresh_system, appended_by, after_command, run_commands, CommandLent, CommandPremise, system_of, CommandClaims, MachineTheorem}
+use Rattle.protocol.specs.Machine.{Performed, Refines, refuses, follows, Machine, CommandClaim, MachineSystem, CommandAt, fresh_system, appended_by, after_command, run_commands, CommandLent, CommandPremise, system_of, CommandClaims, MachineTheorem}
 use Rattle.protocol.proofs.Deeds as deeds
 use Rattle.protocol.proofs.Deeds.{lone-alike, Does, AllLone, Deed, Done, next, reach, AllDone, next-lone}
 use Rattle.protocol.proofs.Invariant.{SystemInv}

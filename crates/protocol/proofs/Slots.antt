@@ -2,16 +2,15 @@
 use Prim.Native.Nat.{◌<◌, ℕ}
 use mathlib.Core.Path.{◌∙◌, ◌≡◌, ap, subst, sym}
 use mathlib.Core.Bool.{Bool, false, not, true}
-use mathlib.Core.Logic.{◌⊎◌, inl, inr}
 use mathlib.Core.List.{List, Nodup, map}
 use native.Mathlib.Omega.{arith}
-use lib.ListN.{get_or, length, length-map, take}
+use lib.ListN.{get_or, length, length-map}
 use lib.Seq.{get_or-take}
 use Rattle.protocol.specs.Lists.{Mem}
-use Rattle.protocol.specs.Writesets.{Message, Writeset}
+use Rattle.protocol.specs.Writesets.{Message}
 use Rattle.protocol.specs.Replica.{Setup}
 use Rattle.protocol.specs.Journal.{next_of}
-use Rattle.protocol.specs.Observer.{Placed, Handout, sequence, id_of, to_writeset, handout_message, no_handout}
+use Rattle.protocol.specs.Observer.{Placed, Handout, sequence, id_of, handout_message, no_handout}
 use Rattle.protocol.specs.System.{System}
 use Rattle.protocol.proofs.ListLaws.{bool_by, mem-keep, mem-map, mem-get_or, get_or-map_in}
 use Rattle.protocol.proofs.SequenceLaws.{mem_at}

@@ -1,7 +1,7 @@
 -- A station is a member of the group that sends nothing. Its number, which only the group's numbering gives it, is the sender of nothing that its calls meet: under any other such number
 -- they do the same. Assumes nothing.
 use Prim.Native.Nat.{ℕ, suc, zero, ◌+◌}
-use mathlib.Core.Path.{◌≡◌, refl, ap}
+use mathlib.Core.Path.{◌≡◌, refl}
 use mathlib.Core.Bool.{Bool, false, true, ◌&&◌, ◌||◌, cond}
 use mathlib.Core.Option.{Option, none, some}
 use mathlib.Core.List.{[]}

@@ -1,14 +1,14 @@
 -- The runs of `specs/WorkedNotices.antt`, computed from the definitions. Assumes nothing.
 use Prim.Native.Nat.{◌≤◌, ℕ, zero, suc}
-use mathlib.Core.Path.{◌≡◌, ap, refl, subst, sym}
+use mathlib.Core.Path.{◌≡◌, ap, refl, subst}
 use mathlib.Core.List.Memᴰ
-use mathlib.Core.List.{List, [], ◌∷◌}
+use mathlib.Core.List.{[]}
 use native.Mathlib.Omega.{arith}
 use lib.ListN.{length}
 use borrow.Author.Tests.{ne_eqb}
 use Rattle.protocol.specs.Lists.{Mem, keep, any_of, first, sort_in, sort}
 use Rattle.protocol.specs.Writesets.{has, put, value_or, shares, apply_one, stamp_one}
-use Rattle.protocol.specs.Notices.{Notice, notices_about, out_by, outages_of}
+use Rattle.protocol.specs.Notices.{notices_about, out_by, outages_of}
 use Rattle.protocol.specs.Client.{is_empty, ask_step, withdraw_step, begin_step, read_step, write_found, write_step}
 use Rattle.protocol.specs.Moves.{cursor_after, send_step, deliver_step, blocks_after, commit_step, work_step, placed_from, notice_step}
 use Rattle.protocol.specs.Journal.{in_slot_order, commit_all, commit_blocks, highest_ticket, highest_of, last_of, out_end, next_of, journal_after, appended}

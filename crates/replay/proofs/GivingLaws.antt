@@ -1,14 +1,13 @@
 -- When a line asks for a giving, and the giving at its place. Assumes nothing.
-use Rattle.std.proofs.Common.{◌≡◌, ℕ, ◌≤◌, Bool, true, false, List, [], length, take, sym, refl, ap, ◌∙◌, arith, length-take-le, eq-eqb, ne_eqb}
+use Rattle.std.proofs.Common.{◌≡◌, ℕ, ◌≤◌, Bool, true, false, List, [], length, take, sym, refl, ap, ◌∙◌, length-take-le, eq-eqb, ne_eqb}
 use Rattle.memory.specs.declared.Group.{Group}
 use Rattle.memory.specs.Memory.{Memory}
 use Rattle.giving.specs.Choice.{giver_of}
 use Rattle.replay_parse.specs.declared.Call.{Call}
 use Rattle.replay_journal.specs.declared.Held.{Held}
 use Rattle.replay_journal.specs.Journals.{Journal}
-use Rattle.replay_journal.specs.declared.notices.Taken.{Taken}
 use Rattle.replay_replica.specs.declared.Played.{Played}
-use Rattle.replay_replica.specs.Effects.{places_size, memory_of, Effect, Plays}
+use Rattle.replay_replica.specs.Effects.{places_size, Effect, Plays}
 use Rattle.replay_give.specs.Kept.{CatchesUp}
 use Rattle.replay.specs.declared.Place.{Place}
 use Rattle.replay.specs.Places.{is_replica, is_answered}

@@ -1,4 +1,6 @@
 // Plays a list of calls at eight places for replicas and stations, one call to a line, and prints each answer.
+#![tactic(auto)]
+
 ghost use Rattle.std.specs.Prelude.{◌≡◌, ◌+◌, ◌%◌, ◌^◌, ◌<◌, ◌≤◌, ◌&&◌, length, take, if◌then◌else◌, nat_lt};
 ghost use Rattle.replay_print.specs.Text.{answer_text, Holds};
 ghost use Rattle.replay.specs.Answers.{no_place, shown_if, block_shown, is_sent, kept_after, Says, AnswersAt, GivesLine, Replies};
@@ -9,6 +11,7 @@ use replay_journal::Held;
 use replay_journal::notices::{Taken, none};
 use replay_parse::Call;
 use replay_replica::{Played, Replica, nobody};
+use std::io::{Read, Write};
 use text_lines::input::{Source, start};
 use text_lines::output::{Output, finish, nothing, with_line, with_room};
 
@@ -17,7 +20,7 @@ mod places;
 mod usage;
 
 // A replica or a station, how much of its page is its journal, and the notices taken there. A station has no journal: what its works leave there is never shown.
-#[derive(Drop)]
+#[derive(Clone, Copy)]
 pub struct Place {
     pub replica: Replica,
     pub held: Held,
@@ -25,7 +28,7 @@ pub struct Place {
 }
 
 // What a call at a place gives, and after it how much of the page is the journal, and the notices.
-#[derive(Drop)]
+#[derive(Clone, Copy)]
 pub struct Placed {
     pub played: Played,
     pub held: Held,
@@ -33,7 +36,7 @@ pub struct Placed {
 }
 
 // The place of a call, the call, and the first `count` bytes for it, or the turns that a giving is told; not `known` where the line names no place, or no bytes.
-#[derive(Drop)]
+#[derive(Clone, Copy)]
 struct Request {
     place: usize,
     known: bool,
@@ -44,7 +47,7 @@ struct Request {
 }
 
 // What the next line asks, unless the input has ended.
-#[derive(Drop)]
+#[derive(Clone, Copy)]
 struct Asked {
     source: Source,
     ended: bool,
@@ -52,21 +55,21 @@ struct Asked {
 }
 
 // How many bytes of an answer were put, and whether a block was sent.
-#[derive(Drop)]
+#[derive(Clone, Copy)]
 struct Said {
     length: usize,
     sent: bool,
 }
 
 // The place after a call, and what was said of it.
-#[derive(Drop)]
+#[derive(Clone, Copy)]
 struct Answered {
     place: Place,
     said: Said,
 }
 
 // The place after a line, the output with its answer, and how many blocks were sent.
-#[derive(Drop)]
+#[derive(Clone, Copy)]
 struct Replied {
     place: Place,
     output: Output,
@@ -120,13 +123,19 @@ fn request_of(line: &[u8], sent: u64, kept: &[u8]) -> Request
 }
 
 // What the next line of the input asks.
-fn next_request(source: Source, sent: u64, buffer: &mut [u8], kept: &[u8]) -> Asked
+fn next_request<R: Read>(
+    input: &mut R,
+    source: Source,
+    sent: u64,
+    buffer: &mut [u8],
+    kept: &[u8],
+) -> Asked
     requires { length kept.now ≡ 32768 }
     ensures { (result.request.place < 8) × (result.request.count ≤ 2100) × (result.request.told.count ≤ 6) }
 {
     // One byte more than the longest call has, `Y k `, three numbers and 2,100 bytes: a longer line is no call.
     let mut line = [0u8; 4239];
-    let read = text_lines::input::next_line(source, &mut *buffer, &mut line);
+    let read = text_lines::input::next_line(&mut *input, source, &mut *buffer, &mut line);
     let n = read.length;
     let after = read.source;
     Asked {
@@ -296,11 +305,7 @@ fn answer(
 fn counted(sent: u64, more: bool) -> u64
     ensures { result ≡ (if more then (sent + 1) % 2 ^ 64 else sent) }
 {
-    if more {
-        std::num::wrapping_add_u64(sent, 1)
-    } else {
-        sent
-    }
+    if more { sent.wrapping_add(1) } else { sent }
 }
 
 // The answer to a line, put behind those that are held.
@@ -350,7 +355,7 @@ fn lender_of(request: Request, place: Place) -> usize
 }
 
 // Every line of the input, in its order.
-fn play() {
+fn play<R: Read, W: Write, E: Write>(input: &mut R, to: &mut W, errors: &mut E) {
     let mut places = [nowhere(); 8];
     // Of each journal 128 blocks are kept.
     let mut pages = [0u8; 524288];
@@ -362,14 +367,21 @@ fn play() {
     let mut sent: u64 = 0;
     let mut turns = u64::MAX;
     while turns > 0 {
-        output = with_room(output, source, b"replay", &out);
+        output = with_room(output, source, b"replay", &out, &mut *to, &mut *errors);
         if output.failed {
             return;
         }
-        let asked = next_request(source, sent, &mut buffer, &kept);
+        let asked = next_request(&mut *input, source, sent, &mut buffer, &kept);
         source = asked.source;
         if asked.ended {
-            finish(output, source.failed, b"replay", &out);
+            finish(
+                output,
+                source.failed,
+                b"replay",
+                &out,
+                &mut *to,
+                &mut *errors,
+            );
             return;
         }
         let request = asked.request;
@@ -388,11 +400,12 @@ fn play() {
     }
 }
 
-fn main() {
-    let count = os::arg_count();
-    if 1 < count {
-        usage::answer(count);
+fn main(rt: HostRuntime) {
+    let mut to = rt.stdout();
+    let mut errors = rt.stderr();
+    if usage::answer(&rt, &mut to, &mut errors) {
         return;
     }
-    play();
+    let mut input = rt.stdin();
+    play(&mut input, &mut to, &mut errors);
 }

@@ -1,4 +1,6 @@
 // A call at a replica or a station, by its letter.
+#![tactic(auto)]
+
 ghost use Rattle.std.specs.Prelude.{ℕ, List};
 ghost use Rattle.replay_replica.specs.Effects.{memory_of, Plays};
 ghost use Rattle.replay_calls.specs.Letters.{size_lent, look, show, played};

@@ -1,5 +1,7 @@
 // The calls of a client at a replica, which goes in and out by value: its small parts as they are, its large ones lent from copies. At a station they are the same,
 // but for a write.
+#![tactic(auto)]
+
 ghost use Rattle.std.specs.Prelude.{ℕ, ◌≡◌, List, set};
 ghost use Rattle.engine.specs.Classes.{load_step};
 ghost use Rattle.engine.specs.Client.{begin_step, read_step, write_step, ask_step, withdraw_step, report_step};

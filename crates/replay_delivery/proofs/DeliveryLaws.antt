@@ -1,7 +1,7 @@
 -- Hexadecimal digits, and bytes with zeros behind. Assumes nothing.
 use Prim.Native.Nat.{ℕ, zero, suc, ◌+◌, ◌*◌, ◌-◌, ◌/◌, ◌%◌, ◌^◌, ◌≤◌, ◌<◌, min}
 use mathlib.Core.Path.{◌≡◌, refl, sym, ap, ◌∙◌}
-use mathlib.Core.Bool.{Bool, true, false, cond, ◌&&◌}
+use mathlib.Core.Bool.{Bool, true, false, ◌&&◌}
 use mathlib.Core.List.{List, [], ◌∷◌, ◌++◌, append_assoc, append-nil}
 use mathlib.Core.Logic.{◌⊎◌, inl, inr}
 use native.Mathlib.Decide.{dec_le, dec_lt}
@@ -10,7 +10,7 @@ use native.Mathlib.Omega.{arith}
 use borrow.Author.Tests.{lt-ltb, le-ltb, le-leb, lt-leb, ne_eqb, eqb-true}
 use lib.Bits.{bit_xor}
 use lib.Dec.{ltb, leb, eqb}
-use lib.ListN.{length, get_or, take, drop, set, replicate, length-set, get_or-append, length-append, length-take, length-replicate, take-append-drop}
+use lib.ListN.{length, get_or, take, drop, set, replicate, length-set, get_or-append, length-append, take-append-drop}
 use lib.Seq.{drop-cons, drop-length, set_at, set-append_left, set_out, take_all}
 use Rattle.block.specs.Message.{within}
 use Rattle.block.specs.Theorems.{flipped, flip_bit}

@@ -1,4 +1,6 @@
 // The bytes that a line names: a block sent in this run, of which the last 64 are kept, or what the line writes out.
+#![tactic(auto)]
+
 ghost use Rattle.std.specs.Prelude.{◌≡◌, true, false, ◌/◌, ◌%◌, ◌≤◌, ◌<◌, [], take};
 ghost use Rattle.block.specs.Theorems.{flipped, flip_bit};
 ghost use Rattle.replay_delivery.specs.Deliveries.{kept_start, is_kept, hex_number, hex_pair, is_hex_text, most_bytes, digits_of, unhex, names_bytes, bytes_named, padded, delivery};
@@ -7,7 +9,7 @@ use memory::rows::lesser;
 use replay_parse::Call;
 
 // The bytes that a line names, zeros behind; none where it names a block that is not kept, or no bytes.
-#[derive(Drop)]
+#[derive(Clone, Copy)]
 pub struct Delivery {
     pub known: bool,
     pub count: usize,

@@ -1,11 +1,10 @@
 -- A window's blocks put behind a journal, one after the other. Assumes nothing.
 use Prim.Native.Nat.{ℕ, suc, ◌+◌, ◌-◌, ◌/◌, ◌≤◌, ◌<◌, min}
-use mathlib.Core.Path.{◌≡◌, refl, sym, ap, ◌∙◌}
-use mathlib.Core.Bool.{true, false}
+use mathlib.Core.Path.{◌≡◌, refl, sym, ◌∙◌}
 use mathlib.Core.List.{List, [], ◌++◌, append_assoc, append-nil}
 use native.Mathlib.Numerals.{add-one}
 use native.Mathlib.Omega.{arith}
-use borrow.Author.Tests.{le-leb, lt-leb, leb-true, leb-false}
+use borrow.Author.Tests.{le-leb, lt-leb, leb-false}
 use lib.Dec.{leb}
 use lib.ListN.{length, take, length-append, length-take}
 use Rattle.engine.proofs.Tests.{bool_by}
@@ -13,8 +12,8 @@ use Rattle.memory.specs.Window.{kept_block}
 use Rattle.replay_journal.specs.declared.Held.{Held}
 use Rattle.replay_journal.specs.declared.Held.TheVariants.{Bytes, Outgrown}
 use Rattle.replay_journal.specs.declared.Change.TheVariants.{Grows}
-use Rattle.replay_journal.specs.Journals.{Journal, whole, outgrown, grown, journal_of, held_behind, page_behind, Keeps}
-use Rattle.replay_give.specs.Kept.{blocks_from, caught_up, behind_all, behind_turn, CatchesUp}
+use Rattle.replay_journal.specs.Journals.{Journal, whole, outgrown, grown, journal_of, Keeps}
+use Rattle.replay_give.specs.Kept.{blocks_from, behind_all, CatchesUp}
 
 -- ---- the journal
 

@@ -1,4 +1,6 @@
 // A giving as a line of the program: the turns that it is told, the call at the returner, and its journal after it.
+#![tactic(auto)]
+
 ghost use Rattle.std.specs.Prelude.{ℕ, ◌≤◌, ◌+◌, ◌≡◌, List, [], ◌∷◌, ◌++◌};
 ghost use Rattle.replay_journal.specs.declared.Change.TheVariants.{Stays};
 ghost use Rattle.replay_replica.specs.Effects.{places_size, memory_of, Plays};

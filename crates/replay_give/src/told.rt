@@ -5,7 +5,7 @@ ghost use Rattle.replay_give.specs.Told.{none_told, Tells, numbers_from, told_in
 use replay_parse::{Number, take_number};
 
 // The first `count` are told: none where the line is no giving.
-#[derive(Drop)]
+#[derive(Clone, Copy)]
 pub struct Told {
     pub count: usize,
     pub turns: [u32; 6],

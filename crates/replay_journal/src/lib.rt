@@ -1,4 +1,6 @@
 // The journal that the program keeps at a place: what was appended there, in the first bytes of a page that is lent.
+#![tactic(auto)]
+
 ghost use Rattle.std.specs.Prelude.{◌≡◌};
 ghost use Rattle.std.proofs.Math.Seq.{slice};
 ghost use Rattle.replay_journal.specs.Journals.{journal_of, is_part, part_start, part_end, has_part, bytes_given, Lends, Appends, Keeps};
@@ -10,7 +12,7 @@ use replay_parse::Call;
 pub mod notices;
 
 // How many bytes of the page are the journal; `Outgrown` where more was appended than the page has room for.
-#[derive(Drop)]
+#[derive(Clone, Copy)]
 pub enum Held {
     Bytes(usize),
     Outgrown,
@@ -18,7 +20,7 @@ pub enum Held {
 
 // What a call does to the journal. It `Grows` by the block that the call left in the bytes lent for one; what `Begins` is another, of so many blocks of the bytes that the
 // call was given.
-#[derive(Drop)]
+#[derive(Clone, Copy)]
 pub enum Change {
     Stays,
     Grows,

@@ -5,7 +5,7 @@ ghost use Rattle.replay_journal.specs.Taken.{none_taken, taken_of, has_taken, nu
 use replay_parse::Call;
 
 // Three numbers for each of `count` notices. There is room for 32: a count of 33 stands for any that are more, and the numbers are then not of use.
-#[derive(Drop)]
+#[derive(Clone, Copy)]
 pub struct Taken {
     pub count: usize,
     pub numbers: [u32; 96],

@@ -1,4 +1,6 @@
 // The calls that make a replica, restart it and move its turn, and a notice. It goes in and out by value, as for a client's calls. At a station a deliver, a work and a notice are the same.
+#![tactic(auto)]
+
 ghost use Rattle.std.specs.Prelude.{ℕ, ◌+◌, ◌≤◌, ◌≡◌, cond, List, [], ◌∷◌, eqb, length, replicate};
 ghost use Rattle.memory.specs.Rows.{end_rows};
 ghost use Rattle.engine.specs.Make.{make_step};

@@ -1,10 +1,12 @@
 // A line as a call. A number is read only as the program would print it.
+#![tactic(auto)]
+
 ghost use Rattle.std.specs.Prelude.{◌≤◌, ◌≡◌, length, drop};
 ghost use Rattle.replay_parse.specs.Lines.{digit_number, number_up_to, read_digits, read_number, negative, read_signed, read_value, call_with, no_call, bytes_behind, at_end, number_if, value_if, fields, shape_of, call_as, call_of, place_named};
 ghost use Rattle.replay_parse.specs.Lines.{ReadsNumber, ReadsValue};
 
 // A call: its letter and its numbers, 0 where it has none, and how many digits of bytes end its line. Letter 0 is no call.
-#[derive(Drop)]
+#[derive(Clone, Copy)]
 pub struct Call {
     pub letter: u8,
     pub first: u32,
@@ -14,20 +16,20 @@ pub struct Call {
 }
 
 // A number read from a line, and the place behind it; so for a value.
-#[derive(Drop)]
+#[derive(Clone, Copy)]
 pub enum Number {
     Is(u32, usize),
     Missing,
 }
 
-#[derive(Drop)]
+#[derive(Clone, Copy)]
 pub enum Value {
     Is(i32, usize),
     Missing,
 }
 
 // How a line goes on behind its place: so many numbers, at most two, then a value or none, then bytes or none. Not `known` where it is no call.
-#[derive(Drop)]
+#[derive(Clone, Copy)]
 struct Shape {
     known: bool,
     numbers: u8,

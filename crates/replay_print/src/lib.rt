@@ -1,4 +1,6 @@
 // Answers as text, in a buffer that has room for a line. `at` is how many bytes of it are used: a byte past its end is left out.
+#![tactic(auto)]
+
 ghost use Rattle.std.specs.Prelude.{◌≡◌, [], ◌∷◌, ◌<◌};
 ghost use Rattle.replay_print.specs.Text.{decimal, signed, hex_digit, hex_byte, each, field, block_text, answer_text, unknown_text, Holds, Appends};
 

@@ -1,4 +1,6 @@
 // A replica or a station as the program has it, and what a call gives. Both have one kind of memory, which goes in and out by value.
+#![tactic(auto)]
+
 ghost use Rattle.std.specs.Prelude.{◌≤◌, ◌≡◌};
 ghost use Rattle.memory.specs.Memory.{numberless};
 ghost use Rattle.replay_replica.specs.Effects.{no_replica, places_size};
@@ -9,7 +11,7 @@ use replay_journal::Change;
 pub mod results;
 
 // A replica's memory, or a station's. Of the bytes for places a group of n uses the first 512·n. The group of one that was not made has no replicas.
-#[derive(Drop)]
+#[derive(Clone, Copy)]
 pub struct Replica {
     pub group: Group,
     pub turn: Turn,
@@ -29,7 +31,7 @@ pub struct Replica {
 
 // What a call gives: its number, and behind it the first `count` numbers and the first `shown` values; the replica after it, and what becomes of its
 // journal.
-#[derive(Drop)]
+#[derive(Clone, Copy)]
 pub struct Played {
     pub replica: Replica,
     pub number: u8,

@@ -1,5 +1,7 @@
 // A block, as a host reads it: its header or why it is refused, and its records and their entries.
 // Each function is lent bytes of any length and content, and looks at them alone. Its contract: the reply is what the definitions of a block say of the bytes.
+#![tactic(auto)]
+
 ghost use Rattle.std.specs.Prelude.{◌≡◌};
 ghost use Rattle.block.specs.Answers.{block_read, record_at, entry_at};
 
@@ -8,7 +10,7 @@ use block_reader::{entry_at, read_block, record_at};
 
 // Document 01's number, 0 where the bytes are a good block: 1 for another length, 14 for its check, 15 for its form. The header is all zero where it is not 0.
 #[repr(C)]
-#[derive(Drop)]
+#[derive(Clone, Copy)]
 pub struct BlockReply {
     pub number: u8,
     pub header: Header,

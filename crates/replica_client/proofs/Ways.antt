@@ -3,7 +3,7 @@
 --     …-did and the like      accepted: what was written to the table and the counts where they lie is what the step says
 use Prim.Native.Nat.{ℕ}
 use mathlib.Core.Path.{◌≡◌, refl, sym, ap, subst, ◌∙◌}
-use mathlib.Core.Bool.{Bool, not}
+use mathlib.Core.Bool.{Bool, true, false, not}
 use mathlib.Core.List.{List}
 use lib.Dec.{T, eqb}
 use lib.IntN.{ℤ}
@@ -84,22 +84,22 @@ module _ (table : List Txn) (counts : Counts) (ticket : ℕ) (queue : List ℕ) 
       ask-way m table counts (ask-by m (AskWay m table counts) (λ g. absurd (z (ap n g.0))) (λ g. absurd (z (ap n g.0))) (λ k y g. (g.0, ap (λ (x : Memory). ask_parts m counts table x.txns.queue) g.1)))
 
   module _ (z : r.reply.number ≡ 0) where
-    pub ask-ended : T r.reply.read_only → AskDid table counts ticket queue r.reply (set table at₁ closed) (with_read_only counts r.counts.read_only) queue'
+    pub ask-ended : r.reply.read_only ≡ true → AskDid table counts ticket queue r.reply (set table at₁ closed) (with_read_only counts r.counts.read_only) queue'
     unfolding read_only_at queue_at
     ask-ended y = λ m.
         let c = with_read_only counts r.counts.read_only in
         ask-way m (set table at₁ closed) c (ask-by m (AskWay m (set table at₁ closed) c)
         (λ g. (g.0, ap (λ (x : Memory). ask_parts m (with_read_only counts x.counts.read_only) (set table at₁ closed) x.txns.queue) g.1))
-        (λ g. absurd (subst T (ap (λ (x : AskReply). x.read_only) g.0) y))
+        (λ g. absurd (subst T (sym y ∙ ap (λ (x : AskReply). x.read_only) g.0) tt))
         (λ k w g. absurd (w (sym (ap (λ (x : AskReply). x.number) g.0) ∙ z))))
 
-    pub ask-queued : T (not r.reply.read_only)
+    pub ask-queued : r.reply.read_only ≡ false
         → AskDid table counts ticket queue r.reply (set table at₁ (record { ticket = (row_at table at₁).ticket; stage = 1; snapshot = (row_at table at₁).snapshot; writes = (row_at table at₁).writes })) counts queue'
     unfolding read_only_at queue_at
     ask-queued y = λ m.
         let t = set table at₁ (record { ticket = (row_at table at₁).ticket; stage = 1; snapshot = (row_at table at₁).snapshot; writes = (row_at table at₁).writes }) in
         ask-way m t counts (ask-by m (AskWay m t counts)
-        (λ g. absurd (subst (λ (b : Bool). T (not b)) (ap (λ (x : AskReply). x.read_only) g.0) y))
+        (λ g. absurd (subst (λ (b : Bool). T (not b)) (sym y ∙ ap (λ (x : AskReply). x.read_only) g.0) tt))
         (λ g. (g.0, ap (λ (x : Memory). ask_parts m counts t x.txns.queue) g.1))
         (λ k w g. absurd (w (sym (ap (λ (x : AskReply). x.number) g.0) ∙ z))))
 

@@ -1,6 +1,8 @@
 // A client's calls but the write, as a host makes them.
 // The table is lent as a slice of records, turn and counts behind references. Each call copies what it needs of the lent parts, makes the call by value, and writes what changed where it
 // lies. Its contract: what the call gives is what the engine's step gives, on every memory with the lent parts.
+#![tactic(auto)]
+
 ghost use Rattle.memory.specs.Memory.{Memory};
 ghost use Rattle.engine.specs.Client.{begin_step, read_step, ask_step, withdraw_step, report_step};
 ghost use Rattle.call_reply.specs.Parts.{begin_parts, read_parts, ask_parts, withdraw_parts, report_parts};

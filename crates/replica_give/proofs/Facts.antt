@@ -1,4 +1,4 @@
--- What each call says by value (`On`), what it says of the lent parts (`Did`), and the way from the one to the other. Written by `scripts/walks`. Assumes nothing.
+-- What each call says by value (`On`), what it says of the lent parts (`Did`), and the way from the one to the other. Assumes nothing.
 use Prim.Native.Nat.{ℕ}
 use mathlib.Core.Path.{◌≡◌, refl}
 use mathlib.Core.List.{List}
@@ -10,16 +10,10 @@ use Rattle.memory.specs.declared.Turn.{Turn}
 use Rattle.memory.specs.declared.Txn.{Txn}
 use Rattle.memory.specs.Memory.{Memory}
 use Rattle.memory.specs.Rows.{end_rows}
-use Rattle.call_reply.specs.Replies.{number}
-use Rattle.call_giver.specs.declared.GiverReply.{GiverReply}
-use Rattle.call_giver.specs.Asked.{giver_reply}
 use Rattle.call_give.specs.declared.GiveReply.{GiveReply}
 use Rattle.call_give.specs.declared.Given.{Given}
 use Rattle.call_give.specs.Gifts.{give_parts, gift, gift_called, GivesGift}
 use Rattle.call_give.proofs.GiftLaws.{gift-other}
-
-abbrev pub GiverOn : Group → List ℕ → GiverReply → Type 0
-GiverOn group turns r = (m : Memory) → m.group ≡ group → r ≡ giver_reply m turns
 
 abbrev pub GiveOn : List Txn → Group → Turn → Counts → List ℕ → List ℕ → List ℤ → List ℕ → List ℕ → List ℕ → List ℕ → List ℕ → List ℕ → Given → List ℕ → List ℤ → List ℕ → List ℕ → List ℕ → Type 0
 GiveOn rows group turn counts queue items values stamps places outbox window turns lent r queue' values' stamps' places' window' = (m : Memory) → GivesGift (gift (give_parts m group turn counts rows queue items values stamps places outbox window) turns lent) r.reply (give_parts m group r.turn r.counts (end_rows r.ended rows) queue' items values' stamps' places' outbox window')

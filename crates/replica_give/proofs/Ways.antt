@@ -8,7 +8,6 @@ use Rattle.memory.specs.declared.Counts.{Counts}
 use Rattle.memory.specs.declared.Group.{Group}
 use Rattle.memory.specs.declared.Turn.{Turn}
 use Rattle.memory.specs.declared.Txn.{Txn}
-use Rattle.memory.specs.Memory.{Memory}
 use Rattle.memory.specs.Rows.{end_rows}
 use Rattle.call_give.specs.declared.Given.{Given}
 use Rattle.call_give.specs.Gifts.{give_parts}

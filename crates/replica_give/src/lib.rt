@@ -1,6 +1,8 @@
 // Coming back after a holiday, document 02's Req 11, as a host does it: who gives, and the giving.
 // Table, group, turn and counts are lent as to a work. Each call copies what it needs of the lent parts, makes the call by value, and writes what changed where it lies. Its contract: what the call
 // gives is what the definitions give, on every memory with the lent parts.
+#![tactic(auto)]
+
 ghost use Rattle.std.specs.Prelude.{◌≡◌};
 ghost use Rattle.memory.specs.Memory.{Memory};
 ghost use Rattle.call_giver.specs.Asked.{giver_reply};

@@ -1,6 +1,8 @@
 // The calls that make a replica, as a host makes them: make, and the restart of document 02.
 // The table is lent as a slice of records, group, turn and counts behind references. Each call copies what it needs of the lent parts, makes the call by value, and writes what changed where it
 // lies. Its contract: what the call gives is what the engine's step gives, on every memory with the lent parts.
+#![tactic(auto)]
+
 ghost use Rattle.engine.specs.Make.{make_step};
 ghost use Rattle.call_reply.specs.Parts.{all_parts};
 ghost use Rattle.call_reply.specs.Replies.{number, restart_reply, Gives, GivesWith};

@@ -1,6 +1,8 @@
 // The notices, as a host gives them: out, back.
 // The group and the turn are lent behind references. Each call copies them, makes the call by value, and writes the group where it lies. Its contract: what the call gives is what the engine's
 // step gives, on every memory with the lent parts.
+#![tactic(auto)]
+
 ghost use Rattle.std.specs.Prelude.{true, false};
 ghost use Rattle.memory.specs.Memory.{Memory};
 ghost use Rattle.engine.specs.Notices.{notice_step};

@@ -1,5 +1,7 @@
 // The call that makes a station, document 02's Req 05, as a host makes it: lent and given as a replica's make is (`replica_make`), but for the number. In a crate of its own, since a proof of an
 // exported call takes long and an edit of one proves its whole crate again.
+#![tactic(auto)]
+
 ghost use Rattle.engine.specs.Station.{station_step};
 ghost use Rattle.call_reply.specs.Parts.{all_parts};
 ghost use Rattle.call_reply.specs.Replies.{number, Gives};

@@ -1,4 +1,4 @@
--- What each call says by value (`On`), what it says of the lent parts (`Did`), and the way from the one to the other. Written by `scripts/walks`. Assumes nothing.
+-- What each call says by value (`On`), what it says of the lent parts (`Did`), and the way from the one to the other. Assumes nothing.
 use Prim.Native.Nat.{ℕ}
 use mathlib.Core.Path.{◌≡◌, refl}
 use mathlib.Core.Bool.{false}
@@ -13,8 +13,8 @@ use Rattle.memory.specs.declared.Txn.{Txn}
 use Rattle.memory.specs.Memory.{Memory}
 use Rattle.memory.specs.Rows.{end_rows}
 use Rattle.engine.specs.Answers.{unless_station}
-use Rattle.engine.specs.Moves.{send_step, deliver_step, work_step}
-use Rattle.call_reply.specs.Parts.{send_parts, deliver_parts, work_parts}
+use Rattle.engine.specs.Moves.{send_step, work_step}
+use Rattle.call_reply.specs.Parts.{send_parts, work_parts}
 use Rattle.call_reply.specs.Replies.{number, work_reply, Gives, GivesWith}
 use Rattle.call_reply.specs.declared.WorkReply.{WorkReply}
 use Rattle.call_reply.specs.declared.Sent.{Sent}
@@ -34,9 +34,6 @@ send_not table group turn queue items writes outbox block ours other = λ m. rw 
 
 pub send_station : (table : List Txn) (group : Group) (turn : Turn) (queue : List ℕ) (items : List ℕ) (writes : List ℤ) (outbox : List ℕ) (block : List ℕ) → group.own ≡ 255 → SendDid table group turn queue items writes outbox block 25 table turn queue outbox block
 send_station table group turn queue items writes outbox block none = λ m. rw (eq-eqb group.own 255 none) ((refl, refl), refl)
-
-abbrev pub DeliverOn : Group → Turn → List ℕ → List ℕ → List ℕ → ℕ → List ℕ → Type 0
-DeliverOn group turn places outbox bytes r places' = (m : Memory) → Gives number (deliver_step (deliver_parts m group turn places outbox) bytes) r (deliver_parts m group turn places' outbox)
 
 abbrev pub WorkOn : List Txn → Group → Turn → Counts → List ℕ → List ℕ → List ℤ → List ℕ → List ℕ → List ℕ → Worked → List ℕ → List ℤ → List ℕ → List ℕ → List ℕ → Type 0
 WorkOn rows group turn counts queue items values stamps places window r queue' values' stamps' places' window' = (m : Memory) → Gives work_reply (work_step (work_parts m group turn counts rows queue items values stamps places window)) r.reply (work_parts m group r.turn r.counts (end_rows r.ended rows) queue' items values' stamps' places' window') × (r.ended ≡ ended_marks (work_parts m group turn counts rows queue items values stamps places window))

@@ -1,6 +1,8 @@
 // The calls that move the turn, as a host makes them: send, deliver, work.
 // The table is lent as a slice of records, group, turn and counts behind references. Each call copies what it needs of the lent parts, makes the call by value, and writes what changed where it
 // lies. Its contract: what the call gives is what the engine's step gives, on every memory with the lent parts.
+#![tactic(auto)]
+
 ghost use Rattle.memory.specs.Memory.{Memory};
 ghost use Rattle.engine.specs.Answers.{unless_station};
 ghost use Rattle.engine.specs.Moves.{send_step, deliver_step, work_step};

@@ -1,4 +1,4 @@
--- What each call says by value (`On`), what it says of the lent parts (`Did`), and the way from the one to the other. Written by `scripts/walks`. Assumes nothing.
+-- What each call says by value (`On`), what it says of the lent parts (`Did`), and the way from the one to the other. Assumes nothing.
 use Prim.Native.Nat.{ℕ, ◌≤◌}
 use mathlib.Core.Path.{◌≡◌, refl}
 use mathlib.Core.List.{List}
@@ -12,8 +12,7 @@ use Rattle.memory.specs.declared.Txn.{Txn}
 use Rattle.memory.specs.Memory.{Memory}
 use Rattle.engine.specs.Answers.{unless_station}
 use Rattle.engine.specs.Client.{write_row, write_step}
-use Rattle.engine.specs.Classes.{load_step}
-use Rattle.call_reply.specs.Parts.{write_parts, load_parts}
+use Rattle.call_reply.specs.Parts.{write_parts}
 use Rattle.call_reply.specs.Replies.{number, Gives}
 use Rattle.call_reply.specs.declared.Changed.{Changed}
 use Rattle.call_reply.specs.Called.{called}
@@ -30,6 +29,3 @@ write_not table group turn counts ticket items writes stamps classes places item
 
 pub write_station : (table : List Txn) (group : Group) (turn : Turn) (counts : Counts) (ticket : ℕ) (items : List ℕ) (writes : List ℤ) (stamps : List ℕ) (classes : List ℕ) (places : List ℕ) (item : ℕ) (value : ℤ) → group.own ≡ 255 → WriteDid table group turn counts ticket items writes stamps classes places item value 25 table counts items writes
 write_station table group turn counts ticket items writes stamps classes places item value none = λ m. rw (eq-eqb group.own 255 none) (refl, refl)
-
-abbrev pub LoadOn : Turn → List ℕ → List ℕ → ℕ → List ℕ → Type 0
-LoadOn turn classes given r classes' = (m : Memory) → Gives number (load_step (load_parts m turn classes) given) r (load_parts m turn classes')

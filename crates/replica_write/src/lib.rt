@@ -1,4 +1,6 @@
 // A write, and the load of document 02's classes, as a host makes them; lent and given as the other calls of a client (`replica_client`) are.
+#![tactic(auto)]
+
 ghost use Rattle.memory.specs.Memory.{Memory};
 ghost use Rattle.engine.specs.Answers.{unless_station};
 ghost use Rattle.engine.specs.Client.{write_step};

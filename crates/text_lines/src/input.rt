@@ -1,11 +1,11 @@
-// The lines of standard input.
+// The lines of an input.
 ghost use Rattle.std.specs.Prelude.{◌≡◌, ◌+◌, ◌≤◌, min, false, ◌||◌, length, ◌==◌, slice_set};
 
-use libc::STDIN_FILENO;
 use memory::rows::lesser;
+use std::io::Read;
 
 // The bytes of the input buffer from `at` to `end` are still to be read. `failed` where the system could not read more.
-#[derive(Drop)]
+#[derive(Clone, Copy)]
 pub struct Source {
     pub at: usize,
     pub end: usize,
@@ -13,7 +13,7 @@ pub struct Source {
 }
 
 // How many bytes the line has, and whether there was one.
-#[derive(Drop)]
+#[derive(Clone, Copy)]
 pub struct Line {
     pub source: Source,
     pub length: usize,
@@ -31,8 +31,26 @@ pub fn start() -> Source
     }
 }
 
+// What a read of the input leaves in the buffer.
+fn filled<R: Read>(input: &mut R, buffer: &mut [u8]) -> Source
+    ensures { result.end ≤ length buffer.new }
+{
+    match input.read(buffer) {
+        Ok(got) => Source {
+            at: 0,
+            end: got,
+            failed: false,
+        },
+        Err(_) => Source {
+            at: 0,
+            end: 0,
+            failed: true,
+        },
+    }
+}
+
 // The source with a byte to read, unless the input has ended.
-fn ready(source: Source, buffer: &mut [u8]) -> Source
+fn ready<R: Read>(input: &mut R, source: Source, buffer: &mut [u8]) -> Source
     ensures { result.end ≤ length buffer.new }
 {
     let end = lesser(source.end, buffer.len());
@@ -43,12 +61,7 @@ fn ready(source: Source, buffer: &mut [u8]) -> Source
             failed: source.failed,
         };
     }
-    let got = libc::read(STDIN_FILENO, &mut *buffer);
-    Source {
-        at: 0,
-        end: io::count(got, &*buffer),
-        failed: got < 0,
-    }
+    filled(&mut *input, &mut *buffer)
 }
 
 // The line with one byte more, where it has room.
@@ -74,7 +87,7 @@ fn last_line(source: Source, n: usize) -> Line
 }
 
 // The next line, to its newline or to the end of the input. What the slice has no room for is passed over.
-pub fn next_line(source: Source, buffer: &mut [u8], line: &mut [u8]) -> Line
+pub fn next_line<R: Read>(input: &mut R, source: Source, buffer: &mut [u8], line: &mut [u8]) -> Line
     ensures { result.length ≤ length line.new }
 {
     let mut from = source;
@@ -82,7 +95,7 @@ pub fn next_line(source: Source, buffer: &mut [u8], line: &mut [u8]) -> Line
     // A proved loop ends, and nothing says that a line does: this counts down from what no line uses up.
     let mut turns = u64::MAX;
     while turns > 0 {
-        from = ready(from, &mut *buffer);
+        from = ready(&mut *input, from, &mut *buffer);
         let at = from.at;
         if from.end <= at {
             return last_line(from, n);

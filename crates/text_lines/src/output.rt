@@ -1,13 +1,14 @@
-// The answers, held until they are written to standard output.
-ghost use Rattle.std.specs.Prelude.{◌≡◌, false, if◌then◌else◌};
+// The answers, held until they are written to an output.
+ghost use Rattle.std.specs.Prelude.{◌≡◌, true, false, if◌then◌else◌, take};
+ghost use Rattle.std.specs.Io.KnownBytes.{Appends, Keeps};
 ghost use Rattle.text_lines.specs.Outputs.{as_written, is_due, with_line};
 
 use super::input::Source;
-use libc::{STDERR_FILENO, STDOUT_FILENO};
 use memory::rows::lesser;
+use std::io::Write;
 
 // How many bytes of answers are held, to how many lines there is an answer, and how many of these are written. `failed` where the system could not write.
-#[derive(Drop)]
+#[derive(Clone, Copy)]
 pub struct Output {
     pub held: usize,
     pub answered: u64,
@@ -27,22 +28,29 @@ pub fn nothing() -> Output
     }
 }
 
-// One line on standard error: the program, what failed, and how many lines were answered before.
-fn complain(program: &[u8], what: &[u8], lines: u64) {
-    io::write_all(STDERR_FILENO, program);
-    io::write_all(STDERR_FILENO, what);
-    io::print_decimal(STDERR_FILENO, lines);
-    io::write_all(STDERR_FILENO, b"\n");
+// One line to the errors: the program, what failed, and how many lines were answered before. That it cannot be written is nobody's to hear.
+fn complain<E: Write>(errors: &mut E, program: &[u8], what: &[u8], lines: u64) {
+    let _ = errors.write_all(program);
+    let _ = errors.write_all(what);
+    let _ = writeln!(errors, "{lines}");
 }
 
 // The answers held, written.
-fn written(output: Output, program: &[u8], out: &[u8]) -> Output
-    ensures { result ≡ as_written output result.failed }
+fn written<W: Write, E: Write>(
+    output: Output,
+    program: &[u8],
+    out: &[u8],
+    to: &mut W,
+    errors: &mut E,
+) -> Output
+    ensures held { result ≡ as_written output result.failed }
+    ensures bytes { result.failed ≡ false → Appends (W.contents to.old) (W.contents to.new) (take output.held out.now) }
 {
     let held = lesser(output.held, out.len());
-    let done = io::write_all(STDOUT_FILENO, &out[..held]);
+    let done = to.write_all(&out[..held]).is_ok();
     if !done {
         complain(
+            &mut *errors,
             program,
             b": cannot write standard output; lines answered: ",
             output.written,
@@ -57,26 +65,43 @@ fn written(output: Output, program: &[u8], out: &[u8]) -> Output
 }
 
 // The answers are written before more input is waited for, and where there may be no room for another line.
-pub fn with_room(output: Output, source: Source, program: &[u8], out: &[u8]) -> Output
-    ensures { result ≡ (if is_due output source then as_written output result.failed else output) }
+pub fn with_room<W: Write, E: Write>(
+    output: Output,
+    source: Source,
+    program: &[u8],
+    out: &[u8],
+    to: &mut W,
+    errors: &mut E,
+) -> Output
+    ensures held { result ≡ (if is_due output source then as_written output result.failed else output) }
+    ensures due { is_due output source ≡ true → result.failed ≡ false → Appends (W.contents to.old) (W.contents to.new) (take output.held out.now) }
+    ensures early { is_due output source ≡ false → Keeps (W.contents to.old) (W.contents to.new) }
 {
     if source.end <= source.at {
-        return written(output, program, out);
+        return written(output, program, out, &mut *to, &mut *errors);
     }
     if 61440 < output.held {
-        return written(output, program, out);
+        return written(output, program, out, &mut *to, &mut *errors);
     }
     output
 }
 
 // The input has ended, or could not be read.
-pub fn finish(output: Output, failed: bool, program: &[u8], out: &[u8]) {
-    let last = written(output, program, out);
+pub fn finish<W: Write, E: Write>(
+    output: Output,
+    failed: bool,
+    program: &[u8],
+    out: &[u8],
+    to: &mut W,
+    errors: &mut E,
+) {
+    let last = written(output, program, out, &mut *to, &mut *errors);
     if last.failed {
         return;
     }
     if failed {
         complain(
+            &mut *errors,
             program,
             b": cannot read standard input; lines answered: ",
             output.answered,
@@ -89,8 +114,8 @@ pub fn with_line(output: Output, length: usize) -> Output
     ensures { result ≡ with_line output length }
 {
     Output {
-        held: std::num::wrapping_add_usize(output.held, length),
-        answered: std::num::wrapping_add_u64(output.answered, 1),
+        held: output.held.wrapping_add(length),
+        answered: output.answered.wrapping_add(1),
         written: output.written,
         failed: false,
     }

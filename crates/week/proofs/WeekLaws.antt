@@ -1,6 +1,6 @@
 -- What a line's parts give together, of the whole week.
 use Prim.Native.Nat.{ℕ, zero, suc, ◌≤◌, ◌<◌}
-use mathlib.Core.Path.{◌≡◌, refl, sym, ◌∙◌}
+use mathlib.Core.Path.{◌≡◌, refl}
 use mathlib.Core.List.{List, [], ◌∷◌}
 use native.Mathlib.Nat.{not-suc-le-zero, le_of_suc-le-suc}
 use native.Mathlib.Omega.{arith}
@@ -16,7 +16,7 @@ use Rattle.week_kept.specs.Blocks.{blocks_of}
 use Rattle.week_calls.specs.declared.Answered.{Answered}
 use Rattle.week_calls.specs.Steps.{Answers}
 use Rattle.week.specs.declared.Week.{Week}
-use Rattle.week.specs.Weeks.{Changes, Replies}
+use Rattle.week.specs.Weeks.{Replies}
 
 -- ---- one of four
 

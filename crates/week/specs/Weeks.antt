@@ -1,5 +1,5 @@
 -- A week: what it begins with, and what a line changes.
-use Rattle.std.specs.Prelude.{ℕ, ◌≡◌, List, [], get_or, set}
+use Rattle.std.specs.Prelude.{ℕ, ◌≡◌, [], get_or, set}
 use Rattle.replay_parse.specs.declared.Call.{Call}
 use Rattle.replay_replica.specs.declared.Replica.{Replica}
 use Rattle.replay_replica.specs.Effects.{places_size, no_replica, memory_of}

@@ -1,4 +1,6 @@
 // Plays a week of designers at two to four replicas, one call to a line, and prints what each line gives, and the replicas at the end.
+#![tactic(auto)]
+
 ghost use Rattle.std.specs.Prelude.{◌<◌, min, ◌≡◌, cond, length, get_or, set, take};
 ghost use Rattle.replay_replica.specs.Effects.{no_replica};
 ghost use Rattle.week_lines.specs.Weeks.{group_of, line_of};
@@ -8,6 +10,7 @@ ghost use Rattle.week.specs.Texts.{HasRoom, number_text, with_text, table_text, 
 
 use memory::rows::lesser;
 use replay_replica::{Replica, nobody};
+use std::io::{Read, Write};
 use text_lines::input::{Source, next_line, start};
 use text_lines::output::{Output, finish, nothing, with_line, with_room};
 use week_calls::{answer, made, put_row};
@@ -18,7 +21,7 @@ use week_lines::{Line, group_of, line_of};
 const WRONG: u8 = 27;
 
 // The replicas, of which there are n, and the blocks sent last.
-#[derive(Drop)]
+#[derive(Clone, Copy)]
 struct Week {
     n: usize,
     replicas: [Replica; 4],
@@ -26,7 +29,7 @@ struct Week {
 }
 
 // The week after a line, and the line's number.
-#[derive(Drop)]
+#[derive(Clone, Copy)]
 struct Replied {
     week: Week,
     number: u8,
@@ -132,7 +135,14 @@ fn end(week: Week, failed: bool, output: Output, out: &mut [u8]) -> Output
 }
 
 // The lines behind the first, in their order, and then the replicas.
-fn play(first: Week, from: Source, buffer: &mut [u8]) {
+fn play<R: Read, W: Write, E: Write>(
+    first: Week,
+    from: Source,
+    buffer: &mut [u8],
+    input: &mut R,
+    to: &mut W,
+    errors: &mut E,
+) {
     let mut out = io::large_buffer();
     let mut line = [0u8; 64];
     let mut week = first;
@@ -140,15 +150,15 @@ fn play(first: Week, from: Source, buffer: &mut [u8]) {
     let mut output = nothing();
     let mut turns = u64::MAX;
     while turns > 0 {
-        output = with_room(output, source, b"week", &out);
+        output = with_room(output, source, b"week", &out, &mut *to, &mut *errors);
         if output.failed {
             return;
         }
-        let read = next_line(source, &mut *buffer, &mut line);
+        let read = next_line(&mut *input, source, &mut *buffer, &mut line);
         source = read.source;
         if read.ended {
             let last = end(week, source.failed, output, &mut out);
-            finish(last, source.failed, b"week", &out);
+            finish(last, source.failed, b"week", &out, &mut *to, &mut *errors);
             return;
         }
         let n = read.length;
@@ -171,10 +181,13 @@ fn begins(read: text_lines::input::Line, line: &[u8]) -> u32
 }
 
 // The first line, and the week that it begins.
-fn main() {
+fn main(rt: HostRuntime) {
+    let mut input = rt.stdin();
+    let mut to = rt.stdout();
+    let mut errors = rt.stderr();
     let mut buffer = io::large_buffer();
     let mut line = [0u8; 64];
-    let read = next_line(start(), &mut buffer, &mut line);
+    let read = next_line(&mut input, start(), &mut buffer, &mut line);
     let n = begins(read, &line);
     let source = read.source;
     if n == 0 {
@@ -184,8 +197,15 @@ fn main() {
             // 27 stands for the line that is not there.
             output.answered = 0;
         }
-        finish(output, source.failed, b"week", &out);
+        finish(output, source.failed, b"week", &out, &mut to, &mut errors);
         return;
     }
-    play(begun(n), source, &mut buffer);
+    play(
+        begun(n),
+        source,
+        &mut buffer,
+        &mut input,
+        &mut to,
+        &mut errors,
+    );
 }

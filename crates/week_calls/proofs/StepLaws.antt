@@ -1,6 +1,6 @@
 -- What the parts of a line's step give together, over plain values.
 use Prim.Native.Nat.{ℕ, ◌≤◌, ◌<◌}
-use mathlib.Core.Path.{◌≡◌, refl, ap, sym, ◌∙◌}
+use mathlib.Core.Path.{◌≡◌, refl, ap, sym}
 use mathlib.Core.Bool.{Bool, true, false, not, ◌&&◌}
 use mathlib.Core.List.{List, [], ◌∷◌}
 use native.Mathlib.Omega.{arith}
@@ -20,8 +20,8 @@ use Rattle.replay_replica.specs.Effects.{places_size, no_replica, memory_of, num
 use Rattle.replay_calls.specs.Letters.{size_lent, played}
 use Rattle.week_kept.specs.declared.Sent.{Sent}
 use Rattle.week_kept.specs.declared.Kept.{Kept}
-use Rattle.week_kept.specs.Blocks.{blocks_of, kept_with, found_in}
-use Rattle.week_calls.specs.Steps.{is_missing, played_at, kept_after, week_step, Answers, start_of, row_numbers, row_text}
+use Rattle.week_kept.specs.Blocks.{blocks_of, kept_with}
+use Rattle.week_calls.specs.Steps.{is_missing, played_at, kept_after, week_step, Answers, start_of, row_text}
 
 -- ---- a line
 

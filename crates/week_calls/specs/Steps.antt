@@ -4,11 +4,10 @@ use Rattle.memory.specs.Memory.{Memory}
 use Rattle.engine.specs.Answers.{Outcome}
 use Rattle.engine.specs.Make.{make_step}
 use Rattle.replay_parse.specs.declared.Call.{Call}
-use Rattle.replay_parse.specs.Lines.{call_with}
 use Rattle.replay_print.specs.Text.{answer_text}
 use Rattle.replay_replica.specs.declared.Replica.{Replica}
 use Rattle.replay_replica.specs.Effects.{places_size, no_replica, memory_of, numbers_of, Effect}
-use Rattle.replay_calls.specs.Letters.{size_lent, played}
+use Rattle.replay_calls.specs.Letters.{played}
 use Rattle.week_kept.specs.declared.Sent.{Sent}
 use Rattle.week_kept.specs.Blocks.{blocks_of, kept_with, found_in}
 use Rattle.week_calls.specs.declared.Answered.{Answered}

@@ -1,4 +1,6 @@
 // A line of a week at its replica, with the blocks that are kept; and what a replica is at the week's start and end.
+#![tactic(auto)]
+
 ghost use Rattle.std.specs.Prelude.{◌≡◌, not, ◌&&◌, eqb, pos, take, get_or};
 ghost use Rattle.engine.specs.Client.{report_step};
 ghost use Rattle.replay_parse.specs.Lines.{call_with};
@@ -17,7 +19,7 @@ use week_kept::{Kept, Sent, find, with_block};
 pub const NOT_KEPT: u8 = 26;
 
 // What a line gives: its number, and the replica and the blocks kept after it.
-#[derive(Drop)]
+#[derive(Clone, Copy)]
 pub struct Answered {
     pub number: u8,
     pub replica: Replica,

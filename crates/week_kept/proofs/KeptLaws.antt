@@ -1,16 +1,15 @@
 -- Blocks moved on by one, and one looked for, place by place.
-use Prim.Native.Nat.{ℕ, suc, ◌+◌, ◌≤◌, ◌<◌, min}
-use mathlib.Core.Path.{◌≡◌, refl, ap, sym, ◌∙◌}
+use Prim.Native.Nat.{ℕ, ◌+◌, ◌≤◌, ◌<◌, min}
+use mathlib.Core.Path.{◌≡◌, ap, sym, ◌∙◌}
 use mathlib.Core.Bool.{true}
-use mathlib.Core.List.{List, [], ◌∷◌, ◌++◌, append-nil}
+use mathlib.Core.List.{List, ◌∷◌, append-nil}
 use native.Mathlib.Decide.{dec_le}
 use native.Mathlib.Numerals.{add-one}
 use native.Mathlib.Omega.{arith}
 use borrow.Author.Tests.{eq-eqb, ne_eqb}
 use lib.ListN.{length, take, drop, get_or, set, replicate, length-take}
-use lib.Seq.{paste, paste-zero, paste-suc, take-take, take_all, length-take-le, drop-cons, get_or-take, drop-length}
+use lib.Seq.{paste, paste-suc, take-take, take_all, length-take-le, drop-cons, get_or-take, drop-length}
 use Rattle.week_kept.specs.declared.Sent.{Sent}
-use Rattle.week_kept.specs.declared.Found.{Found}
 use Rattle.week_kept.specs.Blocks.{kept_with, no_block, found_in}
 
 -- ---- moved on

@@ -1,25 +1,27 @@
 // The blocks sent last, of which 16 are kept.
+#![tactic(auto)]
+
 ghost use Rattle.std.specs.Prelude.{◌≡◌, [], ◌∷◌, take, replicate};
 ghost use Rattle.week_kept.specs.Blocks.{blocks_of, kept_with, found_in};
 
 use memory::rows::lesser;
 
 // A block that was sent for its slot.
-#[derive(Drop)]
+#[derive(Clone, Copy)]
 pub struct Sent {
     pub slot: u32,
     pub bytes: [u8; 512],
 }
 
 // The blocks that are kept, the latest first: the first `count`.
-#[derive(Drop)]
+#[derive(Clone, Copy)]
 pub struct Kept {
     pub count: usize,
     pub blocks: [Sent; 16],
 }
 
 // The bytes of a block that was looked for, zeros where it is not kept.
-#[derive(Drop)]
+#[derive(Clone, Copy)]
 pub struct Found {
     pub known: bool,
     pub bytes: [u8; 512],

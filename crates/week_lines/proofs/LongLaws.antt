@@ -1,18 +1,18 @@
 -- How long a line may be: its numbers have at most ten digits each. Assumes nothing.
-use Prim.Native.Nat.{ℕ, zero, suc, ◌+◌, ◌-◌, ◌*◌, ◌≤◌, ◌<◌}
-use mathlib.Core.Path.{◌≡◌, refl, sym, ◌∙◌}
+use Prim.Native.Nat.{ℕ, zero, suc, ◌+◌, ◌*◌, ◌≤◌, ◌<◌}
+use mathlib.Core.Path.{◌≡◌, refl}
 use mathlib.Core.Bool.{Bool, true, false, cond, ◌||◌, true≢false, false≢true}
 use mathlib.Core.List.{List, [], ◌∷◌}
 use native.Mathlib.Omega.{arith}
-use borrow.Author.Tests.{ltb-true, leb-true, eqb-true, eqb-false}
+use borrow.Author.Tests.{leb-true, eqb-true, eqb-false}
 use lib.Dec.{eqb, ltb, leb}
-use lib.IntN.{ℤ, pos, negsuc}
+use lib.IntN.{ℤ}
 use lib.ListN.{length, get_or, drop, length-drop}
 use Rattle.replay_parse.specs.declared.Call.{Call}
-use Rattle.replay_parse.specs.Lines.{Field, none, found, digit_number, up_to, digits_from, read_digits, read_number, positive, negative, read_signed, read_value, call_with, no_call, bytes_behind, nothing_behind, at_end, number_if, value_if, shape_of, then, call_as, call_behind, call_of, place_named}
+use Rattle.replay_parse.specs.Lines.{Field, none, found, digit_number, up_to, digits_from, read_digits, read_number, positive, negative, read_signed, read_value, call_with, no_call, at_end, number_if, value_if, shape_of, then, call_as, call_of, place_named}
 use Rattle.week_lines.specs.declared.Line.{Line}
-use Rattle.week_lines.specs.declared.Line.TheVariants.{Asks, Wrong}
-use Rattle.week_lines.specs.Weeks.{is_weekly, asked, line_of, LongWrong}
+use Rattle.week_lines.specs.declared.Line.TheVariants.{Wrong}
+use Rattle.week_lines.specs.Weeks.{is_weekly, line_of, LongWrong}
 
 by : {A : Type 0} (P : A → Type 0) (b : Bool) {x y : A} → (b ≡ true → P x) → (b ≡ false → P y) → P (cond b x y)
 by P true f g = f refl

@@ -10,9 +10,8 @@ use lib.ListN.{length, get_or}
 use Rattle.block.specs.Message.{within}
 use Rattle.replay_parse.specs.declared.Call.{Call}
 use Rattle.replay_parse.specs.Lines.{call_of, place_named}
-use Rattle.week_lines.specs.declared.Line.{Line}
 use Rattle.week_lines.specs.declared.Line.TheVariants.{Asks, Wrong}
-use Rattle.week_lines.specs.Weeks.{group_of, is_weekly, asked, line_of, replica_of}
+use Rattle.week_lines.specs.Weeks.{group_of, is_weekly, line_of, replica_of}
 
 -- ---- the first line
 

@@ -1,5 +1,5 @@
 -- Lines worked out, as bytes.
-use Rattle.std.specs.Prelude.{ℕ, ◌≡◌, List, [], ◌∷◌, pos, negsuc}
+use Rattle.std.specs.Prelude.{◌≡◌, [], ◌∷◌, pos, negsuc}
 use Rattle.replay_parse.specs.Lines.{call_with}
 use Rattle.week_lines.specs.declared.Line.TheVariants.{Asks, Wrong}
 use Rattle.week_lines.specs.Weeks.{group_of, line_of}

@@ -1,11 +1,13 @@
 // The lines of a week: the first one, and those after it, which are lines of the program `replay` with six of its letters.
+#![tactic(auto)]
+
 ghost use Rattle.std.specs.Prelude.{◌<◌, ◌≡◌};
 ghost use Rattle.week_lines.specs.Weeks.{group_of, is_weekly, line_of, replica_of};
 
 use replay_parse::Call;
 
 // What a line asks: a call at a replica; or it is no line of the week.
-#[derive(Drop)]
+#[derive(Clone, Copy)]
 pub enum Line {
     Asks(usize, Call),
     Wrong,

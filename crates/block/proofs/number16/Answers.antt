@@ -1,0 +1,7 @@
+use Rattle.std.proofs.Common.{rules}
+use Rattle.block.specs.Numbers.{number_from}
+use Rattle.block.proofs.number16.Goals as goal
+
+pub returns : goal.returns
+unfolding number_from
+returns c = search rules

@@ -1,0 +1,18 @@
+-- `lengths_fit` meets its contract: each answer says which of the tests were passed.
+use borrow.Author.Tests.{eq-eqb, ne_eqb}
+use Rattle.call_send.proofs.lengths_fit.Goals as goal
+
+pub returns-then-items-ne48 : goal.returns-then-items-ne48
+returns-then-items-ne48 c = rw (ne_eqb _ 48 c.if-items-ne48.true)
+
+pub returns-then-writes-ne48 : goal.returns-then-writes-ne48
+returns-then-writes-ne48 c = rw (eq-eqb _ 48 c.if-items-ne48.false, ne_eqb _ 48 c.if-writes-ne48.true)
+
+pub returns-then-queue-ne6 : goal.returns-then-queue-ne6
+returns-then-queue-ne6 c = rw (eq-eqb _ 48 c.if-items-ne48.false, eq-eqb _ 48 c.if-writes-ne48.false, ne_eqb _ 6 c.if-queue-ne6.true)
+
+pub returns-then-outbox-ne512 : goal.returns-then-outbox-ne512
+returns-then-outbox-ne512 c = rw (eq-eqb _ 48 c.if-items-ne48.false, eq-eqb _ 48 c.if-writes-ne48.false, eq-eqb _ 6 c.if-queue-ne6.false, ne_eqb _ 512 c.if-outbox-ne512.true)
+
+pub returns : goal.returns
+returns c = rw (eq-eqb _ 48 c.if-items-ne48.false, eq-eqb _ 48 c.if-writes-ne48.false, eq-eqb _ 6 c.if-queue-ne6.false, eq-eqb _ 512 c.if-outbox-ne512.false)

@@ -1,0 +1,12 @@
+-- `notices::out_until` meets its contract: past the sixth replica it is 0. Assumes nothing.
+use mathlib.Core.Path.{◌≡◌}
+use lib.ListN.{length}
+use Rattle.memory.proofs.NoticeLaws.{none_past}
+use borrow.Author.Rules.{rules}
+use Rattle.memory.proofs.notices.out_until.Goals as goal
+
+pub returns-then-k-ge6 : goal.returns-then-k-ge6
+returns-then-k-ge6 c =
+    let a = c.args in
+    let six : length a.group.until ≡ 6 = search rules in
+    none_past a.group.until six a.replica c.if-k-ge6.true

@@ -1,0 +1,1 @@
+-- `row_at` meets its contract.

@@ -1,0 +1,1 @@
+-- `next_request` meets its contract.

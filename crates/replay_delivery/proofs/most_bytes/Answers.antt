@@ -1,0 +1,1 @@
+-- `most_bytes` meets its contract.

@@ -1,0 +1,1 @@
+-- `append` meets its contract.

@@ -1,0 +1,1 @@
+-- `is_part` meets its contract.

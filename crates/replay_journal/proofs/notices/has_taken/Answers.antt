@@ -1,0 +1,1 @@
+-- `notices::has_taken` meets its contract. Assumes nothing.

@@ -1,0 +1,1 @@
+-- `notices::lent` meets its contract. Assumes nothing.

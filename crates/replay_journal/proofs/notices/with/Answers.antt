@@ -1,0 +1,1 @@
+-- `notices::with` meets its contract. Assumes nothing.

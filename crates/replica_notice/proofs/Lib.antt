@@ -1,2 +1,0 @@
--- From the calls by value to the calls on lent parts.
-pub mod Facts
