@@ -171,11 +171,8 @@ static int restart(
 /* Cuts off what is behind the good blocks and makes the rest durable. What was read may
  * be in the system's memory alone, and count there as written: the last notice and the blocks
  * since the own one before the last are written once more, and the copy; where notices were
- * taken, also the head, and a copy of the blocks behind the last own one. A copy that was made
- * void, which the disk may still have whole, is so once more: else a later open would find a
- * block in it that this one says is not there. */
-static int take_up(
-    stemline_journal *j, tally *t, const uint8_t *plain, bool noticed, const uint8_t *front) {
+ * taken, also the head, and a copy of the blocks behind the last own one. */
+static int take_up(stemline_journal *j, tally *t, const uint8_t *plain, bool noticed) {
     uint32_t first = j->blocks - j->since_count - t->round_count;
     if (noticed && renew_notices(j, &t->notices, "renew the notices of", false) != 0) {
         return -1;
@@ -183,13 +180,8 @@ static int take_up(
     if (noticed && !write_noticed(j, plain)) {
         return failed(j, "renew the head of");
     }
-    static const uint8_t zeros[16];
-    bool done = ftruncate(j->file, place(j->blocks)) == 0;
-    for (long at = PAGE; at < HEAD; at += PAGE) {
-        bool voided = memcmp(front + at, zeros, sizeof zeros) == 0 && front[at + 16] != 0;
-        done = done && (!voided || write_at(j->file, zeros, sizeof zeros, at));
-    }
-    done = done && write_at(j->file, t->round, STEMLINE_BLOCK * (size_t)t->round_count, place(first))
+    bool done = ftruncate(j->file, place(j->blocks)) == 0
+                && write_at(j->file, t->round, STEMLINE_BLOCK * (size_t)t->round_count, place(first))
                 && write_at(j->file, j->since, STEMLINE_BLOCK * (size_t)j->since_count,
                             place(first + t->round_count))
                 && (t->round_count == 0 || write_copy(j, first, t->round_count, t->round));
@@ -245,7 +237,7 @@ static int open_with(
         }
         end = end < at + STEMLINE_BLOCK ? at + STEMLINE_BLOCK : end;
     }
-    if (restart(j, r, start, end, &t->notices, found->last) != 0 || take_up(j, t, due, noticed, front) != 0) {
+    if (restart(j, r, start, end, &t->notices, found->last) != 0 || take_up(j, t, due, noticed) != 0) {
         return -1;
     }
     found->blocks = j->blocks;

@@ -8,7 +8,7 @@ use crate::digest::Digests;
 use crate::disk::{Disk, Medium, What};
 use crate::head::{Head, HEAD};
 use crate::notices::Notices;
-use crate::round::{voided, Round};
+use crate::round::Round;
 use crate::tally::Tally;
 use crate::{owner, Block, Blocks, Notice, Stop, Window, BLOCK};
 
@@ -50,8 +50,6 @@ pub(crate) struct Found {
     pub stop: Stop,
     /// The blocks that are taken from the copies, with their slots.
     pub mended: Vec<(u32, [u8; BLOCK])>,
-    /// Where copies were made void.
-    pub voided: Vec<u64>,
 }
 
 /// What the disk did not do, in words. Both `{}` and `{:?}` write them.
@@ -123,8 +121,7 @@ impl Journal {
     /// failed before: a sync would then pass it over. So all that is not known to be durable is written
     /// once more, the last notice, the blocks since the own one before the last, and the copy; where notices
     /// were taken, also the head, and a copy of the blocks behind the last own one, which may be of slots that
-    /// are out. And a copy that was made void, which the disk may still have whole, is so once more: else a later
-    /// open would find a block in it that this one says is not there.
+    /// are out.
     pub fn take_up(&mut self, found: &Found) -> Result<(), DiskError> {
         let is_noticed = self.head.is_noticed();
         if is_noticed {
@@ -135,10 +132,6 @@ impl Journal {
         }
         let cut = self.disk.cut(place(self.blocks));
         self.done("cut", cut)?;
-        for &at in &found.voided {
-            let voided = self.disk.write(at, &[0; 16]);
-            self.done("renew a copy in", voided)?;
-        }
         let tally = &found.tally;
         let last = tally.last.as_ref();
         let blocks: Vec<_> = last.iter().flat_map(|round| &round.blocks).collect();
@@ -350,7 +343,6 @@ fn look(
         behind,
         stop,
         mended,
-        voided: voided(front),
     }))
 }
 

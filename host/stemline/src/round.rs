@@ -87,18 +87,6 @@ impl Round {
     }
 }
 
-/// The places at which a head that begins so has a copy that was made void: the bytes in front of its blocks are zero.
-pub(crate) fn voided(front: &[u8]) -> Vec<u64> {
-    let is_void = |at: &u64| {
-        let page = front
-            .get(*at as usize..)
-            .and_then(<[u8]>::split_first_chunk::<FRONT>);
-        // A block begins with its kind.
-        page.is_some_and(|(before, blocks)| *before == [0; FRONT] && blocks.first() > Some(&0))
-    };
-    places().into_iter().filter(is_void).collect()
-}
-
 /// The places of the two copies.
 pub(crate) fn places() -> [u64; 2] {
     [PAGE as u64, 2 * PAGE as u64]

@@ -1,7 +1,7 @@
 //! The duties one by one, at drivers that are handed their inputs by hand.
 
 use super::*;
-use crate::testing::{Disk, Fault, Plan, Random, Simulation};
+use crate::testing::{Disk, Fault, Plan, Simulation};
 use crate::{Refusal, ITEMS};
 
 mod calls;
@@ -221,37 +221,6 @@ fn a_failed_disk() {
         let outputs = driver.flush(Duration::ZERO);
         assert!(matches!(outputs[..], [.., Output::Tell { client: 9, .. }]));
     }
-}
-
-/// A send whose sync failed and is on the disk all the same, an open whose sync fails too, then one that finds
-/// nothing of it: what that says stays so, also when the power goes.
-#[test]
-fn what_an_open_says_stays_so() {
-    let mut there = 0;
-    for seed in 0..300 {
-        let (mut driver, disk) = replica(2, 0);
-        driver.flush(Duration::ZERO);
-        set(&mut driver, 7, &[5]);
-        disk.fail(Fault::Sync, seed);
-        driver.flush(MILLI);
-        drop(driver);
-        let mut random = Random::new(seed);
-        if seed % 3 == 0 {
-            // The power goes before anybody has looked.
-            disk.cut();
-            disk.power_on(&mut random);
-        }
-        disk.fail(Fault::Sync, seed / 7);
-        assert!(disk.open(&group(2), 0, waits(), &[]).is_err());
-        let (driver, reopened) = disk.open(&group(2), 0, waits(), &[]).unwrap();
-        drop(driver);
-        disk.cut();
-        disk.power_on(&mut random);
-        let (_, again) = disk.open(&group(2), 0, waits(), &[]).unwrap();
-        assert_eq!(reopened.committed, again.committed, "{seed}");
-        there += again.committed.len();
-    }
-    assert!((1..300).contains(&there), "{there}");
 }
 
 /// A cut in the middle of a send, after which the block is there: it is handed out as soon as there is a link.

@@ -113,8 +113,6 @@ fn a_folder_before_the_prefix() {
         ("replay", "target/bin/replay"),
         ("week", "target/bin/week"),
         ("journal", "host/target/release/journal"),
-        ("stemline-node", "host/node/target/release/stemline-node"),
-        ("stemline", "host/node/target/release/stemline"),
     ] {
         let built = top().join(built).is_file();
         let there = root.join("bin").join(program);

@@ -13,8 +13,8 @@ fn top() -> PathBuf {
     top.canonicalize().unwrap()
 }
 
-/// A folder with the scripts, the crates by name, and `rt`, if there is to be one, in `bin` beside the tools
-/// that the scripts use.
+/// A folder with the scripts, the crates by name, the program as it is built, and `rt`, if there is to be one, in
+/// `bin` beside the tools that the scripts use.
 fn room(name: &str, rt: Option<&str>) -> PathBuf {
     let room = Path::new(env!("CARGO_TARGET_TMPDIR")).join(name);
     let _ = fs::remove_dir_all(&room);
@@ -23,6 +23,7 @@ fn room(name: &str, rt: Option<&str>) -> PathBuf {
         "examples",
         "crates",
         "bin",
+        "crates/replay/out",
         "target/bin",
         "target/rlib",
         "target/stamp",
@@ -30,6 +31,14 @@ fn room(name: &str, rt: Option<&str>) -> PathBuf {
         "host/source",
     ] {
         fs::create_dir_all(room.join(folder)).unwrap();
+    }
+    for line in fs::read_to_string(top().join("crates.txt"))
+        .unwrap()
+        .lines()
+    {
+        if let Some(name) = line.split([':', ' ']).next().filter(|name| *name != "#") {
+            fs::create_dir_all(room.join("crates").join(name)).unwrap();
+        }
     }
     for file in [
         "scripts/library",
@@ -43,8 +52,10 @@ fn room(name: &str, rt: Option<&str>) -> PathBuf {
     ] {
         fs::copy(top().join(file), room.join(file)).unwrap();
     }
+    let built = room.join("crates/replay/out/replay");
+    fs::copy(top().join("target/bin/replay"), built).unwrap();
     let tools =
-        "bash dirname readlink mkdir sed tr sort awk grep tail tee cat rm ln cp ar sh seq touch cc as";
+        "bash dirname readlink mkdir sed tr sort awk grep tail tee cat rm ln cp ar sh seq touch cc as find wc";
     for tool in tools.split(' ') {
         let paths = env::var_os("PATH").unwrap();
         let found = env::split_paths(&paths).map(|folder| folder.join(tool));
@@ -101,15 +112,14 @@ fn no_compiler() {
 #[test]
 fn library() {
     let notes = "seq 1 9000 | sed 's/^/note: /'";
-    let archive = "test $1 = check && exit\n\
-        mkdir -p target/staticlib && cd target/staticlib && touch $2.o && ar rcs lib$2.a $2.o";
+    let archive = "name=${PWD##*/}; test $1 = lib && mkdir -p out && cd out && touch $name.o && ar rcs lib$name.a $name.o";
     let written = room("library", Some(&format!("{notes}\n{archive}")));
     let line = "library: wrote target/staticlib/libreplica.a\n";
     assert_eq!(
         said(run(&written, "library")),
         (line.to_string(), String::new(), Some(0))
     );
-    let archive = fs::read(written.join("target/staticlib/libreplica.a")).unwrap();
+    let archive_bytes = fs::read(written.join("target/staticlib/libreplica.a")).unwrap();
     let symbol = concat!(
         "stemline_version_",
         env!("CARGO_PKG_VERSION_MAJOR"),
@@ -117,63 +127,64 @@ fn library() {
         env!("CARGO_PKG_VERSION_MINOR"),
         "\0"
     );
-    assert!(archive
+    assert!(archive_bytes
         .windows(symbol.len())
         .any(|found| found == symbol.as_bytes()));
-    let left = fs::read_dir(written.join("target/staticlib"))
-        .unwrap()
-        .count();
-    assert_eq!(left, 1, "files beside the archive");
+    let left = |room: &Path| fs::read_dir(room.join("target/staticlib")).unwrap().count();
+    assert_eq!(left(&written), 1, "files beside the archive");
 
-    let wrong = "echo 'rt: memory NOT PROVED (3 s)'";
-    let last = "library: not written; target/library.log says why\n";
-    let what = format!("rt: memory NOT PROVED (3 s)\n{last}");
-    for when in ["check", "staticlib"] {
-        let text = format!("{notes}\ntest $1 = {when} || exit 0\n{wrong}; {notes}\nexit 1");
+    let wrong = "echo 'fn memory::bump: not proved'";
+    let what = "fn memory::bump: not proved\nlibrary: not written; target/library.log says why\n";
+    for at in ["replica_make", "replica_block"] {
+        let text = format!(
+            "{notes}\ntest ${{PWD##*/}} != {at} || {{ {wrong}; {notes}; exit 1; }}\n{archive}"
+        );
         let not = room("library-not", Some(&text));
         let (out, err, status) = said(run(&not, "library"));
-        assert_eq!((&out[..], status), ("", Some(1)), "{when}");
-        let lines: Vec<&str> = err.lines().collect();
-        // One for each crate that exports functions, and the last.
-        assert!(lines.len() <= 9 && err.starts_with("rt: memory"), "{err}");
-        assert!(err.ends_with(&what), "{err}");
+        assert_eq!((&out[..], &err[..], status), ("", what, Some(1)), "{at}");
+        assert_eq!(left(&not), 0, "files with no archive");
     }
 }
 
 /// Prover lines are there while something is proved, and not on standard output.
 #[test]
 fn prover_lines() {
-    let unchanged = "echo 'rt: block proved (unchanged)'";
-    let still = room("program-still", Some(unchanged));
+    let still = room("program-still", Some("exit 1"));
     assert_eq!(
         said(run(&still, "program")),
         (String::new(), String::new(), Some(0))
     );
+    let memory = "echo 'rt: chose --jobs 2 for memory'; echo 'logic=proved functions=12'";
     let proves = room(
         "program-proves",
-        Some(&format!("{unchanged}; echo 'rt: memory proved (3 s)'")),
+        Some(&format!("{memory}; cp ../../target/bin/replay out/replay")),
     );
+    let built = proves.join("crates/replay/out/replay");
+    fs::remove_file(&built).unwrap();
     let (out, err, status) = said(run(&proves, "program"));
     assert_eq!((&out[..], status), ("", Some(0)));
     assert!(err.starts_with("Proving and building"), "{err}");
-    assert!(
-        err.contains(": memory proved, 3 s\n") && !err.contains("block"),
-        "{err}"
-    );
+    assert!(err.contains("  memory proved, "), "{err}");
+    assert_eq!(err.lines().count(), 2, "{err}");
+    assert!(built.is_file());
     let wrong = room(
         "program-wrong",
-        Some("echo 'rt: memory NOT PROVED'; exit 1"),
+        Some("echo 'fn memory::bump: not proved'; exit 1"),
     );
+    // Files of one instant are none newer than the other.
+    std::thread::sleep(std::time::Duration::from_millis(50));
+    fs::write(wrong.join("crates/memory/lib.rt"), "").unwrap();
     let (_, err, status) = said(run(&wrong, "program"));
     let words =
-        "program: replay was not proved; target/program.log says why\nrt: memory NOT PROVED\n";
-    assert_eq!((&err[..], status), (words, Some(1)));
+        "program: replay was not proved; target/program.log says why\nfn memory::bump: not proved\n";
+    assert!(err.ends_with(words), "{err}");
+    assert_eq!((err.lines().count(), status), (3, Some(1)));
 }
 
 /// The story is at most 100 columns wide, and each part has its heads, with names and numbers.
 #[test]
 fn story() {
-    let room = room("story", Some("echo 'rt: block proved (unchanged)'"));
+    let room = room("story", Some("exit 1"));
     let text = printed(&run(&room, "story"));
     for line in text.lines() {
         assert!(line.chars().count() <= 100, "{line}");

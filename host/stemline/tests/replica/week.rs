@@ -17,7 +17,7 @@ const FORMAT: &str = include_str!("../../../model/src/week.rs");
 fn program() -> Option<PathBuf> {
     let program = Path::new(env!("CARGO_MANIFEST_DIR")).join("../../target/bin/week");
     if !program.is_file() {
-        say("week: NOT played, target/bin/week is missing; `rt check week` makes it");
+        say("week: NOT played, target/bin/week is missing; `scripts/program week` makes it");
         return None;
     }
     Some(program)

@@ -1,1 +1,0 @@
-"""What `scripts/walks` is made of: the calls, their compiled code, the facts they rest on, the walks."""
