@@ -1,20 +1,20 @@
 -- A block's check is that of its first 504 bytes, and matches just where the block is those bytes and their check. Assumes nothing.
 use Prim.Native.Nat.{ℕ, zero, suc, ◌+◌, ◌*◌, ◌-◌, ◌≤◌, ◌<◌}
 use mathlib.Core.Bool.{true, false}
-use mathlib.Core.List.{List, [], ◌∷◌, ◌++◌}
+use mathlib.Core.List.{List, ◌++◌}
 use mathlib.Core.Path.{◌≡◌, refl, sym, ap, ◌∙◌}
 use native.Mathlib.Nat.{mul-add, add-mul, mul-le-mul_left, mul-le-mul_right}
 use native.Mathlib.Numerals.{add-one, add-two, add-three, add-four}
 use native.Mathlib.Omega.{arith}
 use borrow.Author.Tests.{eq-eqb, eqb-true, ne_eqb}
 use lib.Dec.{eqb}
-use lib.ListN.{length, get_or, take, drop, take-append-drop, get_or-append, length-append}
+use lib.ListN.{length, take, drop, take-append-drop, get_or-append, length-append}
 use lib.Seq.{slice, length-take-le, length-slice}
 use Rattle.block.specs.Check.{word, sum_to, weighted_to, first_check, second_check, check_bytes, check_matches}
 use Rattle.block.specs.Numbers.{bytes_of, number_from}
 use Rattle.block.proofs.BoolLaws.{both, joined}
 use Rattle.block.proofs.ListLaws.{AllBytes, bytes_append, bytes_slice, slice_at, slice-end, cut, drop-slice}
-use Rattle.block.proofs.NumberLaws.{length-bytes_of, bytes_bytes_of, number_from-bytes_of, bytes_of-number_from, number-four}
+use Rattle.block.proofs.NumberLaws.{length-bytes_of, bytes_bytes_of, number_from-bytes_of, bytes_of-number_from}
 
 module _ (a c : List ℕ) where
   pub word-append : (i : ℕ) → 2 * i + 1 < length a → word (a ++ c) i ≡ word a i
@@ -220,17 +220,11 @@ module _ (b : List ℕ) where
   matches-short h = rw (ne_eqb (length b) 512 h)
 
   module _ (long : length b ≡ 512) (s : ℕ) (first : s ≡ first_check b) (f : ℕ)
-      (held : f ≡ number_from (get_or b 504 0 ∷ get_or b 505 0 ∷ get_or b 506 0 ∷ get_or b 507 0 ∷ [])) where
-    first-held : f ≡ number_from (slice 504 508 b)
-    first-held = held ∙ number-four b 504 (omega arith)
-
-    pub matches-first : (s ≡ f → ⊥) → false ≡ check_matches b
+      (held : f ≡ number_from (slice 504 508 b)) where
+    pub matches-first : (s ≡ f → ⊥) → eqb s f ≡ check_matches b
     unfolding check_matches
-    matches-first h = rw (eq-eqb (length b) 512 long, ← first-held, ← first, ne_eqb s f h)
+    matches-first h = rw (eq-eqb (length b) 512 long, ← held, ← first, ne_eqb s f h)
 
-    pub matches-second : s ≡ f → (t : ℕ) → t ≡ second_check b → (g : ℕ) → g ≡ number_from (get_or b 508 0 ∷ get_or b 509 0 ∷ get_or b 510 0 ∷ get_or b 511 0 ∷ [])
-        → eqb t g ≡ check_matches b
+    pub matches-second : s ≡ f → (t : ℕ) → t ≡ second_check b → (g : ℕ) → g ≡ number_from (slice 508 512 b) → eqb t g ≡ check_matches b
     unfolding check_matches
-    matches-second h t second g e =
-        let second-held : g ≡ number_from (slice 508 512 b) = e ∙ number-four b 508 (omega arith) in
-        rw (eq-eqb (length b) 512 long, ← first-held, ← second-held, ← first, ← second, eq-eqb s f h)
+    matches-second h t second g e = rw (eq-eqb (length b) 512 long, ← held, ← e, ← first, ← second, eq-eqb s f h)

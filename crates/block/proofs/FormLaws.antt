@@ -10,7 +10,8 @@ use native.Mathlib.Omega.{arith}
 use borrow.Author.Tests.{eq-eqb, ne_eqb, le-leb, lt-leb}
 use lib.Dec.{eqb, leb}
 use lib.ListN.{length, get_or, take, drop}
-use lib.Seq.{slice, drop-cons, drop-length, drop-drop, take-take, get_or-take, get_or-drop}
+use lib.Seq.{slice, drop-length, drop-drop, take-take, get_or-take, get_or-drop}
+use Rattle.std.specs.List.{list_all}
 use Rattle.block.specs.Form.{entry_of, entries_of, record_of, records_of, message_of, all_zero, entries_padded, record_padded, records_padded, padded, well_formed, header_fits}
 use Rattle.block.specs.Message.{Record, within, max_ticket, max_slot, owner_of, kind_fits, entries_fit, record_fits, records_fit, ticket_absent, tickets_differ, valid}
 use Rattle.block.specs.Numbers.{number_from}
@@ -73,22 +74,14 @@ unfolding all_zero
 zero_append [] k = refl
 zero_append (b ∷ bs) k = rw (zero_append bs k, and_assoc)
 
--- place i, byte by byte
-module _ (l : List ℕ) (i : ℕ) where
-  module _ (h : i < length l) where
-    zero-byte : all_zero (drop i l) ≡ (eqb (get_or l i 0) 0 && all_zero (drop (i + 1) l))
-    unfolding all_zero
-    zero-byte = rw (add-one i, drop-cons l i 0 h)
+pub zero_all : (l : List ℕ) → all_zero l ≡ list_all (λ b. eqb b 0) l
+unfolding all_zero
+zero_all [] = refl
+zero_all (b ∷ bs) = rw (zero_all bs)
 
-    pub zero-found : (get_or l i 0 ≡ 0 → ⊥) → all_zero (drop i l) ≡ false
-    zero-found e = rw (zero-byte, ne_eqb (get_or l i 0) 0 e)
-
-    pub zero-next : get_or l i 0 ≡ 0 → all_zero (drop i l) ≡ all_zero (drop (i + 1) l)
-    zero-next e = rw (zero-byte, eq-eqb (get_or l i 0) 0 e)
-
-  pub zero-end : length l ≡ i → all_zero (drop i l) ≡ true
-  unfolding all_zero
-  zero-end e = rw (← e, drop-length l)
+zero-end : (l : List ℕ) (i : ℕ) → length l ≡ i → all_zero (drop i l) ≡ true
+unfolding all_zero
+zero-end l i e = rw (← e, drop-length l)
 
 -- from place i on: eight bytes, whose number is x, and what follows them
 zero_part : (l : List ℕ) (i x : ℕ) → x ≡ number_from (slice i (i + 8) l) → all_zero (drop i l) ≡ (eqb x 0 && all_zero (drop (i + 8) l))
@@ -318,9 +311,13 @@ module _ (k n : ℕ) (l : List ℕ) where
   unfolding kind_fits
   rest-none z e = rw (ne_eqb k 1 e, within-below 1 6 n (omega arith), and-false)
 
-  pub rest_some : 1 ≤ n → (k ≡ 2 → ⊥) → rest_fits k n l ≡ false
+  pub rest-one : k ≡ 1 → (n ≡ 0 → ⊥) → rest_fits k n l ≡ false
   unfolding kind_fits
-  rest_some h e = rw (ne_eqb k 2 e, ne_eqb n 0 (omega arith), cond_same)
+  rest-one e z = rw (e, ne_eqb n 0 z)
+
+  pub rest-other : (k ≡ 1 → ⊥) → (k ≡ 2 → ⊥) → rest_fits k n l ≡ false
+  unfolding kind_fits
+  rest-other e o = rw (ne_eqb k 1 e, ne_eqb k 2 o)
 
   pub rest_over : 6 < n → rest_fits k n l ≡ false
   unfolding kind_fits

@@ -7,9 +7,9 @@ use native.Mathlib.Numerals.{add-one}
 use native.Mathlib.Omega.{arith}
 use borrow.Rule.Slice.PartMut.{put_mid}
 use lib.IntN.{ℤ, pos}
-use lib.ListN.{length, get_or, take, drop, replicate, length-append, length-drop, drop_of_length-le}
-use lib.Seq.{sets, sets-eq, take_at, drop_at, drop-drop}
-use mir.Syntax.{w32}
+use lib.ListN.{length, get_or, take, drop, replicate, length-append, drop_of_length-le, take-append-drop}
+use lib.Seq.{length-take-le, take_at, drop_at, drop-drop}
+use Rattle.std.specs.Int.{w32, to_le_bytes}
 use mir.Val.{of_z}
 use Rattle.block.specs.declared.Entry.{Entry}
 use Rattle.block.specs.Bytes.{entry_bytes, entries_bytes, record_bytes, records_bytes}
@@ -30,15 +30,6 @@ pub filled_none : (l₀ : List ℕ) → Filled l₀ 0 [] l₀
 filled_none l₀ = record { size = refl; is = refl }
 
 module _ {l₀ : List ℕ} {a : ℕ} {p l : List ℕ} (f : Filled l₀ a p l) where
-  -- vs stored one by one behind p
-  pub filled-sets : (vs : List ℕ) → a + length vs ≤ length l₀ → Filled l₀ (a + length vs) (p ++ vs) (sets l a vs)
-  filled-sets vs h =
-      let e : length l ≡ a + (length l₀ - a) = ap length f.is ∙ simp (length-append, length-drop) (omega arith) in
-      record {
-        size = length-append p vs ∙ omega arith;
-        is = sets-eq vs l a (omega arith) ∙ rw (← drop-drop (length vs) a l, f.is, take_at p (drop a l₀) a f.size, drop_at p (drop a l₀) a f.size, drop-drop (length vs) a l₀);
-      }
-
   -- the k elements behind p lent as a part, which comes back as ys
   pub filled-part : (k : ℕ) (ys : List ℕ) → length ys ≡ k → Filled l₀ (a + k) (p ++ ys) (put_mid a k l ys)
   filled-part k ys h = record {
@@ -60,20 +51,13 @@ byte_number x h =
     let z : x / 256 ≡ 0 = omega arith in
     rw (a, z)
 
--- a number's four bytes, as the code works them out
-number_bytes : (x : ℕ) → (x % 256 ∷ x / 256 % 256 ∷ x / 65536 % 256 ∷ x / 16777216 % 256 ∷ []) ≡ bytes_of 4 x
+-- a number's four bytes, as the library says them
+pub le_bytes : (x : ℕ) → to_le_bytes w32 x ≡ bytes_of 4 x
 unfolding bytes_of
-number_bytes x =
+le_bytes x =
     let e : x / 65536 ≡ x / 256 / 256 = omega arith in
     let d : x / 16777216 ≡ x / 256 / 256 / 256 = omega arith in
     rw (e, d)
-
--- the four stores of them
-pub number_put : (l : List ℕ) (x : ℕ) → length l ≡ 4
-    → sets l 0 (x % 256 ∷ x / 256 % 256 ∷ x / 65536 % 256 ∷ x / 16777216 % 256 ∷ []) ≡ bytes_of 4 x
-number_put l x h =
-    let vs : List ℕ = x % 256 ∷ x / 256 % 256 ∷ x / 65536 % 256 ∷ x / 16777216 % 256 ∷ [] in
-    filled-all (filled-sets (filled_none l) vs (omega arith)) (omega arith) ∙ number_bytes x
 
 -- ---- the parts of a block, from any l of their length
 
@@ -134,16 +118,16 @@ records_append (s ∷ rs) r = rw (records_append rs r) (sym (append_assoc (recor
 
 -- ---- the check
 
--- the eight stores of the check, whose numbers are f and s
-pub check_put : (l : List ℕ) (f s : ℕ) → length l ≡ 512 → f ≡ first_check l → s ≡ second_check l
-    → sets l 504
-    (f % 256 ∷ f / 256 % 256 ∷ f / 65536 % 256 ∷ f / 16777216 % 256 ∷ s % 256 ∷ s / 256 % 256 ∷ s / 65536 % 256 ∷ s / 16777216 % 256 ∷ [])
-    ≡ take 504 l ++ check_bytes l
+-- the two parts of the check, whose numbers are f and s
+pub check_put : (l xs ys : List ℕ) (f s : ℕ) → length l ≡ 512 → f ≡ first_check l → s ≡ second_check l → xs ≡ to_le_bytes w32 f → ys ≡ to_le_bytes w32 s
+    → put_mid 508 4 (put_mid 504 4 l xs) ys ≡ take 504 l ++ check_bytes l
 unfolding check_bytes
-check_put l f s h p q =
-    rw (← p, ← q, ← number_bytes f, ← number_bytes s)
-    (sets-eq (f % 256 ∷ f / 256 % 256 ∷ f / 65536 % 256 ∷ f / 16777216 % 256 ∷ s % 256 ∷ s / 256 % 256 ∷ s / 65536 % 256 ∷ s / 16777216 % 256 ∷ []) l 504 (omega arith)
-    ∙ rw (drop_of_length-le l {i = 512} (omega arith), append-nil))
+check_put l xs ys f s h p q x y =
+    let front : Filled l 504 (take 504 l) l = record { size = length-take-le 504 l (omega arith); is = sym (take-append-drop 504 l) } in
+    let a : xs ≡ bytes_of 4 f = x ∙ le_bytes f in
+    let b : ys ≡ bytes_of 4 s = y ∙ le_bytes s in
+    filled-all (filled-part (filled-part front 4 xs (ap length a ∙ length-bytes_of 4 f)) 4 ys (ap length b ∙ length-bytes_of 4 s)) (omega arith)
+    ∙ rw (a, b, ← p, ← q) (append_assoc (take 504 l) (bytes_of 4 f) (bytes_of 4 s))
 
 -- ---- a whole block: zeros
 

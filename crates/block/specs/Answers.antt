@@ -1,11 +1,11 @@
 -- What the functions answer, on any bytes.
-use Rattle.std.specs.Prelude.{ℕ, ◌+◌, ◌*◌, Bool, cond, not, ◌&&◌, List, [], ◌∷◌, eqb, ltb, pos, length, get_or}
+use Rattle.std.specs.Prelude.{ℕ, ◌+◌, ◌*◌, Bool, cond, not, ◌&&◌, List, [], ◌∷◌, eqb, ltb, pos, length, get_or, Result, Ok, Err}
 use Rattle.std.proofs.Math.Seq.{slice}
 use Rattle.block.specs.declared.Entry.{Entry}
 use Rattle.block.specs.declared.Header.{Header}
 use Rattle.block.specs.declared.RecordHead.{RecordHead}
-use Rattle.block.specs.declared.Read.{Read}
-use Rattle.block.specs.declared.Read.TheVariants.{Message, Refused}
+use Rattle.block.specs.declared.BlockFault.{BlockFault}
+use Rattle.block.specs.declared.BlockFault.TheVariants.{WrongLength, WrongCheck, WrongForm}
 use Rattle.block.specs.Numbers.{number_from}
 use Rattle.block.specs.Check.{check_matches}
 use Rattle.block.specs.Form.{entry_of, well_formed}
@@ -43,10 +43,16 @@ header_of b = record {
 abbrev pub no_header : Header
 no_header = record { kind = 0; sender = 0; replicas = 0; count = 0; slot = 0 }
 
--- the number and the header of each case of the reader's enum
-abbrev pub number_and_header : Read → ℕ × Header
-number_and_header (Message h) = (0, h)
-number_and_header (Refused n) = (n, no_header)
+-- a fault's number in the table
+abbrev pub fault_number : BlockFault → ℕ
+fault_number WrongLength = 1
+fault_number WrongCheck = 14
+fault_number WrongForm = 15
+
+-- the number and the header of the reader's answer
+abbrev pub number_and_header : Result Header BlockFault → ℕ × Header
+number_and_header (Ok h) = (0, h)
+number_and_header (Err f) = (fault_number f, no_header)
 
 -- the reader: a number of document 01's table, or 0 and the header
 unfoldable pub block_read : List ℕ → ℕ × Header

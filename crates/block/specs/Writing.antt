@@ -1,6 +1,8 @@
 -- What the writers answer and leave in the bytes lent to them.
-use Rattle.std.specs.Prelude.{ℕ, Bool, cond, List, [], ◌∷◌, ◌++◌, eqb, ℤ, length, take}
+use Rattle.std.specs.Prelude.{ℕ, Bool, cond, List, [], ◌∷◌, ◌++◌, eqb, ℤ, length, take, Result, Ok, Err, ⊤}
 use Rattle.block.specs.declared.Entry.{Entry}
+use Rattle.block.specs.declared.BlockFault.{BlockFault}
+use Rattle.block.specs.Answers.{fault_number}
 use Rattle.block.specs.Check.{check_bytes}
 use Rattle.block.specs.Message.{Record}
 
@@ -9,12 +11,17 @@ pub record Written : Type 0 where
   pub number : ℕ
   pub bytes : List ℕ
 
-abbrev pub written : ℕ → List ℕ → Written
-written n l = record { number = n; bytes = l }
+abbrev pub all_written : List ℕ → Written
+all_written l = record { number = 0; bytes = l }
+
+-- what a writer answers, as a number, and leaves
+abbrev pub written : Result ⊤ BlockFault → List ℕ → Written
+written (Ok done) l = all_written l
+written (Err f) l = record { number = fault_number f; bytes = l }
 
 -- the new bytes where the lengths are right, else 1 and the bytes as they were
 abbrev pub write_where : Bool → List ℕ → List ℕ → Written
-write_where right new old = cond right (written 0 new) (written 1 old)
+write_where right new old = cond right (all_written new) (record { number = 1; bytes = old })
 
 -- an entry for each item and the value beside it
 unfoldable pub entries_from : List ℕ → List ℤ → List Entry

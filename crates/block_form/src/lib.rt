@@ -7,17 +7,9 @@ ghost use Rattle.block.specs.Numbers.{number_from};
 ghost use Rattle.block.specs.Message.{entries_fit, record_fits, records_fit, ticket_absent, tickets_differ};
 ghost use Rattle.block.specs.Form.{entries_of, record_of, records_of, all_zero, entries_padded, record_padded, records_padded, header_fits, well_formed};
 
-use block::number;
+use block::number_at;
 
-// The number in four bytes of a part, from `at` on, the lowest first.
-fn number_at(part: &[u8], at: usize) -> u32
-    requires { at + 4 ≤ length part.now }
-    ensures { result ≡ number_from (slice at (at + 4) part.now) }
-{
-    number(part[at], part[at + 1], part[at + 2], part[at + 3])
-}
-
-// The number in eight.
+// The number in eight bytes.
 fn number64_at(part: &[u8], at: usize) -> u64
     requires { at + 8 ≤ length part.now }
     ensures { result ≡ number_from (slice at (at + 8) part.now) }
@@ -31,14 +23,7 @@ fn number64_at(part: &[u8], at: usize) -> u64
 fn zero_short(part: &[u8]) -> bool
     ensures { result ≡ all_zero part.now }
 {
-    let mut i: usize = 0;
-    while i < part.len() {
-        if part[i] != 0 {
-            return false;
-        }
-        i += 1;
-    }
-    true
+    part.iter().all(|byte| *byte == 0)
 }
 
 // Whether every byte of the part is zero, by eight: each eight equal the last eight, which are zero.
@@ -51,12 +36,10 @@ fn zero(part: &[u8]) -> bool
     }
     let end = part.len() - 8;
     let last = number64_at(part, end);
-    let mut i: usize = 0;
-    while i < end {
-        if number64_at(part, i) != last {
+    for turn in 0..end.div_ceil(8) {
+        if number64_at(part, 8 * turn) != last {
             return false;
         }
-        i += 8;
     }
     last == 0
 }
@@ -68,19 +51,14 @@ fn entries_fit(part: &[u8], n: usize) -> bool
     ensures { result ≡ (entries_fit 0 (entries_of n part.now) && entries_padded n part.now) }
 {
     let mut last = number_at(part, 0);
-    let mut e: usize = 1;
-    while e < n {
+    for e in 1..n {
         let item = number_at(part, 8 * e);
         if item <= last {
             return false;
         }
         last = item;
-        e += 1;
     }
-    if 127 < last {
-        return false;
-    }
-    zero(&part[8 * n..])
+    last <= 127 && zero(&part[8 * n..])
 }
 
 // One record, of 72 bytes. The number of writes is read with its three unused bytes, as an item is.
@@ -89,20 +67,10 @@ fn record_fits(part: &[u8]) -> bool
     ensures { result ≡ (record_fits (record_of part.now) && record_padded part.now) }
 {
     let ticket = number_at(part, 0);
-    if ticket < 1 {
-        return false;
-    }
-    if 100000000 < ticket {
-        return false;
-    }
     let writes = number_at(part, 4);
-    if writes < 1 {
-        return false;
-    }
-    if 8 < writes {
-        return false;
-    }
-    entries_fit(&part[8..], writes as usize)
+    (1..=100_000_000).contains(&ticket)
+        && (1..=8).contains(&writes)
+        && entries_fit(&part[8..], writes as usize)
 }
 
 // The first `count` of six records, and the zeros after them up to the check.
@@ -110,13 +78,11 @@ fn records_fit(body: &[u8], count: usize) -> bool
     requires { (length body.now ≡ 488) × (count ≤ 6) }
     ensures { result ≡ (records_fit (records_of count body.now) && records_padded count body.now) }
 {
-    let mut j: usize = 0;
-    while j < count {
+    for j in 0..count {
         let at = 72 * j;
         if !record_fits(&body[at..at + 72]) {
             return false;
         }
-        j += 1;
     }
     zero(&body[72 * count..])
 }
@@ -126,12 +92,10 @@ fn ticket_absent(body: &[u8], ticket: u32, from: usize, count: usize) -> bool
     requires { (length body.now ≡ 488) × (count ≤ 6) × (from ≤ count) }
     ensures { result ≡ ticket_absent ticket (records_of (count - from) (drop (72 * from) body.now)) }
 {
-    let mut i = from;
-    while i < count {
+    for i in from..count {
         if number_at(body, 72 * i) == ticket {
             return false;
         }
-        i += 1;
     }
     true
 }
@@ -140,67 +104,45 @@ fn tickets_differ(body: &[u8], count: usize) -> bool
     requires { (length body.now ≡ 488) × (count ≤ 6) }
     ensures { result ≡ tickets_differ (records_of count body.now) }
 {
-    let mut j: usize = 0;
-    while j < count {
+    for j in 0..count {
         let ticket = number_at(body, 72 * j);
         if !ticket_absent(body, ticket, j + 1, count) {
             return false;
         }
-        j += 1;
     }
     true
 }
 
 // Number of replicas, slot, sender, and the zeros of the header.
-fn header_fits(block: &[u8]) -> bool
-    requires { length block.now ≡ 512 }
+fn header_fits(block: &[u8; 512]) -> bool
     ensures { result ≡ header_fits block.now }
 {
     let replicas = block[2];
-    if replicas < 2 {
-        return false;
-    }
-    if 6 < replicas {
-        return false;
-    }
     let slot = number_at(block, 4);
-    if 99999999 < slot {
-        return false;
-    }
-    let sender = block[1] as u32;
-    if sender != slot % (replicas as u32) {
-        return false;
-    }
-    number64_at(block, 8) == 0
+    let sender = block[1];
+    (2..=6).contains(&replicas)
+        && slot <= 99_999_999
+        && sender as u32 == slot % replicas as u32
+        && number64_at(block, 8) == 0
 }
 
 // Whether a block is well formed; false for another length.
 pub fn well_formed(block: &[u8]) -> bool
     ensures { result ≡ well_formed block.now }
 {
-    if block.len() != 512 {
+    let Some(block) = block.as_array::<512>() else {
         return false;
-    }
+    };
     if !header_fits(block) {
         return false;
     }
-    let kind = block[0];
-    let count = block[3];
-    match count {
-        0 => match kind {
-            1 => zero(&block[16..504]),
-            _ => false,
-        },
-        1..=6 => match kind {
-            2 => {
-                let n = count as usize;
-                if !records_fit(&block[16..504], n) {
-                    return false;
-                }
-                tickets_differ(&block[16..504], n)
-            }
-            _ => false,
-        },
+    let body = &block[16..504];
+    match (block[0], block[3]) {
+        (1, 0) => zero(body),
+        (2, count @ 1..=6) => {
+            let n = count as usize;
+            records_fit(body, n) && tickets_differ(body, n)
+        }
         _ => false,
     }
 }

@@ -4,12 +4,11 @@
 ghost use Rattle.std.specs.Prelude.{◌≡◌, length};
 ghost use Rattle.block.specs.Answers.{number_and_header, block_read, header_of, record_at, entry_at};
 
-use block::{Entry, Header, Read, RecordHead, number, to_value};
+use block::{BlockFault, Entry, Header, RecordHead, number_at, to_value};
 use block_check::check_matches;
 use block_form::well_formed;
 
-fn header(block: &[u8]) -> Header
-    requires { length block.now ≡ 512 }
+fn header(block: &[u8; 512]) -> Header
     ensures { result ≡ header_of block.now }
 {
     Header {
@@ -17,45 +16,36 @@ fn header(block: &[u8]) -> Header
         sender: block[1],
         replicas: block[2],
         count: block[3],
-        slot: number(block[4], block[5], block[6], block[7]),
+        slot: number_at(block, 4),
     }
 }
 
-// The header, or why the block is refused: 1 for another length, 14 for its check, 15 for its form.
-pub fn read_block(block: &[u8]) -> Read
+// The header, or why the block is refused.
+pub fn read_block(block: &[u8]) -> Result<Header, BlockFault>
     ensures { number_and_header result ≡ block_read block.now }
 {
-    if block.len() != 512 {
-        return Read::Refused(1);
-    }
+    let Some(whole) = block.as_array::<512>() else {
+        return Err(BlockFault::WrongLength);
+    };
     if !check_matches(block) {
-        return Read::Refused(14);
+        return Err(BlockFault::WrongCheck);
     }
     if !well_formed(block) {
-        return Read::Refused(15);
+        return Err(BlockFault::WrongForm);
     }
-    Read::Message(header(block))
+    Ok(header(whole))
 }
 
 // Record j of a block as its bytes stand, zeros past the sixth.
 pub fn record_at(block: &[u8], j: usize) -> RecordHead
     ensures { result ≡ record_at block.now j }
 {
-    if block.len() != 512 {
-        return RecordHead {
-            ticket: 0,
-            writes: 0,
-        };
-    }
-    if 6 <= j {
-        return RecordHead {
-            ticket: 0,
-            writes: 0,
-        };
+    if block.len() != 512 || 6 <= j {
+        return RecordHead::default();
     }
     let at = 16 + 72 * j;
     RecordHead {
-        ticket: number(block[at], block[at + 1], block[at + 2], block[at + 3]),
+        ticket: number_at(block, at),
         writes: block[at + 4],
     }
 }
@@ -64,25 +54,12 @@ pub fn record_at(block: &[u8], j: usize) -> RecordHead
 pub fn entry_at(block: &[u8], j: usize, e: usize) -> Entry
     ensures { result ≡ entry_at block.now j e }
 {
-    if block.len() != 512 {
-        return Entry { item: 0, value: 0 };
-    }
-    if 6 <= j {
-        return Entry { item: 0, value: 0 };
-    }
-    if 8 <= e {
-        return Entry { item: 0, value: 0 };
+    if block.len() != 512 || 6 <= j || 8 <= e {
+        return Entry::default();
     }
     let at = 24 + 72 * j + 8 * e;
-    let from = at + 4;
-    let bits = number(
-        block[from],
-        block[from + 1],
-        block[from + 2],
-        block[from + 3],
-    );
     Entry {
         item: block[at],
-        value: to_value(bits),
+        value: to_value(number_at(block, at + 4)),
     }
 }

@@ -1,39 +1,31 @@
 -- What the stores and the lent parts of a writer leave, over plain lists; and that over zeros it is all of a header, all of a record. Assumes nothing.
 use Prim.Native.Nat.{ℕ, ◌+◌, ◌-◌, ◌*◌, ◌≤◌}
 use mathlib.Core.List.{List, [], ◌∷◌, ◌++◌, append_assoc}
-use mathlib.Core.Path.{◌≡◌, ap, ◌∙◌}
+use mathlib.Core.Path.{◌≡◌, refl, ap, ◌∙◌}
 use native.Mathlib.Omega.{arith}
 use borrow.Author.Tests.{eq-eqb, le-leb}
 use borrow.Rule.Slice.PartMut.{put_mid}
 use lib.IntN.{ℤ}
 use lib.ListN.{length, take, drop, replicate, length-drop}
-use lib.Seq.{sets, take_all, take-length, drop_at, drop-drop}
+use lib.Seq.{take_all, drop_at, drop-drop}
 use Rattle.block.specs.declared.Header.{Header}
 use Rattle.block.specs.Bytes.{entries_bytes, record_bytes, header_bytes}
 use Rattle.block.specs.Numbers.{bytes_of}
-use Rattle.block.specs.Writing.{written, entries_from, record_from}
+use Rattle.block.specs.Writing.{all_written, entries_from, record_from}
 use Rattle.block.proofs.NumberLaws.{length-bytes_of}
-use Rattle.block.proofs.WriteLaws.{Filled, filled_none, filled-sets, filled-part, filled-all, byte_number, entries_to, length_entries, drop-zeros}
+use Rattle.block.proofs.WriteLaws.{filled_none, filled-part, filled-all, byte_number, length_entries, drop-zeros}
 use Rattle.block_writer.specs.Writing.{header_over, record_over, header_step, record_step}
 
 -- ---- what a writer leaves
 
--- four stores, and the slot in the next four bytes
-pub header_over_lem : (l ys : List ℕ) (h : Header) → length l ≡ 16 → ys ≡ bytes_of 4 h.slot
-    → put_mid 4 4 (sets l 0 (h.kind ∷ h.sender ∷ h.replicas ∷ h.count ∷ [])) ys ≡ header_over h l
+-- four bytes, and the slot in the next four
+pub header_over_lem : (l xs ys : List ℕ) (h : Header) → length l ≡ 16 → xs ≡ h.kind ∷ h.sender ∷ h.replicas ∷ h.count ∷ [] → ys ≡ bytes_of 4 h.slot
+    → put_mid 4 4 (put_mid 0 4 l xs) ys ≡ header_over h l
 unfolding header_over
-header_over_lem l ys h n q =
-    let f = filled-sets (filled_none l) (h.kind ∷ h.sender ∷ h.replicas ∷ h.count ∷ []) (omega arith) in
-    rw (← q) (filled-part f 4 ys (ap length q ∙ length-bytes_of 4 _)).is
+header_over_lem l xs ys h n p q =
+    rw (p, q) (filled-part (filled-part (filled_none l) 4 (h.kind ∷ h.sender ∷ h.replicas ∷ h.count ∷ []) refl) 4 (bytes_of 4 h.slot) (length-bytes_of 4 _)).is
 
 module _ (l₀ : List ℕ) (is : List ℕ) (vs : List ℤ) (same : length vs ≡ length is) where
-  -- the loop's end
-  pub entries_over : (l : List ℕ) → Filled l₀ (8 * length is) (entries_to is vs (length is)) l
-      → l ≡ entries_bytes (entries_from is vs) ++ drop (8 * length is) l₀
-  entries_over l f =
-      let e : entries_to is vs (length is) ≡ entries_bytes (entries_from is vs) = rw (take-length is, ← same, take-length vs) in
-      f.is ∙ ap (λ (z : List ℕ). z ++ drop (8 * length is) l₀) e
-
   -- ticket, number of writes, and the entries in the 64 bytes behind them
   pub record-over : (t : ℕ) (ts ns es : List ℕ) → length l₀ ≡ 72 → length is ≤ 8 → ts ≡ bytes_of 4 t → ns ≡ bytes_of 4 (length is) → length es ≡ 64
       → es ≡ entries_bytes (entries_from is vs) ++ drop (8 * length is) (take 64 (drop 8 (put_mid 4 4 (put_mid 0 4 l₀ ts) ns)))
@@ -51,12 +43,12 @@ module _ (l₀ : List ℕ) (is : List ℕ) (vs : List ℤ) (same : length vs ≡
 
 -- ---- over zeros
 
-pub header_fresh : (part : List ℕ) (h : Header) → part ≡ replicate 16 0 → header_step part h ≡ written 0 (header_bytes h)
+pub header_fresh : (part : List ℕ) (h : Header) → part ≡ replicate 16 0 → header_step part h ≡ all_written (header_bytes h)
 unfolding header_step header_over header_bytes
 header_fresh part h z = rw z
 
 pub record_fresh : (part : List ℕ) (t : ℕ) (is : List ℕ) (vs : List ℤ) → part ≡ replicate 72 0 → length is ≤ 8 → length vs ≡ length is
-    → record_step part t is vs ≡ written 0 (record_bytes (record_from t is vs))
+    → record_step part t is vs ≡ all_written (record_bytes (record_from t is vs))
 unfolding record_step record_over record_bytes
 record_fresh part t is vs z k e =
     let n : 72 - (8 + 8 * length is) ≡ 64 - 8 * length is = omega arith in

@@ -7,17 +7,14 @@ ghost use Rattle.block.specs.Bytes.{entry_bytes, entries_bytes};
 ghost use Rattle.block.specs.Writing.{written, entries_from};
 ghost use Rattle.block_writer.specs.Writing.{header_step, record_step};
 
-use block::{Header, to_bits};
+use block::{BlockFault, Header, to_bits};
 
 // A number in four bytes, the lowest first.
 fn put_number(part: &mut [u8], x: u32)
     requires { length part.old ≡ 4 }
     ensures { part.new ≡ bytes_of 4 x }
 {
-    part[0] = (x % 256) as u8;
-    part[1] = (x / 256 % 256) as u8;
-    part[2] = (x / 65536 % 256) as u8;
-    part[3] = (x / 16777216 % 256) as u8;
+    part.copy_from_slice(&x.to_le_bytes());
 }
 
 // One entry, in 8 bytes: the item as a number has the three zeros behind it.
@@ -35,44 +32,38 @@ fn put_entries(part: &mut [u8], items: &[u8], values: &[i32])
     ensures { part.new
         ≡ entries_bytes (entries_from items.now values.now) ++ drop (8 * length items.now) part.old }
 {
-    let mut e: usize = 0;
-    while e < items.len() {
+    for (e, item) in items.iter().enumerate() {
         let at = 8 * e;
-        put_entry(&mut part[at..at + 8], items[e], values[e]);
-        e += 1;
+        put_entry(&mut part[at..at + 8], *item, values[e]);
     }
 }
 
-// A header, into the first 8 of the block's first 16 bytes; 1 for another length.
-pub fn write_header(part: &mut [u8], header: Header) -> u8
+// A header, into the first 8 of the block's first 16 bytes; refused for another length.
+pub fn write_header(part: &mut [u8], header: Header) -> Result<(), BlockFault>
     ensures { written result part.new ≡ header_step part.old header }
 {
     if part.len() != 16 {
-        return 1;
+        return Err(BlockFault::WrongLength);
     }
-    part[0] = header.kind;
-    part[1] = header.sender;
-    part[2] = header.replicas;
-    part[3] = header.count;
+    part[0..4].copy_from_slice(&[header.kind, header.sender, header.replicas, header.count]);
     put_number(&mut part[4..8], header.slot);
-    0
+    Ok(())
 }
 
-// A record, into its 72 bytes of a block: a ticket, at most 8 items, and the value of each; unused entries stay. 1 where a length is wrong.
-pub fn write_record(part: &mut [u8], ticket: u32, items: &[u8], values: &[i32]) -> u8
+// A record, into its 72 bytes of a block: a ticket, at most 8 items, and the value of each; unused entries stay. Refused where a length is wrong.
+pub fn write_record(
+    part: &mut [u8],
+    ticket: u32,
+    items: &[u8],
+    values: &[i32],
+) -> Result<(), BlockFault>
     ensures { written result part.new ≡ record_step part.old ticket items.now values.now }
 {
-    if part.len() != 72 {
-        return 1;
-    }
-    if 8 < items.len() {
-        return 1;
-    }
-    if values.len() != items.len() {
-        return 1;
+    if part.len() != 72 || 8 < items.len() || values.len() != items.len() {
+        return Err(BlockFault::WrongLength);
     }
     put_number(&mut part[0..4], ticket);
     put_number(&mut part[4..8], items.len() as u32);
     put_entries(&mut part[8..72], items, values);
-    0
+    Ok(())
 }

@@ -7,7 +7,6 @@ use native.Mathlib.Numerals.{add-one}
 use native.Mathlib.Omega.{arith}
 use lib.ListN.{get_or}
 use borrow.Author.Tests.{eq-eqb, ne_eqb}
-use Rattle.block.specs.declared.Entry.{Entry}
 use Rattle.block.specs.Answers.{record_at, entry_at}
 use Rattle.engine.specs.Moves.{writeset_at}
 use Rattle.engine.specs.Classes.{has_class, class_from}

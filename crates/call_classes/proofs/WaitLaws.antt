@@ -1,18 +1,17 @@
 -- Each answer of a write's wait, from the tests that lead to it. Assumes nothing.
 use Prim.Native.Nat.{ℕ, zero, suc, ◌+◌, ◌-◌, ◌*◌, ◌≤◌, ◌<◌}
-use mathlib.Core.Path.{◌≡◌, refl, sym, ap, ◌∙◌}
+use mathlib.Core.Path.{◌≡◌, refl, sym}
 use mathlib.Core.Bool.{Bool, true, false, ◌&&◌}
 use mathlib.Core.List.{List}
 use native.Mathlib.Nat.{mod-le}
 use native.Mathlib.Omega.{arith}
-use lib.Dec.{eqb, ltb}
+use lib.Dec.{ltb}
 use lib.ListN.{length, get_or, length-take, length-drop, take}
-use lib.Seq.{slice}
 use borrow.Author.Tests.{ne_eqb}
 use Rattle.block.specs.Answers.{record_at}
 use Rattle.memory.specs.Memory.{Memory}
 use Rattle.memory.specs.Turns.{place_start}
-use Rattle.engine.specs.Moves.{entries_for, writeset_at, block_at_turn}
+use Rattle.engine.specs.Moves.{entries_for, block_at_turn}
 use Rattle.engine.specs.Classes.{is_applying, has_class, class_from, class_to_come, must_wait}
 
 -- no record of a block of another length has an entry

@@ -3,71 +3,64 @@
 // record are those of some table (`specs/Tables.antt`).
 #![tactic(auto)]
 
-ghost use Rattle.std.specs.Prelude.{◌<◌, ◌≡◌, true, false, List, length, set};
+ghost use Rattle.std.specs.Prelude.{◌<◌, ◌≡◌, ◌∷◌, [], ◌&&◌, not, eqb, leb, IfOk, List, length, set};
+ghost use Rattle.block.specs.Answers.{first_of, refuse};
 ghost use Rattle.memory.specs.declared.Txn.{Txn};
-ghost use Rattle.memory.specs.Memory.{Memory, bump, with_read_only};
-ghost use Rattle.memory.specs.Rows.{closed, row_at};
+ghost use Rattle.memory.specs.Memory.{Memory};
+ghost use Rattle.memory.specs.Rows.{row_at};
 ghost use Rattle.engine.specs.Client.{begin_row, value_for, read_row, ask_row, withdraw_row, report_step};
+ghost use Rattle.call_reply.specs.Clients.{begin_said, counts_begun, read_said, ask_said, counts_asked, row_asked, counts_withdrawn, row_withdrawn};
+ghost use Rattle.call_reply.specs.Faults.{number_in, left_by};
 ghost use Rattle.call_reply.specs.Parts.{begin_parts, read_parts, ask_parts, withdraw_parts, report_parts};
 ghost use Rattle.call_reply.specs.Replies.{Gives, number, begin_reply, read_reply, ask_reply, report_reply};
 
-use call_reply::replies::no_read;
-use call_reply::{AskReply, Asked, BeginReply, Begun, Changed, ReadReply, ReportReply};
+use call_reply::Asked;
+use call_reply::checks::{check_active, check_item};
+use call_reply::faults::Fault;
 use engine::Report;
-use memory::rows::{bump, copy_values, free, index_of, open_count, queue_end, write_count};
+use memory::rows::{bump, index_of, open_count, queue_end, write_count};
 use memory::{Counts, Turn, Txn};
 
-fn not_begun(number: u8, t: Txn, counts: Counts) -> Begun
-    ensures { result ≡ record { reply = record { number = number; ticket = 0 }; counts = counts; row = t } }
+// Why a begin is refused, where values and snapshots have these lengths.
+#[tactic(auto, using(std::proofs::lemmas::Bool::Decides::nat_tests), unfolding(block::specs::Answers::first_of))]
+fn check_begin(values: usize, snapshots: usize, at: usize, tickets: u32) -> Result<(), Fault>
+    ensures number { number_in result ≡ first_of (refuse 1 (not (eqb values 128 && eqb snapshots 768)) ∷ refuse 5 (leb 6 at) ∷ refuse 6 (leb 100000000 tickets) ∷ []) }
+    ensures passed { IfOk result (λ _. (values ≡ 128) × (snapshots ≡ 768) × (at < 6) × (tickets < 100000000)) }
 {
-    Begun {
-        reply: BeginReply {
-            ticket: 0,
-            number: number,
-        },
-        counts: counts,
-        row: t,
+    if values != 128 || snapshots != 768 {
+        Err(Fault::WrongLength)
+    } else if 6 <= at {
+        Err(Fault::AllOpen)
+    } else if 100_000_000 <= tickets {
+        Err(Fault::TicketsSpent)
+    } else {
+        Ok(())
     }
 }
 
-// The next ticket, with the commit count and the values now, at the first free row.
-pub fn begin(at: usize, t: Txn, counts: Counts, values: &[i32], snapshots: &mut [i32]) -> Begun
+// The row with the next ticket and the commit count, and the values now among its snapshots.
+pub fn begin(
+    at: usize,
+    t: Txn,
+    counts: Counts,
+    values: &[i32],
+    snapshots: &mut [i32],
+) -> Result<Txn, Fault>
     ensures { (m : Memory) (table : List Txn) → t ≡ row_at table at →
         Gives begin_reply
         (begin_row (begin_parts m table counts values.now snapshots.old) at)
-        result.reply
-        (begin_parts m (set table at result.row) result.counts values.now snapshots.new) }
+        (begin_said result)
+        (begin_parts m (set table at (left_by result t)) (counts_begun result counts) values.now snapshots.new) }
 {
-    if values.len() != 128 {
-        return not_begun(1, t, counts);
-    }
-    if snapshots.len() != 768 {
-        return not_begun(1, t, counts);
-    }
-    if 6 <= at {
-        return not_begun(5, t, counts);
-    }
-    if 100000000 <= counts.tickets {
-        return not_begun(6, t, counts);
-    }
-    let ticket = counts.tickets + 1;
+    check_begin(values.len(), snapshots.len(), at, counts.tickets)?;
     let from = 128 * at;
-    copy_values(values, &mut snapshots[from..from + 128]);
-    let mut after = counts;
-    after.tickets = ticket;
-    Begun {
-        reply: BeginReply {
-            ticket: ticket,
-            number: 0,
-        },
-        counts: after,
-        row: Txn {
-            ticket: ticket,
-            stage: 0,
-            snapshot: counts.commits,
-            writes: 0,
-        },
-    }
+    snapshots[from..from + 128].copy_from_slice(values);
+    Ok(Txn {
+        ticket: counts.tickets + 1,
+        stage: 0,
+        snapshot: counts.commits,
+        writes: 0,
+    })
 }
 
 // What the transaction wrote last to the item, else the value at its snapshot: a read gives it.
@@ -85,6 +78,12 @@ fn value_for(at: usize, t: Txn, items: &[u8], writes: &[i32], snapshots: &[i32],
     snapshots[128 * at + item as usize]
 }
 
+fn lengths_fit(items: usize, writes: usize, snapshots: usize) -> bool
+    ensures { result ≡ (eqb items 48 && eqb writes 48 && eqb snapshots 768) }
+{
+    items == 48 && writes == 48 && snapshots == 768
+}
+
 pub fn read(
     at: usize,
     t: Txn,
@@ -92,154 +91,67 @@ pub fn read(
     writes: &[i32],
     snapshots: &[i32],
     item: u32,
-) -> ReadReply
+) -> Result<i32, Fault>
     ensures { (m : Memory) (table : List Txn) → t ≡ row_at table at →
         Gives read_reply
         (read_row (read_parts m table items.now writes.now snapshots.now) at item)
-        result
+        (read_said result)
         (read_parts m table items.now writes.now snapshots.now) }
 {
-    if items.len() != 48 {
-        return no_read(1);
-    }
-    if writes.len() != 48 {
-        return no_read(1);
-    }
-    if snapshots.len() != 768 {
-        return no_read(1);
-    }
-    if 128 <= item {
-        return no_read(2);
-    }
-    if 6 <= at {
-        return no_read(3);
-    }
-    if t.stage != 0 {
-        return no_read(4);
-    }
-    ReadReply {
-        number: 0,
-        value: value_for(at, t, items, writes, snapshots, item as u8),
-    }
-}
-
-fn not_asked(number: u8, t: Txn, counts: Counts) -> Asked
-    ensures { result ≡ record { reply = record { number = number; read_only = false }; counts = counts; row = t } }
-{
-    Asked {
-        reply: AskReply {
-            number: number,
-            read_only: false,
-        },
-        counts: counts,
-        row: t,
-    }
-}
-
-// The row's transaction ends as read-only.
-fn read_only(counts: Counts) -> Asked
-    ensures { result ≡ record { reply = record { number = 0; read_only = true }; counts = with_read_only counts (bump counts.read_only); row = closed } }
-{
-    let mut after = counts;
-    after.read_only = bump(counts.read_only);
-    Asked {
-        reply: AskReply {
-            number: 0,
-            read_only: true,
-        },
-        counts: after,
-        row: free(),
-    }
+    let fits = lengths_fit(items.len(), writes.len(), snapshots.len());
+    check_item(fits, item, at, t.stage)?;
+    Ok(value_for(at, t, items, writes, snapshots, item as u8))
 }
 
 // Requests commit: an empty writeset ends on the spot, any other joins the queue.
-pub fn ask(at: usize, t: Txn, counts: Counts, queue: &mut [u32]) -> Asked
+pub fn ask(at: usize, t: Txn, counts: Counts, queue: &mut [u32]) -> Result<Asked, Fault>
     ensures { (m : Memory) (table : List Txn) → t ≡ row_at table at →
         Gives ask_reply
         (ask_row (ask_parts m counts table queue.old) at)
-        result.reply
-        (ask_parts m result.counts (set table at result.row) queue.new) }
+        (ask_said result)
+        (ask_parts m (counts_asked result counts) (set table at (row_asked result t)) queue.new) }
 {
     if queue.len() != 6 {
-        return not_asked(1, t, counts);
+        return Err(Fault::WrongLength);
     }
-    if 6 <= at {
-        return not_asked(3, t, counts);
-    }
-    if t.stage != 0 {
-        return not_asked(4, t, counts);
-    }
+    check_active(at, t.stage)?;
     if t.writes == 0 {
-        return read_only(counts);
+        return Ok(Asked::ReadOnly(bump(counts.read_only)));
     }
-    let end = queue_end(&*queue);
+    let end = queue_end(queue);
     if end < 6 {
         queue[end] = t.ticket;
     }
-    Asked {
-        reply: AskReply {
-            number: 0,
-            read_only: false,
-        },
-        counts: counts,
-        row: Txn {
-            ticket: t.ticket,
-            stage: 1,
-            snapshot: t.snapshot,
-            writes: t.writes,
-        },
-    }
+    Ok(Asked::Queued(Txn { stage: 1, ..t }))
 }
 
-// Ends an active transaction.
-pub fn withdraw(at: usize, t: Txn, counts: Counts) -> Changed
+// Ends an active transaction; the count of those withdrawn.
+pub fn withdraw(at: usize, t: Txn, counts: Counts) -> Result<u32, Fault>
     ensures { (m : Memory) (table : List Txn) → t ≡ row_at table at →
         Gives number
         (withdraw_row (withdraw_parts m counts table) at)
-        result.number
-        (withdraw_parts m result.counts (set table at result.row)) }
+        (number_in result)
+        (withdraw_parts m (counts_withdrawn result counts) (set table at (row_withdrawn result t))) }
 {
-    if 6 <= at {
-        return Changed {
-            number: 3,
-            counts: counts,
-            row: t,
-        };
-    }
-    if t.stage != 0 {
-        return Changed {
-            number: 4,
-            counts: counts,
-            row: t,
-        };
-    }
-    let mut after = counts;
-    after.withdrawn = bump(counts.withdrawn);
-    Changed {
-        number: 0,
-        counts: after,
-        row: free(),
-    }
+    check_active(at, t.stage)?;
+    Ok(bump(counts.withdrawn))
 }
 
-pub fn report(rows: [Txn; 6], turn: Turn, counts: Counts) -> ReportReply
+pub fn report(rows: [Txn; 6], turn: Turn, counts: Counts) -> Report
     ensures { (m : Memory) →
         Gives report_reply
         (report_step (report_parts m turn counts rows))
-        result
+        (record { number = 0; report = result })
         (report_parts m turn counts rows) }
 {
-    ReportReply {
-        number: 0,
-        report: Report {
-            turn: turn.slot,
-            commits: counts.commits,
-            tickets: counts.tickets,
-            open_count: open_count(rows),
-            committed: counts.committed,
-            read_only: counts.read_only,
-            aborted: counts.aborted,
-            withdrawn: counts.withdrawn,
-        },
+    Report {
+        turn: turn.slot,
+        commits: counts.commits,
+        tickets: counts.tickets,
+        open_count: open_count(rows),
+        committed: counts.committed,
+        read_only: counts.read_only,
+        aborted: counts.aborted,
+        withdrawn: counts.withdrawn,
     }
 }

@@ -1,35 +1,17 @@
--- Whether a row is hit, and one turn of the loop that marks the rows hit, from the last to the first. Assumes nothing.
-use Prim.Native.Nat.{ℕ, zero, suc, ◌+◌, ◌-◌, ◌*◌, ◌≤◌, ◌<◌, min}
+-- One turn of the loop that marks the rows hit, from the last to the first. Assumes nothing.
+use Prim.Native.Nat.{ℕ, zero, suc, ◌+◌, ◌-◌, ◌≤◌, ◌<◌}
 use mathlib.Core.Path.{◌≡◌, refl, sym, ap, ◌∙◌}
 use mathlib.Core.Bool.{Bool, true, false}
 use mathlib.Core.List.{List, ◌∷◌, ◌++◌}
 use native.Mathlib.Omega.{arith}
-use borrow.Author.Tests.{eq-eqb, ne_eqb, lt-ltb, le-ltb}
 use lib.ListN.{length, set, take, drop, replicate, length-set}
 use lib.Seq.{drop-length, drop-cons, drop-drop}
 use Rattle.block.specs.declared.Entry.{Entry}
-use Rattle.block.proofs.ListLaws.{lent}
 use Rattle.block.proofs.WriteLaws.{drop-zeros}
 use Rattle.memory.specs.declared.Txn.{Txn}
 use Rattle.memory.specs.Rows.{closed, row_at}
-use Rattle.engine.specs.Moves.{shares, is_hit, insert_rising, hit_tickets}
+use Rattle.engine.specs.Moves.{is_hit, insert_rising, hit_tickets}
 use Rattle.call_commit.specs.Marks.{hit_marks}
-use Rattle.call_commit.proofs.ListLaws.{lent-within}
-
--- ---- whether row r is hit
-
-module _ (es : List Entry) (items : List ℕ) (r : ℕ) (t : Txn) where
-  pub hit-closed : t.ticket ≡ 0 → false ≡ is_hit es items r t
-  hit-closed e = rw (eq-eqb t.ticket 0 e)
-
-  module _ (o : t.ticket ≡ 0 → ⊥) where
-    pub hit-sent : 2 ≤ t.stage → false ≡ is_hit es items r t
-    hit-sent h = rw (ne_eqb t.ticket 0 o, le-ltb t.stage 2 h)
-
-    pub hit-shares : t.stage < 2 → (n from to : ℕ) → n ≡ min t.writes 8 → from ≡ min (8 * r) (length items) → to ≡ min (8 * r + n) (length items)
-        → shares (lent from to items) es ≡ is_hit es items r t
-    hit-shares h n from to p q s =
-        rw (ne_eqb t.ticket 0 o, lt-ltb t.stage 2 h, q, s, lent-within (8 * r) (8 * r + n) items (omega arith), p)
 
 -- ---- the rows from row r on, marked where they are hit
 

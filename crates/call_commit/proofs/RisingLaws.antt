@@ -1,74 +1,63 @@
--- One turn of the loop that puts a number among the first of a list, before the first above it. Assumes nothing.
-use Prim.Native.Nat.{ℕ, ◌+◌, ◌≤◌, ◌<◌}
-use mathlib.Core.Path.{◌≡◌, refl, sym, ◌∙◌}
-use mathlib.Core.Bool.{Bool, true, false, cond, true≢false}
-use mathlib.Core.List.{List, [], ◌∷◌, ◌++◌}
-use native.Mathlib.Numerals.{add-one}
+-- A number among the first of a list, before the first above it: those not above it, the number, and the others. Assumes nothing.
+use Prim.Native.Nat.{ℕ, suc, ◌+◌, ◌-◌, ◌≤◌, ◌<◌}
+use mathlib.Core.Path.{◌≡◌, refl, ap, ◌∙◌}
+use mathlib.Core.List.{List, [], ◌∷◌, ◌++◌, append-nil}
 use native.Mathlib.Omega.{arith}
-use borrow.Author.Tests.{lt-ltb, le-ltb}
-use lib.ListN.{length, get_or, set, take, drop, length-set, drop_of_length-le}
-use lib.Seq.{take-suc, take-suc-set, drop-cons, drop-set-lt, get_or-take, append_snoc, length-take-le}
+use borrow.Author.Tests.{lt-ltb, le-ltb, le-leb, lt-leb}
+use borrow.Rule.Slice.PartMut.{put_mid}
+use lib.Dec.{leb}
+use lib.ListN.{length, get_or, set, take, drop, length-drop, length-take, drop_of_length-le}
+use lib.Seq.{drop-cons, take-take, take_all, length-take-le}
+use Rattle.std.specs.List.{prefix_len, take_while}
+use Rattle.std.proofs.lemmas.List.{set_at, take_at, drop_at}
+use Rattle.std.proofs.lemmas.List.Folds.{length-prefix_len}
+use Rattle.std.proofs.lemmas.List.Sums.{prefix_len-le-length}
+use Rattle.std.proofs.lemmas.Slice.{between_is}
 use Rattle.engine.specs.Moves.{insert_rising}
-use Rattle.engine.proofs.Tests.{bool_by}
-use Rattle.call_commit.proofs.ListLaws.{same_here, same-later}
+use Rattle.engine.proofs.Tests.{less_by}
 
--- what is still to come of x put among l: all of l where x is in, and `next` waits before it
-abbrev pub to_come : ℕ → Bool → ℕ → List ℕ → List ℕ
-to_come x moving next l = cond moving (next ∷ l) (insert_rising x l)
+-- how many stand before the first above x
+abbrev pub before : ℕ → List ℕ → ℕ
+before x l = prefix_len (λ (t : ℕ). leb t x) l
 
--- the list l while x is put among the first n of l₀: the first i are done, and those from place i on are as they were
-pub record Rising (l₀ : List ℕ) (n x : ℕ) (l : List ℕ) (moving : Bool) (next i : ℕ) : Type 0 where
-  pub within : i ≤ n
-  pub same_length : length l ≡ length l₀
-  pub waits : moving ≡ false → next ≡ x
-  pub whole : insert_rising x (take n l₀) ≡ take i l ++ to_come x moving next (drop i (take n l₀))
-  pub back : drop i l ≡ drop i l₀
+rising_by : (x : ℕ) (l : List ℕ) → insert_rising x l ≡ take (before x l) l ++ (x ∷ drop (before x l) l)
+unfolding insert_rising
+rising_by x [] = refl
+rising_by x (y ∷ l) =
+    less_by x y
+    (λ h. rw (lt-ltb x y h, lt-leb y x h))
+    (λ h. let k : 1 + before x l ≡ suc (before x l) = omega arith in rw (le-ltb x y h, le-leb y x h, k, rising_by x l))
 
-module _ (l₀ : List ℕ) (n x : ℕ) (fits : n < length l₀) where
-  pub rising_none : Rising l₀ n x l₀ false x 0
-  rising_none = record { within = omega arith; same_length = refl; waits = λ e. refl; whole = refl; back = refl }
+module _ (x at n : ℕ) (l : List ℕ) (some : 0 < length l) (e : n ≡ length l - 1) (counted : at ≡ length (take_while (λ (t : ℕ). leb t x) (take n l))) where
+  here : at ≡ before x (take n l)
+  here = counted ∙ length-prefix_len (λ (t : ℕ). leb t x) (take n l)
 
-  module _ (l : List ℕ) (moving : Bool) (next i : ℕ) (h : i < n) (s : Rising l₀ n x l moving next i) where
-    rest-cons : drop i (take n l₀) ≡ get_or l i 0 ∷ drop (i + 1) (take n l₀)
-    rest-cons =
-        let e : length (take n l₀) ≡ n = length-take-le n l₀ (omega arith) in
-        rw (add-one i, drop-cons (take n l₀) i 0 (omega arith), get_or-take n l₀ i 0 h, same_here l l₀ i s.back)
+  pub within : at < length l
+  within = let k : before x (take n l) ≤ length (take n l) = prefix_len-le-length (λ (t : ℕ). leb t x) (take n l) in omega (arith, here, length-take n l)
 
-    -- `next` goes to place i, and what stood there waits
-    put : to_come x moving next (drop i (take n l₀)) ≡ next ∷ (get_or l i 0 ∷ drop (i + 1) (take n l₀)) → Rising l₀ n x (set l i next) true (get_or l i 0) (i + 1)
-    put e = record {
-      within = omega arith;
-      same_length = length-set l i next ∙ s.same_length;
-      waits = λ q. absurd (true≢false q);
-      whole = s.whole ∙ rw (e, add-one i, take-suc-set l i next (omega (arith, s.same_length)), append_snoc);
-      back = drop-set-lt (i + 1) l i next (omega arith) ∙ same-later l l₀ i s.back;
-    }
+  -- the last of the rest in front of it, and x over it
+  pub rising-turned : (mid part : List ℕ) → mid ≡ take (length l - at) (drop at l) → part ≡ drop (length mid - 1) mid ++ take (length mid - 1) mid
+      → set (put_mid at (length l - at) l part) at x ≡ insert_rising x (take n l)
+  rising-turned mid part m p =
+      let q = drop at l in
+      let long : length q ≡ length l - at = length-drop at l in
+      let all : mid ≡ q = m ∙ take_all (length l - at) q (omega arith) in
+      let k : length q - 1 ≡ n - at = omega (arith, within) in
+      let last : drop (n - at) q ≡ get_or q (n - at) 0 ∷ [] =
+      drop-cons q (n - at) 0 (omega (arith, within)) ∙ ap (λ (t : List ℕ). get_or q (n - at) 0 ∷ t) (drop_of_length-le q {i = suc (n - at)} (omega (arith, within))) in
+      let none : drop (length l - at) q ≡ [] = drop_of_length-le q {i = length l - at} (omega arith) in
+      let front : take at (take n l) ≡ take at l = take-take at n l (omega (arith, within)) in
+      let there : length (take at l) ≡ at = length-take-le at l (omega (arith, within)) in
+      rw (p, all, k, last, none, append-nil (take (n - at) q), rising_by x (take n l), ← here, front, ← between_is l at n)
+      (set_at (take at l) (get_or q (n - at) 0) (take (n - at) q) x at there)
 
-    pub rising-moved : moving ≡ true → Rising l₀ n x (set l i next) true (get_or l i 0) (i + 1)
-    rising-moved e = put (rw (e, rest-cons))
+-- the same of the first n of a longer list, which keeps what is behind them
+module _ (x n : ℕ) (l part : List ℕ) (fits : n < length l) (long : length part ≡ n + 1)
+    (said : part ≡ insert_rising x (take (length (take (n + 1) l) - 1) (take (n + 1) l))) where
+  pub rising-front : take (n + 1) (part ++ drop (n + 1) l) ≡ insert_rising x (take n l)
+  rising-front =
+      let k : length (take (n + 1) l) - 1 ≡ n = omega (arith, length-take (n + 1) l) in
+      take_at part (drop (n + 1) l) (n + 1) long ∙ said ∙ rw (k, take-take n (n + 1) l (omega arith))
 
-    pub rising-found : x < get_or l i 0 → Rising l₀ n x (set l i next) true (get_or l i 0) (i + 1)
-    unfolding insert_rising
-    rising-found u = bool_by moving rising-moved (λ e. put (rw (e, rest-cons, lt-ltb x (get_or l i 0) u, s.waits e)))
-
-    pub rising-passed : moving ≡ false → get_or l i 0 ≤ x → Rising l₀ n x l moving next (i + 1)
-    unfolding insert_rising
-    rising-passed e u = record {
-      within = omega arith;
-      same_length = s.same_length;
-      waits = s.waits;
-      whole = s.whole ∙ rw (e, rest-cons, le-ltb x (get_or l i 0) u, add-one i, take-suc l i 0 (omega (arith, s.same_length)), append_snoc);
-      back = same-later l l₀ i s.back;
-    }
-
-  pub rising-end : (l : List ℕ) (moving : Bool) (next i : ℕ) → n ≤ i → Rising l₀ n x l moving next i
-      → (take (n + 1) (set l n next) ≡ insert_rising x (take n l₀)) × (drop (n + 1) (set l n next) ≡ drop (n + 1) l₀)
-  unfolding insert_rising
-  rising-end l moving next i h s =
-      let k : i ≡ n = omega (arith, s.within) in
-      let e : length (take n l₀) ≡ n = length-take-le n l₀ (omega arith) in
-      let r : drop i (take n l₀) ≡ [] = drop_of_length-le (take n l₀) {i = i} (omega arith) in
-      let t : to_come x moving next [] ≡ next ∷ [] = bool_by moving (λ q. rw q) (λ q. rw (q, s.waits q)) in (
-        rw (add-one n, take-suc-set l n next (omega (arith, s.same_length))) (sym (s.whole ∙ rw (r, t, k))),
-        drop-set-lt (n + 1) l n next (omega arith) ∙ same-later l l₀ n (rw k at s.back),
-      )
+  pub rising-back : drop (n + 1) (part ++ drop (n + 1) l) ≡ drop (n + 1) l
+  rising-back = drop_at part (drop (n + 1) l) (n + 1) long

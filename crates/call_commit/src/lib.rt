@@ -2,7 +2,7 @@
 // `specs/Moves.antt`, on any bytes and any lengths; the marks are those of `specs/Marks.antt`.
 #![tactic(auto)]
 
-ghost use Rattle.std.specs.Prelude.{◌≡◌, ◌+◌, ◌-◌, ◌≤◌, ◌<◌, min, take, drop, replicate};
+ghost use Rattle.std.specs.Prelude.{◌≡◌, ◌+◌, ◌-◌, ◌≤◌, ◌<◌, min, take, take_while, drop, length, leb, replicate};
 ghost use Rattle.block.specs.Answers.{record_at};
 ghost use Rattle.memory.specs.Rows.{has};
 ghost use Rattle.engine.specs.Moves.{writeset_at, applied, stamped, shares, is_hit, insert_rising, hit_tickets, queue_without};
@@ -10,9 +10,9 @@ ghost use Rattle.call_commit.specs.Marks.{hit_marks};
 
 use block_reader::{entry_at, record_at};
 use memory::Txn;
-use memory::rows::{clear_numbers, holds, lesser, write_count};
+use memory::rows::{holds, write_count};
 
-// The marks of the rows aborted, and their tickets: the first `count`, rising, with zeros behind.
+// The marks of the rows aborted, and their tickets: the first `count`, rising, with zeros behind. Six places and a count, as the reply has them in C.
 #[derive(Clone, Copy)]
 pub struct Aborts {
     pub marks: [bool; 6],
@@ -32,19 +32,15 @@ pub fn apply(values: &mut [i32], stamps: &mut [u32], block: &[u8], j: usize, com
     ensures { let es = (writeset_at block.now j).entries in
         (values.new ≡ applied es values.old) × (stamps.new ≡ stamped commits es stamps.old) }
 {
-    let n = entry_count(block, j);
-    let mut e: usize = 0;
-    while e < n {
+    for e in 0..entry_count(block, j) {
         let entry = entry_at(block, j, e);
         let item = entry.item as usize;
-        let value = entry.value;
         if item < values.len() {
-            values[item] = value;
+            values[item] = entry.value;
         }
         if item < stamps.len() {
             stamps[item] = commits;
         }
-        e += 1;
     }
 }
 
@@ -52,13 +48,10 @@ pub fn apply(values: &mut [i32], stamps: &mut [u32], block: &[u8], j: usize, com
 fn shares_item(items: &[u8], block: &[u8], j: usize) -> bool
     ensures { result ≡ shares items.now (writeset_at block.now j).entries }
 {
-    let n = entry_count(block, j);
-    let mut e: usize = 0;
-    while e < n {
+    for e in 0..entry_count(block, j) {
         if holds(items, entry_at(block, j, e).item) {
             return true;
         }
-        e += 1;
     }
     false
 }
@@ -68,39 +61,26 @@ fn is_hit(t: Txn, r: usize, items: &[u8], block: &[u8], j: usize) -> bool
     requires { r < 6 }
     ensures { result ≡ is_hit (writeset_at block.now j).entries items.now r t }
 {
-    if t.ticket == 0 {
-        return false;
-    }
-    if 2 <= t.stage {
-        return false;
-    }
-    let from = lesser(8 * r, items.len());
-    let to = lesser(8 * r + write_count(t.writes), items.len());
-    shares_item(&items[from..to], block, j)
+    let from = (8 * r).min(items.len());
+    let to = (8 * r + write_count(t.writes)).min(items.len());
+    t.ticket != 0 && t.stage < 2 && shares_item(&items[from..to], block, j)
 }
 
-// The ticket among the first n: before the first that is above it, which moves up with all behind it.
-pub fn insert_rising(tickets: [u32; 6], n: usize, ticket: u32) -> [u32; 6]
-    requires { n < 6 }
-    ensures { (take (n + 1) result ≡ insert_rising ticket (take n tickets)) × (drop (n + 1) result ≡ drop (n + 1) tickets) }
+// How many of the tickets stand before the first that is above the ticket.
+fn count_before(tickets: &[u32], ticket: u32) -> usize
+    ensures { result ≡ length (take_while (λ t. leb t ticket) tickets.now) }
 {
-    let mut list = tickets;
-    let mut next = ticket;
-    let mut moving = false;
-    let mut i: usize = 0;
-    while i < n {
-        let other = list[i];
-        if ticket < other {
-            moving = true;
-        }
-        if moving {
-            list[i] = next;
-            next = other;
-        }
-        i += 1;
-    }
-    list[n] = next;
-    list
+    tickets.iter().take_while(|t| **t <= ticket).count()
+}
+
+// The ticket among those in front of the last place: before the first that is above it, which moves up with all behind it.
+pub fn insert_rising(list: &mut [u32], ticket: u32)
+    requires { 0 < length list.old }
+    ensures { list.new ≡ insert_rising ticket (take (length list.old - 1) list.old) }
+{
+    let at = count_before(&list[..list.len() - 1], ticket);
+    list[at..].rotate_right(1);
+    list[at] = ticket;
 }
 
 // The rows that record j hits; from the last row to the first, as their tickets are listed.
@@ -112,55 +92,34 @@ pub fn abort_rows(table: [Txn; 6], items: &[u8], block: &[u8], j: usize) -> Abor
         × (drop result.count result.tickets ≡ replicate (6 - result.count) 0) }
 {
     let mut marks = [false; 6];
-    let mut tickets = [0u32; 6];
-    let mut count: usize = 0;
-    let mut r: usize = 6;
-    while 0 < r {
-        r -= 1;
+    let mut tickets = [0; 6];
+    let mut count = 0;
+    for r in (0..6).rev() {
         let t = table[r];
         if is_hit(t, r, items, block, j) {
             marks[r] = true;
-            let more = insert_rising(tickets, count, t.ticket);
-            tickets = more;
+            insert_rising(&mut tickets[..count + 1], t.ticket);
             count += 1;
         }
     }
     Aborts {
-        marks: marks,
-        tickets: tickets,
-        count: count,
+        marks,
+        tickets,
+        count,
     }
 }
 
-// Whether the ticket is one of the first n.
-fn among(tickets: [u32; 6], n: usize, ticket: u32) -> bool
-    requires { n ≤ 6 }
-    ensures { result ≡ has ticket (take n tickets) }
+// The queue without those tickets: the others move up, zeros behind. In place, since nothing is allocated: so it reads by an index and writes by another.
+pub fn queue_without(queue: &mut [u32], gone: &[u32])
+    ensures { queue.new ≡ queue_without gone.now queue.old }
 {
-    let mut i: usize = 0;
-    while i < n {
-        if tickets[i] == ticket {
-            return true;
-        }
-        i += 1;
-    }
-    false
-}
-
-// The queue without the first `count` tickets: the others move up, zeros behind.
-pub fn queue_without(queue: &mut [u32], tickets: [u32; 6], count: usize)
-    ensures { queue.new ≡ queue_without (take (min count 6) tickets) queue.old }
-{
-    let n = lesser(count, 6);
-    let mut kept: usize = 0;
-    let mut i: usize = 0;
-    while i < queue.len() {
+    let mut kept = 0;
+    for i in 0..queue.len() {
         let ticket = queue[i];
-        if !among(tickets, n, ticket) {
+        if !gone.contains(&ticket) {
             queue[kept] = ticket;
             kept += 1;
         }
-        i += 1;
     }
-    clear_numbers(&mut queue[kept..]);
+    queue[kept..].fill(0);
 }

@@ -1,19 +1,19 @@
 -- Each answer of a deliver, from the tests that lead to it, and the bytes that it compares. Assumes nothing.
-use Prim.Native.Nat.{ℕ, suc, ◌+◌, ◌*◌, ◌-◌, ◌≤◌, ◌<◌}
+use Prim.Native.Nat.{ℕ, ◌+◌, ◌*◌, ◌-◌, ◌≤◌, ◌<◌}
 use mathlib.Core.Path.{◌≡◌, refl, sym, ap, ◌∙◌}
-use mathlib.Core.Bool.{Bool, true, false, not, ◌&&◌, and-false}
+use mathlib.Core.Bool.{Bool, true, false, not, ◌&&◌}
 use mathlib.Core.List.{List, [], ◌∷◌}
-use native.Mathlib.Numerals.{add-one}
 use native.Mathlib.Omega.{arith}
 use lib.Dec.{eqb, ltb, leb}
-use lib.ListN.{length, get_or, drop}
-use lib.Seq.{drop-cons, drop-length}
+use Rattle.std.proofs.Common.{nat_eq}
+use lib.Pointwise.{pointwise}
+use lib.ListN.{length, get_or}
 use borrow.Author.Tests.{eq-eqb, ne_eqb, lt-ltb, le-ltb, le-leb, lt-leb, eqb-true}
 use borrow.Rule.Slice.PartMut.{put_mid}
 use Rattle.block.specs.declared.Header.{Header}
-use Rattle.block.specs.declared.Read.{Read}
-use Rattle.block.specs.declared.Read.TheVariants as read
-use Rattle.block.specs.Answers.{Refusal, refuse, first_of, block_refusal, header_of, no_header, block_read, number_and_header}
+use Rattle.std.specs.Prelude.{Result, Ok, Err}
+use Rattle.block.specs.declared.BlockFault.{BlockFault}
+use Rattle.block.specs.Answers.{Refusal, refuse, first_of, block_refusal, header_of, block_read, number_and_header}
 use Rattle.block.proofs.AnswerLaws.{is_taken}
 use Rattle.block.proofs.BoolLaws.{both}
 use Rattle.memory.proofs.ByteLaws.{put-paste}
@@ -26,35 +26,23 @@ use Rattle.engine.specs.Answers.{outcome}
 use Rattle.engine.specs.Answers.Answer.{refused, kept}
 use Rattle.engine.specs.Make.{made_memory}
 use Rattle.engine.specs.Moves.{same_bytes, deliver_lent, deliver_refusal, deliver_now, deliver_step}
-use Rattle.engine.proofs.BlockFacts.{taken_block}
 use Rattle.engine.proofs.Passed.{deliver_passed}
 use Rattle.engine.proofs.PlaceLaws.{place-fits}
+use Rattle.call_reply.specs.declared.faults.Fault.{Fault}
+use Rattle.call_reply.specs.Faults.{fault_number, from_block}
 use Rattle.call_reply.specs.Parts.{deliver_parts}
+use Rattle.call_reply.proofs.FaultLaws.{fault_some, from_block-number}
 use Rattle.call_deliver.specs.Lengths.{lengths_fit}
 
 -- ---- bytes compared
 
-pub same_lengths : (a b : List ℕ) → (length a ≡ length b → ⊥) → false ≡ same_bytes a b
+-- by the test of slices
+pub bytes_compared : (a b : List ℕ) → pointwise nat_eq a b ≡ same_bytes a b
 unfolding same_bytes
-same_lengths [] [] h = absurd (h refl)
-same_lengths [] (y ∷ ys) h = refl
-same_lengths (x ∷ xs) [] h = refl
-same_lengths (x ∷ xs) (y ∷ ys) h = rw (← same_lengths xs ys (λ e. h (ap suc e))) (sym (and-false (eqb x y)))
-
-module _ (a b : List ℕ) (i : ℕ) (h : i < length a) (k : i < length b) where
-  same_here : same_bytes (drop i a) (drop i b) ≡ eqb (get_or a i 0) (get_or b i 0) && same_bytes (drop (suc i) a) (drop (suc i) b)
-  unfolding same_bytes
-  same_here = rw (drop-cons a i 0 h, drop-cons b i 0 k)
-
-  pub same-differ : (get_or a i 0 ≡ get_or b i 0 → ⊥) → same_bytes (drop i a) (drop i b) ≡ false
-  same-differ d = rw (same_here, ne_eqb (get_or a i 0) (get_or b i 0) d)
-
-  pub same_next : get_or a i 0 ≡ get_or b i 0 → same_bytes (drop i a) (drop i b) ≡ same_bytes (drop (i + 1) a) (drop (i + 1) b)
-  same_next e = rw (same_here, eq-eqb (get_or a i 0) (get_or b i 0) e, add-one i)
-
-pub same_end : (a b : List ℕ) → length a ≡ length b → same_bytes (drop (length a) a) (drop (length a) b) ≡ true
-unfolding same_bytes
-same_end a b e = rw (drop-length a, e, drop-length b)
+bytes_compared [] [] = refl
+bytes_compared [] (y ∷ ys) = refl
+bytes_compared (x ∷ xs) [] = refl
+bytes_compared (x ∷ xs) (y ∷ ys) = rw (bytes_compared xs ys)
 
 -- ---- the lengths
 
@@ -69,22 +57,16 @@ lengths_long n places outbox bytes h =
 
 -- ---- the reader's answer
 
--- a refusal has a number: a header that is read names two replicas at least
-reader_refused : (b : List ℕ) (r : Read) (n : ℕ) → r ≡ read.Refused n → number_and_header r ≡ block_read b → (n ≡ block_refusal b) × (n ≡ 0 → ⊥)
+reader_refused : (b : List ℕ) (r : Result Header BlockFault) (f : BlockFault) → r ≡ Err f → number_and_header r ≡ block_read b → fault_number (from_block f) ≡ block_refusal b
 unfolding block_read
-reader_refused b r n e h =
-    let a : number_and_header (read.Refused n) ≡ block_read b = rw e at h in
-    let k : n ≡ block_refusal b = ap (λ (x : ℕ × Header). x.0) a in (
-      k,
-      (λ z. let t = sym k ∙ z in
-          let o : no_header ≡ header_of b = rw t at (ap (λ (x : ℕ × Header). x.1) a) in
-          omega (arith, (taken_block b t).replicas, ap (λ (x : Header). x.replicas) o)),
-    )
+reader_refused b r f e h =
+    let a : number_and_header (Err f) ≡ block_read b = rw e at h in
+    from_block-number f ∙ ap (λ (x : ℕ × Header). x.0) a
 
-pub reader_took : (b : List ℕ) (r : Read) (h : Header) → r ≡ read.Message h → number_and_header r ≡ block_read b → (block_refusal b ≡ 0) × (h ≡ header_of b)
+pub reader_took : (b : List ℕ) (r : Result Header BlockFault) (h : Header) → r ≡ Ok h → number_and_header r ≡ block_read b → (block_refusal b ≡ 0) × (h ≡ header_of b)
 unfolding block_read
 reader_took b r h e q =
-    let a : number_and_header (read.Message h) ≡ block_read b = rw e at q in
+    let a : number_and_header (Ok h) ≡ block_read b = rw e at q in
     let k : block_refusal b ≡ 0 = sym (ap (λ (x : ℕ × Header). x.0) a) in
     (k, rw k at (ap (λ (x : ℕ × Header). x.1) a))
 
@@ -107,9 +89,9 @@ module _ (m : Memory) (bytes : List ℕ) where
   unfolding deliver_step deliver_refusal first_of
   deliver-lengths h = rw h
 
-  pub deliver-refused : (n : ℕ) → n ≡ deliver_refusal m bytes → (n ≡ 0 → ⊥) → outcome (refused n) m ≡ deliver_step m bytes
+  pub deliver-refused : (f : Fault) → fault_number f ≡ deliver_refusal m bytes → outcome (refused (fault_number f)) m ≡ deliver_step m bytes
   unfolding deliver_step
-  deliver-refused n e h = rw (← e, ne_eqb n 0 h)
+  deliver-refused f e = rw (← e, ne_eqb (fault_number f) 0 (fault_some f))
 
   module _ (long : deliver_lent m bytes ≡ true) where
     unread : (block_refusal bytes ≡ 0 → ⊥) → block_refusal bytes ≡ deliver_refusal m bytes
@@ -118,11 +100,11 @@ module _ (m : Memory) (bytes : List ℕ) where
         let p = past_first _ _ (ap not (eq-eqb (length bytes) 512 (lengths_long _ m.blocks.places m.blocks.outbox bytes long).bytes)) in
         p ∙ reader_first _ _ _ (λ z. h (p ∙ z)) ∙ sym (past_first _ _ (ap not long))
 
-    pub deliver-unread : (r : Read) (n : ℕ) → r ≡ read.Refused n → number_and_header r ≡ block_read bytes → (a : ℕ) → a ≡ (number_and_header r).0
-        → outcome (refused a) m ≡ deliver_step m bytes
-    deliver-unread r n e h a q =
-        let k = reader_refused bytes r n e h in
-        rw (q, e) (deliver-refused n (k.0 ∙ unread (λ z. k.1 (k.0 ∙ z))) k.1)
+    pub deliver-unread : (r : Result Header BlockFault) (f : BlockFault) → r ≡ Err f → number_and_header r ≡ block_read bytes
+        → outcome (refused (fault_number (from_block f))) m ≡ deliver_step m bytes
+    deliver-unread r f e h =
+        let k = reader_refused bytes r f e h in
+        deliver-refused (from_block f) (k ∙ unread (λ z. fault_some (from_block f) (k ∙ z)))
 
     module _ (taken : block_refusal bytes ≡ 0) (h : Header) (head : h ≡ header_of bytes) where
       -- what is left to test, from the header
@@ -194,18 +176,19 @@ pub place_in : (n slot : ℕ) (places outbox bytes : List ℕ) → lengths_fit n
 place_in n slot places outbox bytes long some at e =
     omega (arith, place-fits n slot some, (lengths_long n places outbox bytes long).places)
 
--- a group whose block is not refused has replicas
-pub group-some : (group : Group) (turn : Turn) (places outbox bytes : List ℕ) (n : ℕ)
-    → ((m : Memory) → n ≡ deliver_refusal (deliver_parts m group turn places outbox) bytes) → n ≡ 0 → 0 < group.replicas
-group-some group turn places outbox bytes n f z =
-    let m = deliver_parts (made_memory 0 0 []) group turn places outbox in
-    let k = deliver_passed m bytes (sym (f (made_memory 0 0 [])) ∙ z) in
-    omega (arith, k.low, k.high)
+-- the place of a block that is not refused: its group has replicas
+pub deliver_room : (group : Group) (turn : Turn) (slot : ℕ) (places outbox bytes : List ℕ) → lengths_fit group.replicas (length places) (length outbox) (length bytes) ≡ true
+    → ((m : Memory) → 0 ≡ deliver_refusal (deliver_parts m group turn places outbox) bytes) → (at : ℕ) → at ≡ place_start group.replicas slot → at + 512 ≤ length places
+deliver_room group turn slot places outbox bytes long taken =
+    let m = made_memory 0 0 [] in
+    let k = deliver_passed (deliver_parts m group turn places outbox) bytes (sym (taken m)) in
+    let some : 0 < group.replicas = omega (arith, k.low, k.high) in
+    place_in group.replicas slot places outbox bytes long some
 
-pub deliver_kept : (m : Memory) (bytes : List ℕ) (n : ℕ) → n ≡ deliver_refusal m bytes → n ≡ 0 → (h : Header) → h ≡ header_of bytes
+pub deliver_kept : (m : Memory) (bytes : List ℕ) → 0 ≡ deliver_refusal m bytes → (h : Header) → h ≡ header_of bytes
     → (at : ℕ) → at ≡ place_start m.group.replicas h.slot → (ys : List ℕ) → ys ≡ bytes
     → outcome kept (with_blocks m (record { places = put_mid at (at + 512 - at) m.blocks.places ys; outbox = m.blocks.outbox; window = m.blocks.window })) ≡ deliver_step m bytes
 unfolding deliver_step deliver_now
-deliver_kept m bytes n e z h head at place ys q =
-    let k = deliver_passed m bytes (sym e ∙ z) in
-    rw (← e, z, ← head, ← place, q, put-paste at m.blocks.places bytes k.long)
+deliver_kept m bytes e h head at place ys q =
+    let k = deliver_passed m bytes (sym e) in
+    rw (← e, ← head, ← place, q, put-paste at m.blocks.places bytes k.long)

@@ -28,7 +28,7 @@ queue_all : (queue : List ℕ) → queue_without [] queue ≡ queue
 queue_all queue = let z : length queue - length queue ≡ 0 = omega arith in rw (without_none queue, z) (append-nil queue)
 
 module _ (w : Record) (turn : Turn) (counts : Counts) (rows : List Txn) (items : List ℕ) where
-  pub own-ended : counts.aborted ≤ 4_294_967_295
+  pub own_ended : counts.aborted ≤ 4_294_967_295
       → ◌≡◌ {A = Ended}
       (let ends = sent_among rows w.ticket in
       record {
@@ -41,7 +41,7 @@ module _ (w : Record) (turn : Turn) (counts : Counts) (rows : List Txn) (items :
       })
       (ended_of true w turn counts rows items)
   unfolding ended_of
-  own-ended h = let e : min (counts.aborted + 0) 4_294_967_295 ≡ counts.aborted = omega arith in rw e
+  own_ended h = let e : min (counts.aborted + 0) 4_294_967_295 ≡ counts.aborted = omega arith in rw e
 
   -- the first n of the tickets are those of the rows hit
   module _ (tickets : List ℕ) (n : ℕ) (few : n ≤ 6) (hit : take n tickets ≡ hit_tickets w.entries items 0 rows) where
@@ -57,8 +57,8 @@ module _ (w : Record) (turn : Turn) (counts : Counts) (rows : List Txn) (items :
         rw (em, ec, ea, l, s)
 
     -- where no row is hit the queue is left as it is
-    pub other-queue : (q queue : List ℕ) → (q ≡ queue_without (take (min n 6) tickets) queue) ⊎ ((n ≡ 0) × (q ≡ queue)) → q ≡ queue_left false w rows items queue
+    pub other-queue : (q queue : List ℕ) → (q ≡ queue_without (take n tickets) queue) ⊎ ((n ≡ 0) × (q ≡ queue)) → q ≡ queue_left false w rows items queue
     other-queue q queue =
         ⊎_elim
-        (λ e. let k : min n 6 ≡ n = omega arith in e ∙ rw (k, hit))
+        (λ e. e ∙ rw hit)
         (λ e. e.1 ∙ sym (queue_all queue) ∙ rw (← hit, e.0))

@@ -9,7 +9,7 @@ ghost use Rattle.engine.specs.Moves.{writeset_at, applied, stamped, sent_among};
 ghost use Rattle.call_ending.specs.Writesets.{no_marks, ended_of, queue_left};
 
 use block_reader::record_at;
-use call_commit::{abort_rows, apply, queue_without};
+use call_commit::{Aborts, abort_rows, apply, queue_without};
 use memory::bytes::byte_at;
 use memory::rows::{bump, row_of};
 use memory::{Counts, Turn, Txn};
@@ -24,16 +24,6 @@ pub struct Ended {
     pub turn: Turn,
     pub count: u8,
     pub marks: [bool; 6],
-}
-
-// The sum, or the type's limit.
-fn add(n: u32, more: u32) -> u32
-    ensures { result ≡ min (n + more) 4294967295 }
-{
-    if n < 4294967295 - more {
-        return n + more;
-    }
-    4294967295
 }
 
 // The replica's own writeset: its transaction ends as committed where it is open as sent. An altered state alone has another, and there nobody ends.
@@ -52,18 +42,15 @@ fn end_own(ticket: u32, rows: [Txn; 6], turn: Turn, counts: Counts) -> Ended
     after.commits = bump(counts.commits);
     let mut marks = [false; 6];
     let row = row_of(rows, ticket);
-    if row < 6 {
-        let t = rows[row];
-        if t.stage == 2 {
-            after.committed = bump(counts.committed);
-            marks[row] = true;
-        }
+    if row < 6 && rows[row].stage == 2 {
+        after.committed = bump(counts.committed);
+        marks[row] = true;
     }
     Ended {
-        ticket: ticket,
-        turn: turn,
+        ticket,
+        turn,
         counts: after,
-        marks: marks,
+        marks,
         aborted: [0; 6],
         count: 0,
     }
@@ -84,28 +71,30 @@ fn end_other(
     ensures { (result ≡ ended_of false (writeset_at block.now j) turn counts rows items.now)
         × (queue.new ≡ queue_left false (writeset_at block.now j) rows items.now queue.old) }
 {
-    let hit = abort_rows(rows, items, block, j);
-    let tickets = hit.tickets;
-    let marks = hit.marks;
-    let n = hit.count;
-    if n != 0 {
-        queue_without(&mut *queue, tickets, n);
+    let Aborts {
+        marks,
+        tickets,
+        count,
+    } = abort_rows(rows, items, block, j);
+    if count != 0 {
+        queue_without(queue, &tickets[..count]);
     }
-    let mut after = counts;
-    after.commits = bump(counts.commits);
-    after.aborted = add(counts.aborted, n as u32);
-    let applying = turn.mark_applying();
     Ended {
-        ticket: ticket,
-        turn: applying,
-        counts: after,
-        marks: marks,
+        ticket,
+        turn: turn.mark_applying(),
+        counts: Counts {
+            commits: bump(counts.commits),
+            aborted: counts.aborted.saturating_add(count as u32),
+            ..counts
+        },
+        marks,
         aborted: tickets,
-        count: n as u8,
+        count: count as u8,
     }
 }
 
 // What a writeset ends among the transactions, by its sender.
+#[tactic(auto, using(crate::proofs::EndingLaws::own_ended))]
 fn end_transactions(
     mine: bool,
     ticket: u32,
@@ -122,9 +111,10 @@ fn end_transactions(
         × (queue.new ≡ queue_left mine (writeset_at block.now j) rows items.now queue.old) }
 {
     if mine {
-        return end_own(ticket, rows, turn, counts);
+        end_own(ticket, rows, turn, counts)
+    } else {
+        end_other(ticket, rows, turn, counts, queue, items, block, j)
     }
-    end_other(ticket, rows, turn, counts, &mut *queue, items, block, j)
 }
 
 // The writeset that is next in the block: what it ends at the replica with this number, and its values and stamps.
@@ -147,21 +137,9 @@ pub fn end_writeset(
         × (stamps.new ≡ stamped result.counts.commits w.entries stamps.old) }
 {
     let j = counts.done as usize;
-    let sender = byte_at(block, 1);
-    let mine = sender == own;
+    let mine = byte_at(block, 1) == own;
     let ticket = record_at(block, j).ticket;
-    let ended = end_transactions(
-        mine,
-        ticket,
-        rows,
-        turn,
-        counts,
-        &mut *queue,
-        items,
-        block,
-        j,
-    );
-    let after = ended.counts;
-    apply(&mut *values, &mut *stamps, block, j, after.commits);
+    let ended = end_transactions(mine, ticket, rows, turn, counts, queue, items, block, j);
+    apply(values, stamps, block, j, ended.counts.commits);
     ended
 }

@@ -1,6 +1,7 @@
 -- Why a giving is turned away, and each of its answers, from the tests that lead to it. Assumes nothing.
-use Prim.Native.Nat.{ℕ, ◌+◌, ◌-◌, ◌<◌, ◌≤◌}
-use mathlib.Core.Path.{◌≡◌, refl, sym, ap, ◌∙◌}
+use Prim.Native.Nat.{ℕ, ◌≤◌, ◌-◌, ◌<◌}
+use mathlib.Core.Path.{◌≡◌, refl, sym, ap, subst, ◌∙◌}
+use Rattle.std.specs.Prelude.{◌≢◌, Option, Some, None, unwrap_or, MatchOption, IsSomeAnd}
 use mathlib.Core.Bool.{Bool, true, false, cond, ◌&&◌}
 use mathlib.Core.List.{List}
 use native.Mathlib.Omega.{arith}
@@ -15,17 +16,17 @@ use Rattle.memory.specs.declared.Group.{Group}
 use Rattle.memory.specs.declared.Turn.{Turn}
 use Rattle.memory.specs.declared.Txn.{Txn}
 use Rattle.memory.specs.Memory.{Memory, no_number, window_bytes, outbox_lent, is_window}
-use Rattle.memory.specs.Rows.{open_count, end_rows}
+use Rattle.memory.specs.Rows.{end_rows}
 use Rattle.engine.specs.Moves.{work_lent}
 use Rattle.engine.proofs.RowLaws.{open_few}
 use Rattle.engine.proofs.Tests.{bool_by, passes}
-use Rattle.giving.specs.Choice.{giver_of}
+use Rattle.giving.specs.Choice.{told_turn, giver_of}
 use Rattle.giving.specs.Giving.{Going, lacks, set_out_field, give_slots, give_lent, given_to, give_refusal, give_step}
 use Rattle.giving.proofs.Choices.{giver_may}
 use Rattle.giving.proofs.Kept.{step_goes, step-refused}
 use Rattle.call_give.specs.declared.Given.{Given}
 use Rattle.call_give.specs.declared.Giving.{Giving}
-use Rattle.call_give.specs.Gifts.{give_parts, Stands, Room, names_giver, give_reply, freed_marks}
+use Rattle.call_give.specs.Gifts.{give_parts, Stands, Room, TurnTold, names_giver, give_reply, freed_marks}
 use Rattle.call_give.proofs.FreedLaws.{gives-freed}
 
 -- ---- the refusals
@@ -40,24 +41,27 @@ module _ (m : Memory) (told lent : List ℕ) where
     unfolding give_refusal first_of
     turned-length h = rw (ne_eqb m.group.own no_number replica, h)
 
-    module _ (long : give_lent m told lent ≡ true) (best : ℕ) (is : giver_of m.group.own told ≡ best) where
-      pub turned-nobody : best ≡ m.group.own → 30 ≡ give_refusal m told lent
+    module _ (long : give_lent m told lent ≡ true) where
+      pub turned-nobody : TurnTold m told None → 30 ≡ give_refusal m told lent
       unfolding give_refusal first_of
-      turned-nobody h = rw (ne_eqb m.group.own no_number replica, long, is, eq-eqb best m.group.own h)
+      turned-nobody T = rw (ne_eqb m.group.own no_number replica, long, eq-eqb (giver_of m.group.own told) m.group.own T)
 
-      module _ (up : best ≡ m.group.own → ⊥) (lacking : Bool) (said : lacking ≡ lacks lent m.turn.slot (given_to m told)) where
+      module _ (to : ℕ) (T : TurnTold m told (Some to)) (lacking : Bool) (said : lacking ≡ lacks lent m.turn.slot to) where
         pub turned-lacking : lacking ≡ true → 31 ≡ give_refusal m told lent
         unfolding give_refusal first_of
-        turned-lacking h = rw (ne_eqb m.group.own no_number replica, long, ← said, h, is, ne_eqb best m.group.own up)
+        turned-lacking h = let e : lacks lent m.turn.slot (given_to m told) ≡ true = sym (rw T.1 at said) ∙ h in rw (ne_eqb m.group.own no_number replica, long, ne_eqb (giver_of m.group.own told) m.group.own T.0, e)
 
         pub turned-not : lacking ≡ false → 0 ≡ give_refusal m told lent
         unfolding give_refusal first_of
-        turned-not h = rw (ne_eqb m.group.own no_number replica, long, ← said, h, is, ne_eqb best m.group.own up)
+        turned-not h = let e : lacks lent m.turn.slot (given_to m told) ≡ false = sym (rw T.1 at said) ∙ h in rw (ne_eqb m.group.own no_number replica, long, ne_eqb (giver_of m.group.own told) m.group.own T.0, e)
 
   -- ---- the giver's number
 
   -- where a number behind 30 or none is answered, turns are told of the giver
-  told_of : (k : ℕ) → eqb 25 k ≡ false → eqb 1 k ≡ false → eqb 30 k ≡ false → give_refusal m told lent ≡ k → giver_of m.group.own told < m.group.replicas
+  abbrev IsUp : Type 0
+  IsUp = (giver_of m.group.own told ≢ m.group.own) × (giver_of m.group.own told < m.group.replicas)
+
+  told_of : (k : ℕ) → eqb 25 k ≡ false → eqb 1 k ≡ false → eqb 30 k ≡ false → give_refusal m told lent ≡ k → IsUp
   unfolding give_refusal
   told_of k s l u e =
       let a = passes (refuse 25 _) _ s e in
@@ -65,12 +69,24 @@ module _ (m : Memory) (told lent : List ℕ) where
       let c = passes (refuse 30 _) _ u b.1 in
       let w = both (work_lent m) _ (not-false (give_lent m told lent) b.0) in
       let t = both (eqb (length told) m.group.replicas) (is_window lent) (both (outbox_lent m) _ w.right).right in
-      omega (arith, eqb-true (length told) m.group.replicas t.left, (giver_may m.group.own told (eqb-false (giver_of m.group.own told) m.group.own c.0)).0)
+      let up = eqb-false (giver_of m.group.own told) m.group.own c.0 in
+      (up, omega (arith, eqb-true (length told) m.group.replicas t.left, (giver_may m.group.own told up).0))
 
-  pub giver-fits : (n : ℕ) → n ≡ give_refusal m told lent → names_giver n ≡ true → giver_of m.group.own told < m.group.replicas
+  pub giver-fits : (n : ℕ) → n ≡ give_refusal m told lent → names_giver n ≡ true → IsUp
   giver-fits n e h = bool_by (eqb n 0)
       (λ q. told_of 0 refl refl refl (sym e ∙ eqb-true n 0 q))
       (λ q. told_of 31 refl refl refl (sym e ∙ eqb-true n 31 (rw q at h)))
+
+-- the giver as the choice finds it
+pub some_up : (best : Option ℕ) (own g n : ℕ) → unwrap_or best own ≡ g → (g ≢ own) × (g < n) → n ≤ 256 → IsSomeAnd best (λ b. b < 256)
+some_up None own g n is up few = absurd (up.0 (sym is))
+some_up (Some b) own g n is up few = omega (arith, is, up.1, few)
+
+pub turn_told : (m : Memory) (told : List ℕ) (best to : Option ℕ) → unwrap_or best m.group.own ≡ giver_of m.group.own told → (best ≡ Some m.group.own → ⊥)
+    → MatchOption best (to ≡ None) (λ g. IsSomeAnd to (λ t. t ≡ told_turn told g)) → TurnTold m told to
+turn_told m told None to is other e = subst (TurnTold m told) (sym e) (sym is)
+turn_told m told (Some g) None is other e = absurd e
+turn_told m told (Some g) (Some t) is other e = (λ q. other (ap (λ (x : ℕ). Some x) (is ∙ q)), e ∙ ap (told_turn told) is)
 
 -- everything lent has its length, the window too
 pub fits_window : (a b c : Bool) (lent : ℕ) (fits : Bool) → fits ≡ (a && (b && (c && eqb lent window_bytes))) → fits ≡ true → lent ≡ window_bytes

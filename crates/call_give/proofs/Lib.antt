@@ -1,6 +1,5 @@
--- Tickets gathered and rows ended, the range that a window has; then a giving call by call and slot by slot, and its answers.
+-- Tickets gathered, the range that a window has; then a giving call by call and slot by slot, and its answers.
 pub mod TicketLaws
-pub mod EndLaws
 pub mod FreedLaws
 pub mod GiftLaws
 pub mod RangeLaws

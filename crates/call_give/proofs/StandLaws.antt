@@ -1,27 +1,26 @@
 -- Where the code is when a call of a giving is done. Assumes nothing.
-use Prim.Native.Nat.{ℕ, suc, ◌+◌, ◌≤◌}
-use mathlib.Core.Path.{◌≡◌, refl, sym, ap, ◌∙◌}
-use mathlib.Core.Bool.{Bool, true, false, cond}
-use mathlib.Core.List.{List, []}
+use Prim.Native.Nat.{ℕ, ◌+◌, ◌≤◌}
+use mathlib.Core.Path.{◌≡◌, refl, ap, ◌∙◌}
+use mathlib.Core.Bool.{true, false, cond}
+use mathlib.Core.List.{List, [], ◌∷◌}
 use native.Mathlib.Omega.{arith}
-use lib.Dec.{eqb}
 use lib.IntN.{ℤ}
-use lib.ListN.{length, get_or, take, drop}
+use lib.ListN.{length, get_or}
 use borrow.Author.Tests.{eq-eqb, ne_eqb}
 use Rattle.memory.specs.declared.Group.{Group}
 use Rattle.memory.specs.Memory.{Memory, span}
 use Rattle.memory.specs.Rows.{open_count, end_rows}
 use Rattle.memory.specs.Turns.{place_start}
-use Rattle.engine.specs.Answers.{Answer, Outcome, number_of}
+use Rattle.engine.specs.Answers.{Answer}
 use Rattle.engine.specs.Answers.Answer.{refused, made, began, got, wrote, queued, read_only, withdrew, reported, sent, kept, worked, loaded, noticed, restarted}
 use Rattle.engine.specs.Calls.{step}
 use Rattle.engine.specs.Calls.Call.{deliver, work}
-use Rattle.engine.specs.Moves.{out_at_turn, nothing_waits, deliver_step, work_step}
+use Rattle.engine.specs.Moves.{out_at_turn, deliver_step, work_step}
 use Rattle.giving.specs.Giving.{aborted_in, gathered, Going, doing, is_wanted}
 use Rattle.giving.proofs.Freed.{length-gathered, work_frees, deliver_names}
 use Rattle.call_reply.specs.declared.WorkReply.{WorkReply}
 use Rattle.call_reply.specs.declared.Worked.{Worked}
-use Rattle.call_reply.specs.Replies.{step_in, six_of, number, work_reply}
+use Rattle.call_reply.specs.Replies.{step_in, six_of, number, work_reply, worked_reply, unworked}
 use Rattle.call_give.specs.declared.Giving.{Giving}
 use Rattle.call_give.specs.Gifts.{give_parts, Stands, Follows}
 use Rattle.call_give.proofs.TicketLaws.{six-gathered}
@@ -68,24 +67,44 @@ module _ (m : Memory) (r : WorkReply) (is : r ≡ work_reply (work_step m)) wher
   room-left n h left e = rw e (omega (arith, frees))
 
 -- q, i, v, s, p, o, k: queue, items, values, stamps, places, outbox and window after the work
-pub stands_worked : (g : Going) (before after : Giving) (w : Worked) (mem : Memory) → Stands g before mem → w.reply ≡ work_reply (work_step mem)
+pub stands_worked : (g : Going) (before after : Giving) (w : Worked) (mem : Memory) → Stands g before mem → worked_reply 0 w ≡ work_reply (work_step mem)
     → (m : Memory) (group : Group) (q i : List ℕ) (v : List ℤ) (s p o k : List ℕ)
     → give_parts m group w.turn w.counts (end_rows w.ended before.rows) q i v s p o k ≡ (work_step mem).memory
-    → before.count + w.reply.count ≤ 6 → Follows before w after
+    → before.count + w.count ≤ 6 → Follows before w after
     → Stands (doing g work) after (give_parts m group after.turn after.counts after.rows q i v s p o k)
 unfolding doing step
 stands_worked g before after w mem S reply m group q i v s p o k leaves few F =
     let l = g.aborted in
-    let ts = gone mem w.reply reply in
+    let ts = gone mem (worked_reply 0 w) reply in
     let same : aborted_in (work_step g.memory).answer ≡ ts = rw (← S.memory) in
     let c = S.count in
-    let n = gone-count mem w.reply reply in
+    let n = gone-count mem (worked_reply 0 w) reply in
     let all = length-gathered ts l in
     record {
       memory = rw (F.turn, F.counts, F.rows) (leaves ∙ rw S.memory);
       number = F.number ∙ ap (λ (x : WorkReply). x.number) reply ∙ rw S.memory;
       count = F.count ∙ rw same (omega arith);
-      aborted = rw same (six-gathered l ts after.aborted (omega arith) (rw (c, n, gone-six mem w.reply reply, S.aborted) at F.named) (rw (c, n, S.aborted) at F.behind));
+      aborted = rw same (six-gathered l ts after.aborted (omega arith) (rw (c, n, gone-six mem (worked_reply 0 w) reply, S.aborted) at F.named) (rw (c, n, S.aborted) at F.behind));
+    }
+
+no_items : (l : List ℕ) → 0 ≡ length l → l ≡ []
+no_items [] h = refl
+no_items (x ∷ xs) h = absurd (omega (arith, h))
+
+-- a refused work leaves all but the number
+pub stands_unworked : (g : Going) (before : Giving) (n : ℕ) (mem : Memory) → Stands g before mem → worked_reply n (unworked before.turn before.counts) ≡ work_reply (work_step mem)
+    → (m : Memory) (group : Group) (q i : List ℕ) (v : List ℤ) (s p o k : List ℕ)
+    → give_parts m group before.turn before.counts before.rows q i v s p o k ≡ (work_step mem).memory
+    → Stands (doing g work) (record before { number = n }) (give_parts m group before.turn before.counts before.rows q i v s p o k)
+unfolding doing step gathered
+stands_unworked g before n mem S reply m group q i v s p o k leaves =
+    let r = worked_reply n (unworked before.turn before.counts) in
+    let none : aborted_in (work_step g.memory).answer ≡ [] = rw (← S.memory) (no_items (gone mem r reply) (gone-count mem r reply)) in
+    record {
+      memory = leaves ∙ rw S.memory;
+      number = ap (λ (x : WorkReply). x.number) reply ∙ rw S.memory;
+      count = rw none S.count;
+      aborted = rw none S.aborted;
     }
 
 -- ---- a deliver, where the block is wanted

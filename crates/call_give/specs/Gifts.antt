@@ -1,5 +1,5 @@
 -- A giving as the code does it: the parts it is lent, how far it is, and its answer.
-use Rattle.std.specs.Prelude.{ℕ, ◌+◌, ◌≤◌, ◌≡◌, Bool, cond, not, ◌&&◌, ◌||◌, List, [], ◌∷◌, eqb, ℤ, length, take, drop, replicate}
+use Rattle.std.specs.Prelude.{ℕ, ◌+◌, ◌≤◌, ◌≡◌, ◌≢◌, Option, Some, None, Bool, cond, not, ◌&&◌, ◌||◌, List, [], ◌∷◌, eqb, ℤ, length, take, drop, replicate}
 use Rattle.memory.specs.declared.Counts.{Counts}
 use Rattle.memory.specs.declared.Group.{Group}
 use Rattle.memory.specs.declared.Turn.{Turn}
@@ -9,7 +9,7 @@ use Rattle.memory.specs.Rows.{is_open, open_count, end_rows}
 use Rattle.call_reply.specs.declared.Worked.{Worked}
 use Rattle.call_reply.specs.Replies.{six_of}
 use Rattle.giving.specs.Choice.{giver_of}
-use Rattle.giving.specs.Giving.{gathered, Going, give_refusal, give_step}
+use Rattle.giving.specs.Giving.{gathered, Going, given_to, give_refusal, give_step}
 use Rattle.call_give.specs.declared.Giving.{Giving}
 use Rattle.call_give.specs.declared.GiveReply.{GiveReply}
 
@@ -37,17 +37,22 @@ pub record Stands (g : Going) (s : Giving) (m : Memory) : Type 0 where
 abbrev pub Room : Giving → Type 0
 Room s = s.count + open_count s.rows ≤ 6
 
--- after one work more: its tickets are put among the others, and nothing behind them is touched
+-- after one accepted work more: its tickets are put among the others, and nothing behind them is touched
 pub record Follows (before : Giving) (w : Worked) (after : Giving) : Type 0 where
   pub rows : after.rows ≡ end_rows w.ended before.rows
   pub turn : after.turn ≡ w.turn
   pub counts : after.counts ≡ w.counts
-  pub number : after.number ≡ w.reply.number
-  pub count : after.count ≡ before.count + w.reply.count
-  pub named : take (before.count + w.reply.count) after.aborted ≡ gathered (take w.reply.count w.reply.aborted) (take before.count before.aborted)
-  pub behind : drop (before.count + w.reply.count) after.aborted ≡ drop (before.count + w.reply.count) before.aborted
+  pub number : after.number ≡ 0
+  pub count : after.count ≡ before.count + w.count
+  pub named : take (before.count + w.count) after.aborted ≡ gathered (take w.count w.aborted) (take before.count before.aborted)
+  pub behind : drop (before.count + w.count) after.aborted ≡ drop (before.count + w.count) before.aborted
 
 -- ---- the answer
+
+-- the giver's turn, where somebody is up
+abbrev pub TurnTold : Memory → List ℕ → Option ℕ → Type 0
+TurnTold m told None = giver_of m.group.own told ≡ m.group.own
+TurnTold m told (Some to) = (giver_of m.group.own told ≢ m.group.own) × (to ≡ given_to m told)
 
 -- by its refusal: the giver is named where the giving is not turned away, and by 31
 abbrev pub names_giver : ℕ → Bool

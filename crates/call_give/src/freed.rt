@@ -8,10 +8,7 @@ use memory::Txn;
 fn is_freed(before: Txn, after: Txn) -> bool
     ensures { result ≡ (is_open before && not (is_open after)) }
 {
-    if before.ticket == 0 {
-        return false;
-    }
-    after.ticket == 0
+    before.ticket != 0 && after.ticket == 0
 }
 
 // A mark for each of them.

@@ -1,14 +1,16 @@
 // A giving, at the returner: it is told the turns of the group, and lent the window of the giver that they name.
 #![tactic(auto)]
 
-ghost use Rattle.std.specs.Prelude.{ℕ, ◌<◌, ◌≡◌, true, cond, ◌&&◌, List, eqb, length, replicate};
+ghost use Rattle.std.specs.Prelude.{ℕ, ◌-◌, ◌<◌, ◌≡◌, true, cond, ◌&&◌, List, IfOk, MatchOption, IsSomeAnd, unwrap_or, eqb, length, replicate};
 ghost use Rattle.memory.specs.Memory.{Memory, window_bytes};
-ghost use Rattle.giving.specs.Choice.{told_turn, giver_of};
 ghost use Rattle.memory.specs.Rows.{end_rows};
-ghost use Rattle.giving.specs.Giving.{give_lent, give_refusal};
-ghost use Rattle.call_give.specs.Gifts.{give_parts, names_giver, no_gift, gift, GivesGift, freed_marks};
+ghost use Rattle.giving.specs.Choice.{told_turn};
+ghost use Rattle.giving.specs.Giving.{give_lent, given_to, give_refusal};
+ghost use Rattle.call_reply.specs.Faults.{fault_number, number_in};
+ghost use Rattle.call_give.specs.Gifts.{give_parts, TurnTold, names_giver, no_gift, gift, GivesGift, freed_marks};
 
 use call_giver::{giver, told_turn};
+use call_reply::faults::Fault;
 use call_work::lengths_fit;
 use memory::{Counts, Group, NO_NUMBER, Turn, Txn, WINDOW_BYTES};
 
@@ -30,6 +32,14 @@ pub struct GiveReply {
     pub giver: u8,
     pub count: u8,
     pub aborted: [u32; 6],
+}
+
+impl From<Fault> for GiveReply {
+    ghost from_gives = { λ f r. r ≡ no_gift (fault_number f) };
+
+    fn from(fault: Fault) -> Self {
+        no_gift(fault.number())
+    }
 }
 
 // How far a giving is: what goes by value, the number that ended it, 0 so far, and the tickets aborted.
@@ -57,7 +67,7 @@ pub fn no_gift(number: u8) -> GiveReply
     ensures { result ≡ no_gift number }
 {
     GiveReply {
-        number: number,
+        number,
         giver: 0,
         count: 0,
         aborted: [0; 6],
@@ -68,51 +78,46 @@ pub fn no_gift(number: u8) -> GiveReply
 fn all_fit(work: bool, replicas: usize, outbox: usize, turns: usize, lent: usize) -> bool
     ensures { result ≡ (work && (eqb outbox 512 && (eqb turns replicas && eqb lent window_bytes))) }
 {
-    if !work {
-        return false;
-    }
-    if outbox != 512 {
-        return false;
-    }
-    if turns != replicas {
-        return false;
-    }
-    lent == WINDOW_BYTES
+    work && outbox == 512 && turns == replicas && lent == WINDOW_BYTES
 }
 
-// Why a giving is turned away, 0 where it is not; `fits` where everything lent has its length, `best` the giver and `to` its turn.
-fn refusal(own: u8, slot: u32, fits: bool, best: usize, to: u32, lent: &[u8]) -> u8
+// The giver's turn, as told.
+fn turn_of(turns: &[u32], best: Option<usize>) -> Option<u32>
+    ensures { MatchOption best (result ≡ None) (λ g. IsSomeAnd result (λ t. t ≡ told_turn turns.now g)) }
+{
+    best.map(|best| told_turn(turns, best))
+}
+
+// How many slots are to be given, or why the giving is turned away; `fits` where everything lent has its length, `to` the giver's turn.
+fn check(own: u8, slot: u32, fits: bool, to: Option<u32>, lent: &[u8]) -> Result<usize, Fault>
     requires { fits ≡ true → length lent.now ≡ window_bytes }
-    ensures { (m : Memory) (told : List ℕ) → m.group.own ≡ own → m.turn.slot ≡ slot → give_lent m told lent.now ≡ fits → giver_of own told ≡ best → told_turn told best ≡ to
-        → result ≡ give_refusal m told lent.now }
+    ensures { (m : Memory) (told : List ℕ) → m.group.own ≡ own → m.turn.slot ≡ slot → give_lent m told lent.now ≡ fits → TurnTold m told to
+        → (number_in result ≡ give_refusal m told lent.now) × (IfOk result (λ n. n ≡ given_to m told - slot)) }
 {
     if own == NO_NUMBER {
-        return 25;
+        return Err(Fault::StationOnlyReads);
     }
     if !fits {
-        return 1;
+        return Err(Fault::WrongLength);
     }
-    if best == own as usize {
-        return 30;
-    }
+    let Some(to) = to else {
+        return Err(Fault::NobodyUp);
+    };
     if lacks(lent, slot, to) {
-        return 31;
+        return Err(Fault::WindowLacks);
     }
-    0
+    Ok(slots_between(slot, to))
 }
 
-// The giver's number where the refusal, 0 for none, names it.
-fn named(refusal: u8, best: usize) -> u8
-    requires { names_giver refusal ≡ true → best < 256 }
-    ensures { result ≡ cond (names_giver refusal) best 0 }
+// The giver's number where the check names it.
+fn named(checked: Result<usize, Fault>, best: Option<usize>) -> u8
+    requires { names_giver (number_in checked) ≡ true → IsSomeAnd best (λ b. b < 256) }
+    ensures { (own : ℕ) → result ≡ cond (names_giver (number_in checked)) (unwrap_or best own) 0 }
 {
-    if refusal == 0 {
-        return best as u8;
+    match (checked, best) {
+        (Ok(_) | Err(Fault::WindowLacks), Some(best)) => best as u8,
+        _ => 0,
     }
-    if refusal == 31 {
-        return best as u8;
-    }
-    0
 }
 
 // No slot taken yet; where the giving is turned away, none ever.
@@ -120,10 +125,10 @@ fn set_out(rows: [Txn; 6], turn: Turn, counts: Counts, number: u8) -> Giving
     ensures { result ≡ record { rows = rows; turn = turn; counts = counts; number = number; count = 0; aborted = replicate 6 0 } }
 {
     Giving {
-        rows: rows,
-        turn: turn,
-        counts: counts,
-        number: number,
+        rows,
+        turn,
+        counts,
+        number,
         count: 0,
         aborted: [0; 6],
     }
@@ -138,20 +143,17 @@ fn answer(rows: [Txn; 6], end: Giving, giver: u8) -> Given
           ended = freed_marks rows end.rows;
         } }
 {
-    let after = end.rows;
-    let turn = end.turn;
-    let counts = end.counts;
     let aborted = end.aborted;
     Given {
         reply: GiveReply {
             number: end.number,
-            giver: giver,
+            giver,
             count: end.count,
-            aborted: aborted,
+            aborted,
         },
-        turn: turn,
-        counts: counts,
-        ended: freed(rows, after),
+        turn: end.turn,
+        counts: end.counts,
+        ended: freed(rows, end.rows),
     }
 }
 
@@ -190,25 +192,17 @@ pub fn give(
     let n = group.replicas as usize;
     let fits = all_fit(work, n, outbox.len(), turns.len(), lent.len());
     let best = giver(group.own, turns);
-    let to = told_turn(turns, best);
-    let number = refusal(group.own, turn.slot, fits, best, to, lent);
-    let start = set_out(rows, turn, counts, number);
-    let who = named(number, best);
-    if number != 0 {
-        return answer(rows, start, who);
+    let to = turn_of(turns, best);
+    let checked = check(group.own, turn.slot, fits, to, lent);
+    let who = named(checked, best);
+    match checked {
+        Ok(count) => {
+            let start = set_out(rows, turn, counts, 0);
+            let end = give_slots(
+                start, count, group, queue, items, values, stamps, places, outbox, window, lent,
+            );
+            answer(rows, end, who)
+        }
+        Err(fault) => answer(rows, set_out(rows, turn, counts, fault.number()), who),
     }
-    let end = give_slots(
-        start,
-        slots_between(turn.slot, to),
-        group,
-        &mut *queue,
-        items,
-        &mut *values,
-        &mut *stamps,
-        &mut *places,
-        outbox,
-        &mut *window,
-        lent,
-    );
-    answer(rows, end, who)
 }

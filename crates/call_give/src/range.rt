@@ -13,10 +13,7 @@ fn is_for(place: &[u8], slot: u32) -> bool
     requires { length place.now ≡ 512 }
     ensures { result ≡ (not (eqb (get_or place.now 0 0) 0) && eqb (header_of place.now).slot slot) }
 {
-    if place[0] == 0 {
-        return false;
-    }
-    number(place[4], place[5], place[6], place[7]) == slot
+    place[0] != 0 && number(place[4], place[5], place[6], place[7]) == slot
 }
 
 // Whether the window has a block for the slot.
@@ -25,33 +22,22 @@ fn holds(window: &[u8], slot: u32) -> bool
     ensures { result ≡ holds window.now slot }
 {
     let at = place_start(WINDOW_SLOTS, slot);
-    let end = at + 512;
-    is_for(&window[at..end], slot)
+    is_for(&window[at..at + 512], slot)
 }
 
 // Whether it lacks one for a slot of the range: by the range's length and its two ends.
+#[tactic(auto, unfolding(giving::specs::Giving::lacks))]
 pub fn lacks(window: &[u8], from: u32, to: u32) -> bool
     requires { length window.now ≡ window_bytes }
     ensures { result ≡ lacks window.now from to }
 {
-    if to <= from {
-        return false;
-    }
-    if (WINDOW_SLOTS as u32) < to - from {
-        return true;
-    }
-    if !holds(window, from) {
-        return true;
-    }
-    !holds(window, to - 1)
+    from < to
+        && ((WINDOW_SLOTS as u32) < to - from || !holds(window, from) || !holds(window, to - 1))
 }
 
 // How many slots the range has.
 pub fn slots_between(from: u32, to: u32) -> usize
     ensures { result ≡ to - from }
 {
-    if to <= from {
-        return 0;
-    }
-    (to - from) as usize
+    to.saturating_sub(from) as usize
 }

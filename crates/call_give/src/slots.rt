@@ -7,10 +7,12 @@ ghost use Rattle.call_reply.specs.Parts.{deliver_parts};
 ghost use Rattle.call_give.specs.Gifts.{give_parts, Stands, Room, Follows};
 
 use super::Giving;
-use super::tickets::{end_rows, gather};
+use super::tickets::gather;
 use call_deliver::deliver;
 use call_reply::Worked;
+use call_reply::faults::number_of;
 use call_work::work;
+use host_table::end_rows;
 use memory::bytes::byte_at;
 use memory::cursor::place_start;
 use memory::notices::is_out;
@@ -32,35 +34,29 @@ fn deliver_wanted(
         let d = cond (is_wanted g.memory) (doing g (deliver block.now)) g in
         (result ≡ d.number) × (deliver_parts m group turn places.new outbox.now ≡ d.memory) × (g.aborted ≡ d.aborted) }
 {
-    if is_out(group, turn.slot) {
-        return number;
-    }
     let at = place_start(group.replicas, turn.slot);
-    if byte_at(&*places, at) != 0 {
+    if is_out(group, turn.slot) || byte_at(places, at) != 0 {
         return number;
     }
-    deliver(group, turn, &mut *places, outbox, block)
+    number_of(deliver(group, turn, places, outbox, block))
 }
 
-// What a work leaves of what goes by value; its tickets come to those named before.
+// What an accepted work leaves of what goes by value; its tickets come to those named before.
 fn after_work(before: Giving, worked: Worked) -> Giving
-    requires { before.count + worked.reply.count ≤ 6 }
+    requires { before.count + worked.count ≤ 6 }
     ensures { Follows before worked result }
 {
-    let rows = before.rows;
-    let list = before.aborted;
-    let reply = worked.reply;
-    let more = reply.aborted;
-    let ended = worked.ended;
-    let turn = worked.turn;
-    let counts = worked.counts;
+    let mut rows = before.rows;
+    end_rows(&mut rows, worked.ended);
+    let more = &worked.aborted[..worked.count as usize];
+    let aborted = gather(before.aborted, before.count as usize, more);
     Giving {
-        rows: end_rows(rows, ended),
-        turn: turn,
-        counts: counts,
-        number: reply.number,
-        count: before.count + reply.count,
-        aborted: gather(list, before.count as usize, more, reply.count as usize),
+        rows,
+        turn: worked.turn,
+        counts: worked.counts,
+        number: 0,
+        count: before.count + worked.count,
+        aborted,
     }
 }
 
@@ -82,33 +78,32 @@ fn do_work(
         → Stands (doing g work) result
         (give_parts m group result.turn result.counts result.rows queue.new items.now values.new stamps.new places.new m.blocks.outbox window.new)) }
 {
-    let rows = before.rows;
-    let turn = before.turn;
-    let counts = before.counts;
     let worked = work(
-        rows,
+        before.rows,
         group,
-        turn,
-        counts,
-        &mut *queue,
+        before.turn,
+        before.counts,
+        queue,
         items,
-        &mut *values,
-        &mut *stamps,
-        &mut *places,
-        &mut *window,
+        values,
+        stamps,
+        places,
+        window,
     );
-    after_work(before, worked)
+    match worked {
+        Ok(worked) => after_work(before, worked),
+        Err(fault) => Giving {
+            number: fault.number(),
+            ..before
+        },
+    }
 }
 
 // Whether the slot is to be worked on: nothing was refused, and the turn has not left it.
 fn goes_on(state: Giving, slot: u32) -> bool
     ensures { result ≡ (eqb state.number 0 && eqb state.turn.slot slot) }
 {
-    if state.number != 0 {
-        return false;
-    }
-    let turn = state.turn;
-    turn.slot == slot
+    state.number == 0 && state.turn.slot == slot
 }
 
 // Works, as many as a block has writesets at most, until the turn has left the slot.
@@ -131,23 +126,11 @@ fn work_out(
         (give_parts m group result.turn result.counts result.rows queue.new items.now values.new stamps.new places.new m.blocks.outbox window.new)) }
 {
     let mut after = before;
-    let mut works: usize = 0;
-    while works < MOST_WRITESETS {
+    for _work in 0..MOST_WRITESETS {
         if !goes_on(after, slot) {
-            return after;
+            break;
         }
-        let next = do_work(
-            after,
-            group,
-            &mut *queue,
-            items,
-            &mut *values,
-            &mut *stamps,
-            &mut *places,
-            &mut *window,
-        );
-        after = next;
-        works += 1;
+        after = do_work(after, group, queue, items, values, stamps, places, window);
     }
     after
 }
@@ -173,19 +156,17 @@ pub fn take_slot(
         (give_parts m group result.turn result.counts result.rows queue.new items.now values.new stamps.new places.new outbox.now window.new)) }
 {
     let turn = before.turn;
-    let number = deliver_wanted(before.number, group, turn, &mut *places, outbox, block);
-    let mut placed = before;
-    placed.number = number;
+    let number = deliver_wanted(before.number, group, turn, places, outbox, block);
     work_out(
-        placed,
+        Giving { number, ..before },
         turn.slot,
         group,
-        &mut *queue,
+        queue,
         items,
-        &mut *values,
-        &mut *stamps,
-        &mut *places,
-        &mut *window,
+        values,
+        stamps,
+        places,
+        window,
     )
 }
 
@@ -211,28 +192,15 @@ pub fn give_slots(
         (give_parts m group result.turn result.counts result.rows queue.new items.now values.new stamps.new places.new outbox.now window.new) }
 {
     let mut after = before;
-    let mut i: usize = 0;
-    while i < count {
+    for _slot in 0..count {
         if after.number != 0 {
-            return after;
+            break;
         }
-        let turn = after.turn;
-        let at = place_start(WINDOW_SLOTS, turn.slot);
-        let end = at + 512;
-        let next = take_slot(
-            after,
-            group,
-            &mut *queue,
-            items,
-            &mut *values,
-            &mut *stamps,
-            &mut *places,
-            outbox,
-            &mut *window,
-            &lent[at..end],
+        let at = place_start(WINDOW_SLOTS, after.turn.slot);
+        let block = &lent[at..at + 512];
+        after = take_slot(
+            after, group, queue, items, values, stamps, places, outbox, window, block,
         );
-        after = next;
-        i += 1;
     }
     after
 }

@@ -7,19 +7,20 @@ use native.Mathlib.Numerals.{add-one}
 use native.Mathlib.Omega.{arith}
 use lib.Dec.{eqb}
 use lib.IntN.{ℤ}
-use lib.ListN.{length, get_or, take, drop, replicate, length-drop}
+use lib.ListN.{length, get_or, take, drop, replicate}
 use borrow.Author.Tests.{eqb-true}
-use lib.Seq.{drop-drop, length-take-le}
+use lib.Seq.{drop-drop}
 use Rattle.block.specs.Answers.{header_of}
 use Rattle.block.proofs.BoolLaws.{both}
-use Rattle.block.proofs.ListLaws.{lent}
 use Rattle.memory.specs.Notices.{Notice}
 use Rattle.memory.specs.Window.{keeping, keeping_all}
 use Rattle.engine.specs.Restart.{Replayed, is_good, blocks_from, blocks_in, writesets_in, commit_all, commit_blocks, is_from, highest_own, own_writesets, last_own}
 use Rattle.engine.proofs.Tests.{bool_by}
 use Rattle.engine.proofs.BlockFacts.{taken_block}
 use Rattle.engine.proofs.RestartLaws.{good_taken, reads_good, reads_few, count-few, own-few}
+use Rattle.std.specs.Simd.{first_chunks}
 use Rattle.call_journal.specs.declared.JournalTally.{JournalTally}
+use Rattle.call_journal.proofs.ChunkLaws.{read_at}
 use Rattle.call_journal.specs.Replays.{replayed, block_number, is_given, last_number, tallied, Replays}
 
 -- block i of a journal, and the blocks read from it on
@@ -34,15 +35,9 @@ abbrev pub is_next : ℕ → List ℕ → ℕ → Bool
 is_next n journal i = is_good n (block_at journal i) && eqb (header_of (block_at journal i)).slot i
 
 module _ (n : ℕ) (journal : List ℕ) (i : ℕ) where
-  -- block i as the part of the journal that is lent
-  pub lent-block : lent (512 * i) (512 * i + 512) journal ≡ block_at journal i
-  lent-block = let k : 512 * i + 512 - 512 * i ≡ 512 = omega arith in rw k
-
-  pub block_long : i < length journal / 512 → length (lent (512 * i) (512 * i + 512) journal) ≡ 512
-  block_long h = rw lent-block (length-take-le 512 (drop (512 * i) journal) (simp length-drop (omega arith)))
-
-  pub next-is : (r : Bool) → (let b = lent (512 * i) (512 * i + 512) journal in r ≡ (is_good n b && eqb (header_of b).slot i)) → is_next n journal i ≡ r
-  next-is r e = sym (rw lent-block at e)
+  -- block i as it is read: t are read before it
+  pub read_is : (chunks : List (List ℕ)) → chunks ≡ first_chunks 512 (length journal / 512) journal → i < length journal / 512 → {t : ℕ} → t ≡ i → get_or chunks i [] ≡ block_at journal t
+  read_is chunks is h e = rw e (read_at 512 i journal [] chunks is h)
 
   rest-cons : i < length journal / 512 → is_next n journal i ≡ true → rest n journal i ≡ block_at journal i ∷ rest n journal (i + 1)
   unfolding blocks_from

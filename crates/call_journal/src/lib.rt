@@ -9,7 +9,6 @@ ghost use Rattle.engine.specs.Restart.{is_good, writesets_in, commit_all, highes
 ghost use Rattle.call_reply.specs.Notices.{notices_in};
 ghost use Rattle.call_journal.specs.Replays.{replayed, tallied, Replays};
 
-use block::Read;
 use block_reader::{read_block, record_at};
 use call_commit::apply;
 use memory::rows::bump;
@@ -21,7 +20,7 @@ use notices::puts_out;
 
 // What the blocks read so far come to: how many they are, the commit count behind them, and of the own ones the highest ticket, how many writesets they have, and
 // which is the last outside out slots: how many blocks there are up to it, 0 where there is none.
-#[derive(Clone, Copy)]
+#[derive(Clone, Copy, Default)]
 pub struct JournalTally {
     pub blocks: u32,
     pub commits: u32,
@@ -34,47 +33,32 @@ pub struct JournalTally {
 fn is_next(block: &[u8], n: u32, slot: u32) -> bool
     ensures { result ≡ (is_good n block.now && eqb (header_of block.now).slot slot) }
 {
-    let read = read_block(block);
-    let Read::Message(header) = read else {
-        return false;
-    };
-    if header.replicas as u32 != n {
-        return false;
+    match read_block(block) {
+        Ok(header) => header.replicas as u32 == n && header.slot == slot,
+        Err(_) => false,
     }
-    header.slot == slot
 }
 
 // The block's writesets in order; the commit count behind them.
-fn commit_block(values: &mut [i32], stamps: &mut [u32], block: &[u8], commits: u32) -> u32
-    requires { length block.now ≡ 512 }
+fn commit_block(values: &mut [i32], stamps: &mut [u32], block: &[u8; 512], commits: u32) -> u32
     ensures { replayed result values.new stamps.new
         ≡ commit_all (replayed commits values.old stamps.old) (writesets_in block.now) }
 {
-    let count = block[3] as usize;
     let mut after = commits;
-    let mut j: usize = 0;
-    while j < count {
+    for j in 0..block[3] as usize {
         after = bump(after);
-        apply(&mut *values, &mut *stamps, block, j, after);
-        j += 1;
+        apply(values, stamps, block, j, after);
     }
     after
 }
 
 // The ticket, or a higher one of the block's writesets: the highest.
-fn highest_ticket(ticket: u32, block: &[u8]) -> u32
-    requires { length block.now ≡ 512 }
+fn highest_ticket(ticket: u32, block: &[u8; 512]) -> u32
     ensures { result ≡ max ticket (highest_ticket (writesets_in block.now)) }
 {
-    let count = block[3] as usize;
     let mut highest = ticket;
-    let mut j: usize = 0;
-    while j < count {
-        let other = record_at(block, j).ticket;
-        if highest < other {
-            highest = other;
-        }
-        j += 1;
+    for j in 0..block[3] as usize {
+        highest = highest.max(record_at(block, j).ticket);
     }
     highest
 }
@@ -84,26 +68,31 @@ fn count_block(
     before: JournalTally,
     commits: u32,
     own: u32,
-    block: &[u8],
+    block: &[u8; 512],
     notices: &[u32],
 ) -> JournalTally
-    requires { (length block.now ≡ 512) × (before.blocks < 4294967295) × (before.committed + get_or block.now 3 0 ≤ 4294967295) }
+    requires { (before.blocks < 4294967295) × (before.committed + get_or block.now 3 0 ≤ 4294967295) }
     ensures { result ≡ tallied own (notices_in notices.now) before commits block.now }
 {
-    let next = before.blocks + 1;
-    let mut after = before;
-    after.blocks = next;
-    after.commits = commits;
+    let blocks = before.blocks + 1;
     if block[1] as u32 != own {
-        return after;
+        return JournalTally {
+            blocks,
+            commits,
+            ..before
+        };
     }
-    after.highest = highest_ticket(before.highest, block);
-    after.committed = before.committed + block[3] as u32;
-    if puts_out(notices, own, before.blocks) {
-        return after;
+    JournalTally {
+        blocks,
+        commits,
+        highest: highest_ticket(before.highest, block),
+        committed: before.committed + block[3] as u32,
+        last: if puts_out(notices, own, before.blocks) {
+            before.last
+        } else {
+            blocks
+        },
     }
-    after.last = next;
-    after
 }
 
 // The journal's blocks, each read and committed where it lies and kept in the window, up to one that is not the next good one.
@@ -120,24 +109,14 @@ pub fn read_journal(
     ensures { Replays n own journal.now (notices_in notices.now) (replayed 0 values.old stamps.old) window.old
         values.new stamps.new window.new result }
 {
-    let most = journal.len() / 512;
-    let mut tally = JournalTally {
-        blocks: 0,
-        commits: 0,
-        highest: 0,
-        committed: 0,
-        last: 0,
-    };
-    while (tally.blocks as usize) < most {
-        let at = 512 * tally.blocks as usize;
-        let block = &journal[at..at + 512];
+    let mut tally = JournalTally::default();
+    for block in journal.as_chunks::<512>().0 {
         if !is_next(block, n, tally.blocks) {
-            return tally;
+            break;
         }
-        let commits = commit_block(&mut *values, &mut *stamps, block, tally.commits);
-        keep(&mut *window, tally.blocks, block);
-        let after = count_block(tally, commits, own, block, notices);
-        tally = after;
+        let commits = commit_block(values, stamps, block, tally.commits);
+        keep(window, tally.blocks, block);
+        tally = count_block(tally, commits, own, block, notices);
     }
     tally
 }

@@ -1,4 +1,4 @@
--- Each answer of a make, from the tests that lead to it. Assumes nothing.
+-- What a make gives, refused or not. Assumes nothing.
 use Prim.Native.Nat.{ℕ, ◌*◌, ◌≤◌, ◌<◌, min}
 use mathlib.Core.Path.{◌≡◌, refl, sym, ap, ◌∙◌}
 use mathlib.Core.Bool.{Bool, true, false, not, ◌&&◌, ◌||◌, true≢false}
@@ -24,7 +24,10 @@ use Rattle.engine.specs.Answers.{outcome}
 use Rattle.engine.specs.Answers.Answer.{refused, made}
 use Rattle.engine.specs.Make.{turn_zero, counts_zero, made_memory, places_fit, slices_fit, parts_fit, make_refusal, make_step}
 use Rattle.call_reply.specs.Parts.{all_parts}
-use Rattle.call_make.specs.Made.{if_made}
+use Rattle.call_reply.specs.declared.faults.Fault.{Fault}
+use Rattle.call_reply.specs.Faults.{fault_number}
+use Rattle.call_reply.proofs.FaultLaws.{fault_some}
+use Rattle.call_make.specs.Made.{refusal_of}
 
 pub record Long (m : Memory) : Type 0 where
   pub queue : length m.txns.queue ≡ 6
@@ -59,10 +62,6 @@ slices_long m h =
       window = eqb-true _ window_bytes k.right;
     }
 
--- 128 values copied over 128
-paste_whole : (d l : List ℤ) → length d ≡ 128 → length l ≡ 128 → paste d 0 l (min (length l) (length d)) ≡ l
-paste_whole d l h k = rw (k, h, take_all 128 l (omega arith), drop_of_length-le d {i = 128} (omega arith)) (append-nil l)
-
 made_is : (n own : ℕ) (values : List ℤ) {q i : List ℕ} {w s v : List ℤ} {t k p o l : List ℕ} → q ≡ replicate 6 0 → i ≡ replicate 48 0 → w ≡ replicate 48 (pos 0)
     → s ≡ replicate 768 (pos 0) → v ≡ values → t ≡ replicate 128 0 → k ≡ replicate 128 0 → p ≡ replicate (512 * n) 0 → o ≡ replicate 512 0 → l ≡ empty_window
     → all_parts (group_of n own) turn_zero counts_zero (replicate 6 closed) q i w s v t k p o l ≡ made_memory n own values
@@ -73,40 +72,6 @@ made_is n own values eq ei ew es ev et ek ep eo el = λ z. all_parts (group_of n
 cleared : (k : ℕ) → k ≡ window_bytes → replicate k 0 ≡ empty_window
 unfolding empty_window
 cleared k e = ap (λ (z : ℕ). replicate z 0) e
-
-module _ (m : Memory) (n own : ℕ) (values : List ℤ) where
-  pub make-start : (length values ≡ 128 → ⊥) → 1 ≡ make_refusal m n own values
-  unfolding make_refusal first_of
-  make-start h = rw (ne_eqb (length values) 128 h)
-
-  module _ (start : length values ≡ 128) where
-    pub make-slices : slices_fit m ≡ false → 1 ≡ make_refusal m n own values
-    unfolding make_refusal parts_fit first_of
-    make-slices h = rw (eq-eqb (length values) 128 start, h)
-
-    module _ (slices : slices_fit m ≡ true) where
-      pub make-places : places_fit m.blocks.places n ≡ false → 1 ≡ make_refusal m n own values
-      unfolding make_refusal parts_fit first_of
-      make-places h = rw (eq-eqb (length values) 128 start, slices, h)
-
-      module _ (places : places_fit m.blocks.places n ≡ true) where
-        pub make-few : n < 2 → 2 ≡ make_refusal m n own values
-        unfolding make_refusal parts_fit within first_of
-        make-few h = rw (eq-eqb (length values) 128 start, slices, places, lt-leb 2 n h)
-
-        module _ (some : 2 ≤ n) where
-          pub make-many : 6 < n → 2 ≡ make_refusal m n own values
-          unfolding make_refusal parts_fit within first_of
-          make-many h = rw (eq-eqb (length values) 128 start, slices, places, le-leb 2 n some, lt-leb n 6 h)
-
-          module _ (most : n ≤ 6) where
-            pub make-own : n ≤ own → 2 ≡ make_refusal m n own values
-            unfolding make_refusal parts_fit within first_of
-            make-own h = rw (eq-eqb (length values) 128 start, slices, places, le-leb 2 n some, le-leb n 6 most, le-leb n own h)
-
-            pub make-free : own < n → 0 ≡ make_refusal m n own values
-            unfolding make_refusal parts_fit within first_of
-            make-free h = rw (eq-eqb (length values) 128 start, slices, places, le-leb 2 n some, le-leb n 6 most, lt-leb n own h)
 
 -- what a make that is not refused has been given
 pub record Given (m : Memory) (n own : ℕ) (values : List ℤ) : Type 0 where
@@ -139,38 +104,34 @@ given m n own values e =
       own-low = leb-false n own r.1;
     }
 
-pub if_refused : {A : Type 0} (k : ℕ) (new old : A) → (k ≡ 0 → ⊥) → old ≡ if_made k new old
-if_refused k new old h = rw (ne_eqb k 0 h)
+module _ (m : Memory) (n own : ℕ) (values : List ℤ) where
+  pub refusal_is : make_refusal m n own values ≡ refusal_of n own (length values) (slices_fit m) (not (within 2 6 n) || eqb (length m.blocks.places) (512 * n))
+  unfolding make_refusal parts_fit places_fit
+  refusal_is = refl
 
-module _ (m : Memory) (n own : ℕ) (values : List ℤ) (k : ℕ) (number : k ≡ make_refusal m n own values) where
-  -- whatever group, turn, counts and table the number comes with
-  pub make-refused : (k ≡ 0 → ⊥) → (group : Group) (turn : Turn) (counts : Counts) (rows : List Txn)
-      → outcome (refused k)
-      (all_parts (if_made k group m.group) (if_made k turn m.turn) (if_made k counts m.counts) (if_made k rows m.txns.table) m.txns.queue m.txns.items m.txns.writes m.txns.snapshots
-      m.store.values m.store.stamps m.store.classes m.blocks.places m.blocks.outbox m.blocks.window)
-      ≡ make_step m n own values
+  pub make-refused : (f : Fault) → fault_number f ≡ make_refusal m n own values → outcome (refused (fault_number f)) m ≡ make_step m n own values
   unfolding make_step
-  make-refused h group turn counts rows = rw (← number, ne_eqb k 0 h)
+  make-refused f number = rw (← number, ne_eqb (fault_number f) 0 (fault_some f))
 
   -- what the functions that clear and copy leave of the lent slices
-  pub make-taken : k ≡ 0 → (q i : List ℕ) (w s v : List ℤ) (t x p o l : List ℕ)
+  pub make-taken : 0 ≡ make_refusal m n own values → (q i : List ℕ) (w s v : List ℤ) (t x p o l : List ℕ)
       → q ≡ replicate (length m.txns.queue) 0 → i ≡ replicate (length m.txns.items) 0
       → w ≡ replicate (length m.txns.writes) (pos 0) → s ≡ replicate (length m.txns.snapshots) (pos 0)
-      → v ≡ paste m.store.values 0 values (min (length values) (length m.store.values)) → t ≡ replicate (length m.store.stamps) 0 → x ≡ replicate (length m.store.classes) 0
+      → v ≡ values → t ≡ replicate (length m.store.stamps) 0 → x ≡ replicate (length m.store.classes) 0
       → p ≡ replicate (length m.blocks.places) 0 → o ≡ replicate (length m.blocks.outbox) 0 → l ≡ replicate (length m.blocks.window) 0
       → outcome made (all_parts (group_of n own) turn_zero counts_zero (replicate 6 closed) q i w s v t x p o l) ≡ make_step m n own values
   unfolding make_step
-  make-taken h q i w s v t x p o l eq ei ew es ev et ex ep eo el =
-      let g = given m n own values (sym number ∙ h) in
+  make-taken number q i w s v t x p o l eq ei ew es ev et ex ep eo el =
+      let g = given m n own values (sym number) in
       let f = g.long in
-      rw (← number, h)
+      rw (← number)
       (ap (outcome made)
       (made_is n own values
       (eq ∙ ap (λ (z : ℕ). replicate z 0) f.queue)
       (ei ∙ ap (λ (z : ℕ). replicate z 0) f.items)
       (ew ∙ ap (λ (z : ℕ). replicate z (pos 0)) f.writes)
       (es ∙ ap (λ (z : ℕ). replicate z (pos 0)) f.snapshots)
-      (ev ∙ paste_whole m.store.values values f.values g.start)
+      ev
       (et ∙ ap (λ (z : ℕ). replicate z 0) f.stamps)
       (ex ∙ ap (λ (z : ℕ). replicate z 0) f.classes)
       (ep ∙ ap (λ (z : ℕ). replicate z 0) g.places)

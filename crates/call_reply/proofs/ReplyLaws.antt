@@ -6,7 +6,7 @@ use native.Mathlib.Omega.{arith}
 use lib.ListN.{length, take, drop, replicate, take-append-drop}
 use lib.Seq.{length-take-le}
 use Rattle.engine.specs.Answers.{Outcome}
-use Rattle.engine.specs.Answers.Outcome.{answer, memory}
+use Rattle.engine.specs.Answers.Outcome.{memory}
 use Rattle.call_reply.specs.Replies.{six_of, number, Gives, block_left, GivesWith, GivesBlock}
 
 -- an outcome that is the step's gives what the step gives

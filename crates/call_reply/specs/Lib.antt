@@ -1,5 +1,7 @@
--- What a call is lent, and what it answers a host.
+-- What a call is lent, what it answers a host, and why it is refused.
 pub mod Parts
 pub mod Replies
 pub mod Called
 pub mod Notices
+pub mod Faults
+pub mod Clients

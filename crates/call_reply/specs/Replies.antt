@@ -1,5 +1,7 @@
 -- What a call hands a host beside the memory: each reply is a function of the call's outcome.
 use Rattle.std.specs.Prelude.{ℕ, ◌-◌, ◌≡◌, Bool, true, false, not, List, [], ◌++◌, eqb, ℤ, pos, length, replicate}
+use Rattle.memory.specs.declared.Counts.{Counts}
+use Rattle.memory.specs.declared.Turn.{Turn}
 use Rattle.memory.specs.Memory.{Memory}
 use Rattle.engine.specs.declared.Report.{Report}
 use Rattle.engine.specs.Answers.{WorkDone, Answer, number_of, Outcome}
@@ -10,6 +12,7 @@ use Rattle.call_reply.specs.declared.AskReply.{AskReply}
 use Rattle.call_reply.specs.declared.ReportReply.{ReportReply}
 use Rattle.call_reply.specs.declared.WorkReply.{WorkReply}
 use Rattle.call_reply.specs.declared.RestartReply.{RestartReply}
+use Rattle.call_reply.specs.declared.Worked.{Worked}
 
 -- ---- what an answer gives; nothing, as 0 or empty, where it is another call's or refused
 
@@ -123,7 +126,7 @@ count_in noticed = 0
 
 -- ---- the replies
 
--- document 01's number
+-- the number of the refusal, 0 where the call is accepted
 abbrev pub number : Outcome → ℕ
 number o = number_of o.answer
 
@@ -155,6 +158,24 @@ work_reply o =
       aborted = six_of s.aborted;
       append = not (eqb (length s.append) 0);
     }
+
+-- the same, from what a work did, and its number
+abbrev pub worked_reply : ℕ → Worked → WorkReply
+worked_reply n w = record { number = n; sender = w.sender; moved = w.moved; count = w.count; ticket = w.ticket; aborted = w.aborted; append = w.append }
+
+-- what a refused work did: nothing
+abbrev pub unworked : Turn → Counts → Worked
+unworked turn counts = record {
+  aborted = replicate 6 0;
+  ticket = 0;
+  counts = counts;
+  turn = turn;
+  sender = 0;
+  moved = false;
+  count = 0;
+  append = false;
+  ended = replicate 6 false;
+}
 
 abbrev pub restart_reply : Outcome → RestartReply
 restart_reply o = record { number = number o; count = count_in o.answer }

@@ -4,9 +4,11 @@
 use engine::Report;
 use memory::{Counts, Group, Turn, Txn};
 
+pub mod checks;
+pub mod faults;
 pub mod replies;
 
-// In each reply document 01's number, 0 where the call is accepted. The ticket is 0 where the begin is refused.
+// In each reply the number of the refusal, 0 where the call is accepted. The ticket is 0 where the begin is refused.
 #[repr(C)]
 #[derive(Clone, Copy)]
 pub struct BeginReply {
@@ -60,65 +62,46 @@ pub struct RestartReply {
     pub count: u32,
 }
 
-// The answer, and the counts and the record of the transaction's row after the call.
+// An ask that is accepted: an empty writeset ends on the spot, with this count of those; any other is queued, and this is its row.
 #[derive(Clone, Copy)]
-pub struct Changed {
-    pub number: u8,
-    pub counts: Counts,
-    pub row: Txn,
+pub enum Asked {
+    ReadOnly(u32),
+    Queued(Txn),
 }
 
-#[derive(Clone, Copy)]
-pub struct Begun {
-    pub reply: BeginReply,
-    pub counts: Counts,
-    pub row: Txn,
-}
-
-#[derive(Clone, Copy)]
-pub struct Asked {
-    pub reply: AskReply,
-    pub counts: Counts,
-    pub row: Txn,
-}
-
-// The answer, and group, turn and counts of a replica just made; of a refused make nothing is stored.
+// Group, turn and counts of a replica just made.
 #[derive(Clone, Copy)]
 pub struct Made {
-    pub number: u8,
     pub group: Group,
     pub turn: Turn,
     pub counts: Counts,
 }
 
-// The answer, and the turn and all rows after the call.
+// The turn and all rows after a send.
 #[derive(Clone, Copy)]
 pub struct Sent {
-    pub number: u8,
     pub turn: Turn,
     pub rows: [Txn; 6],
 }
 
-// The answer, the turn and the counts after the call, and which rows it ended.
+// What an accepted work did, as in its reply; the turn and the counts after it, and which rows it ended.
 #[derive(Clone, Copy)]
 pub struct Worked {
-    pub reply: WorkReply,
-    pub turn: Turn,
+    pub aborted: [u32; 6],
+    pub ticket: u32,
     pub counts: Counts,
+    pub turn: Turn,
+    pub sender: u8,
+    pub moved: bool,
+    pub count: u8,
+    pub append: bool,
     pub ended: [bool; 6],
 }
 
-// The answer to a notice, and the group after the call.
-#[derive(Clone, Copy)]
-pub struct Noticed {
-    pub number: u8,
-    pub group: Group,
-}
-
-// The answer, and group, turn and counts of a replica restarted; of a refused restart nothing is stored.
+// How many blocks of the journal were committed, and group, turn and counts of a replica restarted.
 #[derive(Clone, Copy)]
 pub struct Restarted {
-    pub reply: RestartReply,
+    pub count: u32,
     pub group: Group,
     pub turn: Turn,
     pub counts: Counts,

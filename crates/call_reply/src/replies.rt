@@ -1,74 +1,114 @@
-// What a refused call is answered.
+// What a refused call is answered, and an accepted work.
 ghost use Rattle.std.specs.Prelude.{◌≡◌, false, pos, replicate};
-ghost use Rattle.call_reply.specs.Replies.{no_report};
+ghost use Rattle.call_reply.specs.Faults.{fault_number};
+ghost use Rattle.call_reply.specs.Replies.{no_report, worked_reply};
 
-use super::{AskReply, BeginReply, ReadReply, ReportReply, RestartReply, WorkReply};
+use super::faults::Fault;
+use super::{AskReply, BeginReply, ReadReply, ReportReply, RestartReply, WorkReply, Worked};
 use engine::Report;
 
-pub fn no_begin(number: u8) -> BeginReply
-    ensures { result ≡ record { number = number; ticket = 0 } }
-{
-    BeginReply {
-        number: number,
-        ticket: 0,
+impl From<Fault> for BeginReply {
+    ghost from_gives = { λ f r. r ≡ record { number = fault_number f; ticket = 0 } };
+
+    fn from(fault: Fault) -> Self {
+        BeginReply {
+            number: fault.number(),
+            ticket: 0,
+        }
     }
 }
 
-pub fn no_read(number: u8) -> ReadReply
-    ensures { result ≡ record { number = number; value = pos 0 } }
-{
-    ReadReply {
-        number: number,
-        value: 0,
+impl From<Fault> for ReadReply {
+    ghost from_gives = { λ f r. r ≡ record { number = fault_number f; value = pos 0 } };
+
+    fn from(fault: Fault) -> Self {
+        ReadReply {
+            number: fault.number(),
+            value: 0,
+        }
     }
 }
 
-pub fn no_ask(number: u8) -> AskReply
-    ensures { result ≡ record { number = number; read_only = false } }
-{
-    AskReply {
-        number: number,
-        read_only: false,
+impl From<Fault> for AskReply {
+    ghost from_gives = { λ f r. r ≡ record { number = fault_number f; read_only = false } };
+
+    fn from(fault: Fault) -> Self {
+        AskReply {
+            number: fault.number(),
+            read_only: false,
+        }
     }
 }
 
-pub fn no_report(number: u8) -> ReportReply
-    ensures { result ≡ record { number = number; report = no_report } }
-{
-    ReportReply {
-        number: number,
-        report: Report {
-            turn: 0,
-            commits: 0,
-            tickets: 0,
-            open_count: 0,
-            committed: 0,
-            read_only: 0,
-            aborted: 0,
-            withdrawn: 0,
-        },
+impl From<Fault> for ReportReply {
+    ghost from_gives = { λ f r. r ≡ record { number = fault_number f; report = no_report } };
+
+    fn from(fault: Fault) -> Self {
+        ReportReply {
+            number: fault.number(),
+            report: Report {
+                turn: 0,
+                commits: 0,
+                tickets: 0,
+                open_count: 0,
+                committed: 0,
+                read_only: 0,
+                aborted: 0,
+                withdrawn: 0,
+            },
+        }
     }
 }
 
-pub fn no_work(number: u8) -> WorkReply
-    ensures { result ≡ record { number = number; sender = 0; moved = false; count = 0; ticket = 0; aborted = replicate 6 0; append = false } }
-{
-    WorkReply {
-        number: number,
-        sender: 0,
-        moved: false,
-        count: 0,
-        ticket: 0,
-        aborted: [0; 6],
-        append: false,
+impl From<Fault> for WorkReply {
+    ghost from_gives = { λ f r. r
+        ≡ record { number = fault_number f; sender = 0; moved = false; count = 0; ticket = 0; aborted = replicate 6 0; append = false } };
+
+    fn from(fault: Fault) -> Self {
+        WorkReply {
+            number: fault.number(),
+            sender: 0,
+            moved: false,
+            count: 0,
+            ticket: 0,
+            aborted: [0; 6],
+            append: false,
+        }
     }
 }
 
-pub fn no_restart(number: u8) -> RestartReply
-    ensures { result ≡ record { number = number; count = 0 } }
-{
-    RestartReply {
-        number: number,
-        count: 0,
+impl From<Worked> for WorkReply {
+    ghost from_gives = { λ w r. r ≡ worked_reply 0 w };
+
+    fn from(worked: Worked) -> Self {
+        let Worked {
+            sender,
+            moved,
+            count,
+            ticket,
+            aborted,
+            append,
+            ..
+        } = worked;
+        WorkReply {
+            number: 0,
+            sender,
+            moved,
+            count,
+            ticket,
+            aborted,
+            append,
+        }
+    }
+}
+
+impl From<Fault> for RestartReply {
+    ghost from_gives = { λ f r. r ≡ record { number = fault_number f; count = 0 } };
+
+    fn from(fault: Fault) -> Self {
+        RestartReply {
+            number: fault.number(),
+            count: 0,
+        }
     }
 }

@@ -61,14 +61,9 @@ module _ (m : Memory) (n own : ℕ) (start : List ℤ) (journal notices block : 
         make.0
         ∙ cond_by (λ (o : Outcome). number o ≡ make_refusal m n own start) (eqb (make_refusal m n own start) 0) (λ e. sym (eqb-true (make_refusal m n own start) 0 e)) (λ e. refl)
 
-    -- whatever group, turn, counts and table the number comes with
-    pub restart-refused : (k ≡ 0 → ⊥) → (group : Group) (turn : Turn) (counts : Counts) (rows : List Txn)
-        → outcome (refused k)
-        (all_parts (if_made k group m.group) (if_made k turn m.turn) (if_made k counts m.counts) (if_made k rows m.txns.table) left.txns.queue left.txns.items left.txns.writes left.txns.snapshots
-        left.store.values left.store.stamps left.store.classes left.blocks.places left.blocks.outbox left.blocks.window)
-        ≡ restart_lent m n own start journal notices block
+    pub restart-refused : (k ≡ 0 → ⊥) → outcome (refused k) left ≡ restart_lent m n own start journal notices block
     unfolding restart_lent restart_step make_step
-    restart-refused h group turn counts rows =
+    restart-refused h =
         let l : left ≡ m = rw (← is-refusal, ne_eqb k 0 h) at make.1 in
         rw (threes fits, same-refusal, ← is-refusal, ne_eqb k 0 h, l)
 

@@ -10,15 +10,17 @@ use native.Mathlib.Omega.{arith}
 use borrow.Rule.Slice.PartMut.{put_mid}
 use lib.Dec.{eqb}
 use lib.IntN.{ℤ}
-use lib.ListN.{length, get_or, set, take, drop, replicate, length-append, length-map, replicate-append-replicate, take-append-drop, drop_of_length-le, get_or-eq_default}
-use lib.Seq.{slice, length-slice, length-take-le, take-suc, take_at, take_all, drop-cons, drop_at, drop-drop, set_at}
+use lib.ListN.{length, get_or, take, drop, replicate, length-map, replicate-append-replicate, take-append-drop, get_or-eq_default}
+use lib.Seq.{slice, length-slice, length-take-le, take-suc, take_at, drop_at, drop-drop}
+use Rattle.std.specs.Prelude.{Result, ⊤}
+use Rattle.block.specs.declared.BlockFault.{BlockFault}
 use Rattle.block.specs.Bytes.{record_bytes, records_bytes, header_for, header_bytes, block_of}
 use Rattle.block.specs.Writing.{Written, written, checked_step}
 use Rattle.block.proofs.ListLaws.{lent_slice}
 use Rattle.block.proofs.WriteLaws.{Filled, filled-part, records_append, drop-zeros}
 use Rattle.block_writer.specs.Writing.{record_step}
 use Rattle.block_writer.proofs.WriterLaws.{record_fresh}
-use Rattle.block_writer.proofs.WholeLaws.{block-put}
+use Rattle.block_writer.proofs.WholeLaws.{bytes_left, block-put}
 use Rattle.memory.specs.declared.Txn.{Txn}
 use Rattle.memory.specs.Memory.{Memory}
 use Rattle.memory.specs.Rows.{closed, row_of, row_at, write_count, index_from, index_of}
@@ -36,18 +38,6 @@ map_snoc f (y ∷ l) x = ap (λ z. f y ∷ z) (map_snoc f l x)
 module _ {A : Type 0} (d : A) (l : List A) (i : ℕ) (h : i < length l) where
   map_next : {B : Type 0} (f : A → B) → map f (take (i + 1) l) ≡ map f (take i l) ++ (f (get_or l i d) ∷ [])
   map_next f = rw (add-one i, take-suc l i d h) (map_snoc f (take i l) (get_or l i d))
-
-  -- x behind p
-  put_next : (p : List A) (x : A) → length p ≡ i → set (p ++ drop i l) i x ≡ (p ++ (x ∷ [])) ++ drop (i + 1) l
-  put_next p x e = rw (drop-cons l i d h, add-one i) (set_at p (get_or l i d) (drop (suc i) l) x i e ∙ sym (append_assoc p (x ∷ []) (drop (suc i) l)))
-
-  -- each element in its place, by f
-  pub map-turn : (f : A → A) → set (map f (take i l) ++ drop i l) i (f (get_or l i d)) ≡ map f (take (i + 1) l) ++ drop (i + 1) l
-  map-turn f = rw (map_next f) (put_next (map f (take i l)) (f (get_or l i d)) (length-map (take i l) f ∙ length-take-le i l (omega arith)))
-
-module _ {A : Type 0} (n : ℕ) (l : List A) (h : length l ≡ n) where
-  pub map-end : (f : A → A) → map f (take n l) ++ drop n l ≡ map f l
-  map-end f = rw (take_all n l (omega arith), drop_of_length-le l {i = n} (omega arith)) (append-nil (map f l))
 
 -- ---- the tickets that wait are those before the queue's first 0
 
@@ -83,16 +73,19 @@ module _ (table : List Txn) (six : length table ≡ 6) where
   no_row d r h = get_or-eq_default table d (omega arith)
 
   -- they stand within the 48
-  pub writes-within : (r n : ℕ) → r ≤ 6 → n ≡ write_count (row_at table r) → 8 * r + n ≤ 48
+  writes-within : (r n : ℕ) → r ≤ 6 → n ≡ write_count (row_at table r) → 8 * r + n ≤ 48
   writes-within r n h e =
       less_by r 6 (λ u. omega arith)
       (λ u. let z : n ≡ 0 = e ∙ rw (no_row closed r u) in omega arith)
+
+  pub row_writes : (t r n : ℕ) → r ≡ row_of t table → n ≡ write_count (row_at table r) → 8 * r + n ≤ 48
+  row_writes t r n e = writes-within r n (rw e (row-of-within t))
 
 -- ---- the writesets
 
 module _ (table : List Txn) (is : List ℕ) (vs : List ℤ) (long : (length is ≡ 48) × (length vs ≡ 48)) where
   -- the record writer's call for a ticket writes its writeset: row r, of n writes
-  pub writeset-written : (t r n a : ℕ) (part ys : List ℕ) → r ≡ row_of t table → n ≡ write_count (row_at table r) → 8 * r + n ≤ 48 → part ≡ replicate 72 0
+  pub writeset-written : (t r n : ℕ) (a : Result ⊤ BlockFault) (part ys : List ℕ) → r ≡ row_of t table → n ≡ write_count (row_at table r) → 8 * r + n ≤ 48 → part ≡ replicate 72 0
       → written a ys ≡ record_step part t (take (8 * r + n - 8 * r) (drop (8 * r) is)) (take (8 * r + n - 8 * r) (drop (8 * r) vs))
       → ys ≡ record_bytes (writeset_in table is vs t)
   unfolding writeset_of
@@ -100,7 +93,7 @@ module _ (table : List Txn) (is : List ℕ) (vs : List ℤ) (long : (length is �
       let i = length-slice (8 * r) (8 * r + n) is (omega arith) in
       let v = length-slice (8 * r) (8 * r + n) vs (omega arith) in
       let d = record_fresh part t (slice (8 * r) (8 * r + n) is) (slice (8 * r) (8 * r + n) vs) zeros (omega arith) (v ∙ sym i) in
-      rw (← row, ← count) (ap (λ (w : Written). w.bytes) (rw (lent_slice (8 * r) (8 * r + n) is (omega arith), lent_slice (8 * r) (8 * r + n) vs (omega arith)) at q ∙ d))
+      rw (← row, ← count) (sym (bytes_left a ys) ∙ ap (λ (w : Written). w.bytes) (rw (lent_slice (8 * r) (8 * r + n) is (omega arith), lent_slice (8 * r) (8 * r + n) vs (omega arith)) at q ∙ d))
 
 -- the block with the first j of them
 abbrev pub block_to : List ℕ → List Txn → List ℕ → List ℕ → List ℤ → ℕ → List ℕ
@@ -134,10 +127,6 @@ module _ (l₀ : List ℕ) (table : List Txn) (q is : List ℕ) (vs : List ℤ) 
       rw (map_next 0 q j h (writeset_in table is vs), records_append, ← d) in
       rw (k, e, s, ← append_assoc (take 16 l₀) (records_bytes (map (writeset_in table is vs) (take j q))) ys) (filled-part f 72 ys (p ∙ k))
 
-  pub writesets-end : (n : ℕ) (l : List ℕ) → Filled l₀ (16 + 72 * n) (block_to l₀ table q is vs n) l
-      → l ≡ take 16 l₀ ++ (records_bytes (map (writeset_in table is vs) (take n q)) ++ drop (16 + 72 * n) l₀)
-  writesets-end n l f = f.is ∙ append_assoc (take 16 l₀) (records_bytes (map (writeset_in table is vs) (take n q))) (drop (16 + 72 * n) l₀)
-
 -- ---- a whole block
 
 module _ (m : Memory) (n : ℕ) (end : n ≡ index_of 0 m.txns.queue) where
@@ -153,7 +142,7 @@ module _ (m : Memory) (n : ℕ) (end : n ≡ index_of 0 m.txns.queue) where
   unfolding header_for message_for
   header_is = rw (length-map, ← length-waiting m.txns.queue n end)
 
-  pub message-put : n ≤ 6 → (z r : ℕ) (l hs b c : List ℕ) → z ≡ 512 → l ≡ replicate z 0 → hs ≡ header_bytes (header_with m.group m.turn n)
+  pub message-put : n ≤ 6 → (z : ℕ) (r : Result ⊤ BlockFault) (l hs b c : List ℕ) → z ≡ 512 → l ≡ replicate z 0 → hs ≡ header_bytes (header_with m.group m.turn n)
       → b ≡ take 16 (put_mid 0 16 l hs) ++ (records_bytes (map (writeset_in m.txns.table m.txns.items m.txns.writes) (take n m.txns.queue)) ++ drop (16 + 72 * n) (put_mid 0 16 l hs))
       → length b ≡ 512 → written r c ≡ checked_step b → c ≡ block_of (message_for m)
   message-put few z r l hs b c e q p u w y = block-put (message_for m) n count-is few z r l hs b c e q (rw header_is p) (rw records-are u) w y

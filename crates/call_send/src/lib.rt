@@ -5,6 +5,7 @@ ghost use Rattle.std.specs.Prelude.{◌≡◌, ◌&&◌, List, ◌++◌, map, �
 ghost use Rattle.block.specs.Bytes.{record_bytes, records_bytes, block_of};
 ghost use Rattle.memory.specs.Memory.{Memory};
 ghost use Rattle.engine.specs.Moves.{send_row, message_for, send_lent, send_refusal, send_step};
+ghost use Rattle.call_reply.specs.Faults.{number_in, left_by};
 ghost use Rattle.call_reply.specs.Parts.{send_parts};
 ghost use Rattle.call_reply.specs.Replies.{GivesBlock};
 ghost use Rattle.call_send.specs.Writing.{writeset_in, header_with};
@@ -13,52 +14,41 @@ use block::Header;
 use block_check::write_check;
 use block_writer::{write_header, write_record};
 use call_reply::Sent;
-use memory::bytes::copy_bytes;
+use call_reply::faults::Fault;
 use memory::notices::is_out;
-use memory::rows::{clear_numbers, queue_end, row_at, row_of, write_count};
+use memory::rows::{queue_end, row_at, row_of, write_count};
 use memory::{Group, SLOT_LIMIT, Turn, Txn};
 
-// Whether the slices lent have their lengths.
+// Whether the slices lent have their lengths. Taken as arrays they would leave a goal for each that is wrong, over names of Rattle's own: tried.
 fn lengths_fit(queue: usize, items: usize, writes: usize, outbox: usize, block: usize) -> bool
     ensures { result ≡ (eqb items 48 && eqb writes 48 && (eqb queue 6 && (eqb outbox 512 && eqb block 512))) }
 {
-    if items != 48 {
-        return false;
-    }
-    if writes != 48 {
-        return false;
-    }
-    if queue != 6 {
-        return false;
-    }
-    if outbox != 512 {
-        return false;
-    }
-    block == 512
+    items == 48 && writes == 48 && queue == 6 && outbox == 512 && block == 512
 }
 
-// Why a send is refused, 0 where it is not; `fits` where what it is lent has its lengths.
-fn refusal(fits: bool, group: Group, turn: Turn) -> u8
+// Why a send is refused; `fits` where what it is lent has its lengths.
+#[tactic(auto, using(std::proofs::lemmas::Bool::Decides::nat_tests), unfolding(engine::specs::Moves::send_refusal, block::specs::Answers::first_of))]
+fn check(fits: bool, group: Group, turn: Turn) -> Result<(), Fault>
     ensures { (m : Memory) (block : List ℕ) → m.group ≡ group → m.turn ≡ turn → send_lent m block ≡ fits →
-        result ≡ send_refusal m block }
+        number_in result ≡ send_refusal m block }
 {
     if !fits {
-        return 1;
+        return Err(Fault::WrongLength);
     }
     if SLOT_LIMIT <= turn.slot {
-        return 13;
+        return Err(Fault::SlotsSpent);
     }
-    let owned = turn.owner(group);
-    if owned.replica != group.own as u32 {
-        return 11;
+    let owner = turn.owner(group).replica;
+    if owner != group.own as u32 {
+        return Err(Fault::NotOurTurn);
     }
     if is_out(group, turn.slot) {
-        return 29;
+        return Err(Fault::SlotOut);
     }
     if turn.sent != 0 {
-        return 12;
+        return Err(Fault::AlreadySent);
     }
-    0
+    Ok(())
 }
 
 // A ticket's writeset, from its row straight into its 72 bytes of a fresh block.
@@ -70,7 +60,8 @@ fn put_writeset(part: &mut [u8], ticket: u32, rows: [Txn; 6], items: &[u8], writ
     let t = row_at(rows, row);
     let from = 8 * row;
     let to = from + write_count(t.writes);
-    write_record(&mut *part, ticket, &items[from..to], &writes[from..to]);
+    // The lengths are right.
+    let _ = write_record(part, ticket, &items[from..to], &writes[from..to]);
 }
 
 // The writesets of the first `count` tickets, into a block that is zeros behind its header.
@@ -93,11 +84,9 @@ fn put_writesets(
         ++ (records_bytes (map (writeset_in rows items.now writes.now) (take count queue.now))
         ++ drop (16 + 72 * count) block.old) }
 {
-    let mut j: usize = 0;
-    while j < count {
+    for (j, ticket) in queue[..count].iter().enumerate() {
         let at = 16 + 72 * j;
-        put_writeset(&mut block[at..at + 72], queue[j], rows, items, writes);
-        j += 1;
+        put_writeset(&mut block[at..at + 72], *ticket, rows, items, writes);
     }
 }
 
@@ -105,15 +94,11 @@ fn put_writesets(
 fn header_for(group: Group, turn: Turn, count: u8) -> Header
     ensures { result ≡ header_with group turn count }
 {
-    let mut kind = 2u8;
-    if count == 0 {
-        kind = 1;
-    }
     Header {
-        kind: kind,
+        kind: if count == 0 { 1 } else { 2 },
         sender: group.own,
         replicas: group.replicas,
-        count: count,
+        count,
         slot: turn.slot,
     }
 }
@@ -137,38 +122,28 @@ fn put_block(
         ≡ block_of (message_for (send_parts m group turn rows queue.now items.now writes.now m.blocks.outbox)) }
 {
     let count = queue_end(queue);
-    let zeros = [0u8; 512];
-    copy_bytes(&zeros, &mut *block);
-    write_header(&mut block[0..16], header_for(group, turn, count as u8));
-    put_writesets(&mut *block, count, rows, queue, items, writes);
-    write_check(&mut *block);
+    block.fill(0);
+    // The lengths are right.
+    let _ = write_header(&mut block[0..16], header_for(group, turn, count as u8));
+    put_writesets(block, count, rows, queue, items, writes);
+    let _ = write_check(block);
 }
 
 // An asked transaction becomes sent.
 fn send_row(t: Txn) -> Txn
     ensures { result ≡ send_row t }
 {
-    if t.stage != 1 {
-        return t;
-    }
-    Txn {
-        ticket: t.ticket,
-        stage: 2,
-        snapshot: t.snapshot,
-        writes: t.writes,
+    if t.stage == 1 {
+        Txn { stage: 2, ..t }
+    } else {
+        t
     }
 }
 
 fn send_rows(rows: [Txn; 6]) -> [Txn; 6]
     ensures { result ≡ map send_row rows }
 {
-    let mut after = rows;
-    let mut i: usize = 0;
-    while i < 6 {
-        after[i] = send_row(rows[i]);
-        i += 1;
-    }
-    after
+    rows.map(send_row)
 }
 
 // The block for the turn, into the bytes lent, and a copy kept in the outbox.
@@ -181,15 +156,16 @@ pub fn send(
     writes: &[i32],
     outbox: &mut [u8],
     block: &mut [u8],
-) -> Sent
+) -> Result<Sent, Fault>
     ensures { (m : Memory) →
+        let after = left_by result (record { turn = turn; rows = rows }) in
         GivesBlock
         (send_step
         (send_parts m group turn rows queue.old items.now writes.now outbox.old)
         block.old)
         block.old
-        result.number
-        (send_parts m group result.turn result.rows queue.new items.now writes.now outbox.new)
+        (number_in result)
+        (send_parts m group after.turn after.rows queue.new items.now writes.now outbox.new)
         block.new }
 {
     let fits = lengths_fit(
@@ -199,22 +175,12 @@ pub fn send(
         outbox.len(),
         block.len(),
     );
-    let number = refusal(fits, group, turn);
-    if number != 0 {
-        return Sent {
-            number: number,
-            turn: turn,
-            rows: rows,
-        };
-    }
-    put_block(&mut *block, group, turn, rows, &*queue, items, writes);
-    copy_bytes(&*block, &mut *outbox);
-    clear_numbers(&mut *queue);
-    let after = turn.mark_sent();
-    let sent = send_rows(rows);
-    Sent {
-        number: 0,
-        turn: after,
-        rows: sent,
-    }
+    check(fits, group, turn)?;
+    put_block(block, group, turn, rows, queue, items, writes);
+    outbox.copy_from_slice(block);
+    queue.fill(0);
+    Ok(Sent {
+        turn: turn.mark_sent(),
+        rows: send_rows(rows),
+    })
 }

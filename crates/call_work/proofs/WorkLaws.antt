@@ -1,4 +1,4 @@
--- Each refusal of a work, from the tests that lead to it; and what a work does where it is not refused. Assumes nothing.
+-- What a work answers: its refusal, or what it does where it is not refused. Assumes nothing.
 use Prim.Native.Nat.{ℕ, ◌+◌, ◌*◌, ◌≤◌, ◌<◌}
 use mathlib.Core.Path.{◌≡◌, refl, sym, ap, ◌∙◌}
 use mathlib.Core.Bool.{Bool, true, false, cond, not, ◌&&◌}
@@ -10,7 +10,6 @@ use lib.Dec.{eqb, leb}
 use lib.IntN.{ℤ}
 use lib.ListN.{length, get_or, set, replicate, get_or-eq_default}
 use lib.Seq.{slice, set_out, length-slice}
-use Rattle.block.specs.Answers.{first_of}
 use Rattle.block.specs.Message.{Record}
 use Rattle.block.proofs.BoolLaws.{both}
 use Rattle.block.proofs.ListLaws.{get_or-slice}
@@ -31,7 +30,10 @@ use Rattle.engine.specs.Answers.Outcome.{memory}
 use Rattle.engine.specs.Answers.Answer.{refused, worked}
 use Rattle.engine.specs.Moves.{work_lent, out_at_turn, work_refusal, block_at_turn, writeset_at, applied, stamped, hit_tickets, ends_own, is_last, appending, pass_next, commit_writeset, pass_out, pass_block, work_step}
 use Rattle.call_commit.proofs.EndLaws.{end_none, end_mark, end_hit}
+use Rattle.call_reply.specs.declared.faults.Fault.{Fault}
+use Rattle.call_reply.specs.Faults.{fault_number}
 use Rattle.call_reply.specs.Parts.{work_parts}
+use Rattle.call_reply.proofs.FaultLaws.{fault_some}
 use Rattle.call_reply.specs.Replies.{work_reply, Gives}
 use Rattle.call_ending.specs.declared.Ended.{Ended}
 use Rattle.call_ending.specs.Writesets.{no_marks, ended_of, queue_left}
@@ -64,83 +66,62 @@ sixth a b c d e f h =
     let l = (both b (c && (d && (e && f))) k).right in
     (both e f (both d (e && f) (both c (d && (e && f)) l).right).right).right
 
--- ---- the refusals
+-- ---- the answers
 
 module _ (m : Memory) where
-  pub refused-lengths : work_lent m ≡ false → 1 ≡ work_refusal m
-  unfolding work_refusal first_of
-  refused-lengths h = rw h
+  pub work-refused : (f : Fault) → fault_number f ≡ work_refusal m → outcome (refused (fault_number f)) m ≡ work_step m
+  unfolding work_step
+  work-refused f e = rw (← e, ne_eqb (fault_number f) 0 (fault_some f))
 
-  module _ (long : work_lent m ≡ true) (out : Bool) (said : out_at_turn m ≡ out) where
-    pub refused-never : out ≡ true → 0 ≡ work_refusal m
-    unfolding work_refusal first_of
-    refused-never h = rw (long, said, h)
+  pub marks-refused : (f : Fault) → fault_number f ≡ work_refusal m → no_marks ≡ ended_marks m
+  unfolding ended_marks
+  marks-refused f e = rw (← e, ne_eqb (fault_number f) 0 (fault_some f))
 
-    module _ (live : out ≡ false) (at : ℕ) (start : at ≡ place_start m.group.replicas m.turn.slot) (k : ℕ) (kind : k ≡ get_or m.blocks.places at 0) where
-      pub refused-empty : k ≡ 0 → 21 ≡ work_refusal m
-      unfolding work_refusal first_of
-      refused-empty h = rw (long, said, live, ← start, ← kind, eq-eqb k 0 h)
-
-      pub refused_not : (k ≡ 0 → ⊥) → 0 ≡ work_refusal m
-      unfolding work_refusal first_of
-      refused_not h = rw (long, said, live, ← start, ← kind, ne_eqb k 0 h)
-
-  -- ---- the answers
-
-  module _ (n : ℕ) (number : n ≡ work_refusal m) where
-    pub work-refused : (n ≡ 0 → ⊥) → outcome (refused n) m ≡ work_step m
+  module _ (none : 0 ≡ work_refusal m) where
+    pub work_out_lem : out_at_turn m ≡ true → pass_out m ≡ work_step m
     unfolding work_step
-    work-refused h = rw (← number, ne_eqb n 0 h)
+    work_out_lem h = rw (← none, h)
 
-    pub marks-refused : (n ≡ 0 → ⊥) → no_marks ≡ ended_marks m
+    pub marks-out : out_at_turn m ≡ true → no_marks ≡ ended_marks m
     unfolding ended_marks
-    marks-refused h = rw (← number, ne_eqb n 0 h)
+    marks-out h = rw (← none, h)
 
-    module _ (none : n ≡ 0) where
-      pub work_out_lem : out_at_turn m ≡ true → pass_out m ≡ work_step m
-      unfolding work_step
-      work_out_lem h = rw (← number, none, h)
+    -- the window has its length
+    pub window-long : length m.blocks.window ≡ window_bytes
+    unfolding work_refusal
+    window-long =
+        let l : work_lent m ≡ true = not-false _ (passes _ _ refl (sym none)).0 in
+        eqb-true _ window_bytes (sixth (places_lent m) (items_lent m) (queue_lent m) (values_lent m) (stamps_lent m) (window_lent m) l)
 
-      pub marks-out : out_at_turn m ≡ true → no_marks ≡ ended_marks m
-      unfolding ended_marks
-      marks-out h = rw (← number, none, h)
-
-      -- the window has its length
-      pub window-long : length m.blocks.window ≡ window_bytes
+    module _ (live : out_at_turn m ≡ false) (at : ℕ) (start : at ≡ place_start m.group.replicas m.turn.slot) where
+      -- the block at the turn lies in the places
+      pub work_room : at + 512 ≤ length m.blocks.places
       unfolding work_refusal
-      window-long =
-          let l : work_lent m ≡ true = not-false _ (passes _ _ refl (sym number ∙ none)).0 in
-          eqb-true _ window_bytes (sixth (places_lent m) (items_lent m) (queue_lent m) (values_lent m) (stamps_lent m) (window_lent m) l)
+      work_room =
+          let l = both _ _ (not-false _ (passes _ _ refl (sym none)).0) in
+          place-within m.group.replicas m.turn.slot m.blocks.places (eqb-true _ _ l.left) at start (get_or m.blocks.places at 0) refl
+          (λ e. eqb-false (get_or m.blocks.places (place_start m.group.replicas m.turn.slot) 0) 0
+          (work_passed m (record { passed = sym none; live = live })) (rw (← start) e))
 
-      module _ (live : out_at_turn m ≡ false) (at : ℕ) (start : at ≡ place_start m.group.replicas m.turn.slot) where
-        -- the block at the turn lies in the places
-        pub work_room : at + 512 ≤ length m.blocks.places
-        unfolding work_refusal
-        work_room =
-            let l = both _ _ (not-false _ (passes _ _ refl (sym number ∙ none)).0) in
-            place-within m.group.replicas m.turn.slot m.blocks.places (eqb-true _ _ l.left) at start (get_or m.blocks.places at 0) refl
-            (λ e. eqb-false (get_or m.blocks.places (place_start m.group.replicas m.turn.slot) 0) 0
-            (work_passed m (record { passed = sym number ∙ none; live = live })) (rw (← start) e))
+      pub work-next : get_or m.blocks.places at 0 ≡ 1 → pass_next m ≡ work_step m
+      unfolding work_step pass_block
+      work-next h = rw (← none, live, ← start, first_byte m.blocks.places at, eq-eqb (get_or m.blocks.places at 0) 1 h)
 
-        pub work-next : get_or m.blocks.places at 0 ≡ 1 → pass_next m ≡ work_step m
-        unfolding work_step pass_block
-        work-next h = rw (← number, none, live, ← start, first_byte m.blocks.places at, eq-eqb (get_or m.blocks.places at 0) 1 h)
+      pub work-writeset : (get_or m.blocks.places at 0 ≡ 1 → ⊥)
+          → commit_writeset m (eqb (get_or (block_at_turn m) 1 0) m.group.own) (writeset_at (block_at_turn m) m.counts.done) ≡ work_step m
+      unfolding work_step pass_block
+      work-writeset h = rw (← none, live, ← start, first_byte m.blocks.places at, ne_eqb (get_or m.blocks.places at 0) 1 h)
 
-        pub work-writeset : (get_or m.blocks.places at 0 ≡ 1 → ⊥)
-            → commit_writeset m (eqb (get_or (block_at_turn m) 1 0) m.group.own) (writeset_at (block_at_turn m) m.counts.done) ≡ work_step m
-        unfolding work_step pass_block
-        work-writeset h = rw (← number, none, live, ← start, first_byte m.blocks.places at, ne_eqb (get_or m.blocks.places at 0) 1 h)
+      pub marks-next : get_or m.blocks.places at 0 ≡ 1 → no_marks ≡ ended_marks m
+      unfolding ended_marks
+      marks-next h = rw (← none, live, ← start, first_byte m.blocks.places at, eq-eqb (get_or m.blocks.places at 0) 1 h)
 
-        pub marks-next : get_or m.blocks.places at 0 ≡ 1 → no_marks ≡ ended_marks m
-        unfolding ended_marks
-        marks-next h = rw (← number, none, live, ← start, first_byte m.blocks.places at, eq-eqb (get_or m.blocks.places at 0) 1 h)
-
-        pub marks-writeset : (get_or m.blocks.places at 0 ≡ 1 → ⊥) →
-            let block = slice at (at + 512) m.blocks.places in
-            (e : Ended) → e ≡ ended_of (eqb (get_or block 1 0) m.group.own) (writeset_at block m.counts.done) m.turn m.counts m.txns.table m.txns.items
-            → e.marks ≡ ended_marks m
-        unfolding ended_marks ended_of
-        marks-writeset h e ee = rw (ee, ← number, none, live, ← start, first_byte m.blocks.places at, ne_eqb (get_or m.blocks.places at 0) 1 h)
+      pub marks-writeset : (get_or m.blocks.places at 0 ≡ 1 → ⊥) →
+          let block = slice at (at + 512) m.blocks.places in
+          (e : Ended) → e ≡ ended_of (eqb (get_or block 1 0) m.group.own) (writeset_at block m.counts.done) m.turn m.counts m.txns.table m.txns.items
+          → e.marks ≡ ended_marks m
+      unfolding ended_marks ended_of
+      marks-writeset h e ee = rw (ee, ← none, live, ← start, first_byte m.blocks.places at, ne_eqb (get_or m.blocks.places at 0) 1 h)
 
 -- ---- what is handed out
 

@@ -10,8 +10,9 @@ ghost use Rattle.memory.specs.Rows.{end_rows};
 ghost use Rattle.memory.specs.Turns.{advance, place_start};
 ghost use Rattle.memory.specs.Window.{keeping};
 ghost use Rattle.engine.specs.Moves.{work_lent, out_at_turn, work_refusal, pass_out, pass_next, work_step};
+ghost use Rattle.call_reply.specs.Faults.{number_in, left_by};
 ghost use Rattle.call_reply.specs.Parts.{work_parts};
-ghost use Rattle.call_reply.specs.Replies.{work_reply, Gives};
+ghost use Rattle.call_reply.specs.Replies.{work_reply, worked_reply, unworked, Gives};
 ghost use Rattle.call_ending.specs.Writesets.{no_marks};
 ghost use Rattle.call_work.specs.Works.{turn_parts, ended_marks};
 
@@ -19,12 +20,11 @@ use block::Header;
 use block_check::write_check;
 use block_writer::write_header;
 use call_ending::{Ended, end_writeset};
-use call_reply::replies::no_work;
-use call_reply::{WorkReply, Worked};
+use call_reply::Worked;
+use call_reply::faults::Fault;
 use memory::bytes::byte_at;
 use memory::cursor::{owner_at, place_start};
 use memory::notices::is_out;
-use memory::rows::clear_bytes;
 use memory::window::keep;
 use memory::{Counts, Group, Turn, Txn, WINDOW_BYTES, WINDOW_SLOTS};
 
@@ -40,57 +40,27 @@ pub fn lengths_fit(
 ) -> bool
     ensures { result ≡ (eqb places (512 * replicas) && (eqb items 48 && (eqb queue 6 && (eqb values 128 && (eqb stamps 128 && eqb window window_bytes))))) }
 {
-    if places != 512 * replicas as usize {
-        return false;
-    }
-    if items != 48 {
-        return false;
-    }
-    if queue != 6 {
-        return false;
-    }
-    if values != 128 {
-        return false;
-    }
-    if stamps != 128 {
-        return false;
-    }
-    window == WINDOW_BYTES
+    places == 512 * replicas as usize
+        && items == 48
+        && queue == 6
+        && values == 128
+        && stamps == 128
+        && window == WINDOW_BYTES
 }
 
-// Why a work is refused, 0 where it is not; `fits` where what it is lent has its lengths, `out` where the turn's slot is out, `at` where its place starts.
-fn refusal(fits: bool, out: bool, at: usize, places: &[u8]) -> u8
+// Why a work is refused; `fits` where what it is lent has its lengths, `out` where the turn's slot is out, `at` where its place starts.
+#[tactic(auto, using(std::proofs::lemmas::Bool::Decides::nat_tests), unfolding(engine::specs::Moves::work_refusal, block::specs::Answers::first_of))]
+fn check(fits: bool, out: bool, at: usize, places: &[u8]) -> Result<(), Fault>
     ensures { (m : Memory) → m.blocks.places ≡ places.now → at ≡ place_start (span m.group) m.turn.slot
-        → work_lent m ≡ fits → out_at_turn m ≡ out → result ≡ work_refusal m }
+        → work_lent m ≡ fits → out_at_turn m ≡ out → number_in result ≡ work_refusal m }
 {
     if !fits {
-        return 1;
+        return Err(Fault::WrongLength);
     }
-    if out {
-        return 0;
+    if !out && byte_at(places, at) == 0 {
+        return Err(Fault::NothingWaits);
     }
-    if byte_at(places, at) == 0 {
-        return 21;
-    }
-    0
-}
-
-// A refused work: nothing changes.
-fn unchanged(number: u8, turn: Turn, counts: Counts) -> Worked
-    ensures { result
-        ≡ record {
-          reply = record { number = number; sender = 0; moved = false; count = 0; ticket = 0; aborted = replicate 6 0; append = false };
-          turn = turn;
-          counts = counts;
-          ended = no_marks;
-        } }
-{
-    Worked {
-        reply: no_work(number),
-        turn: turn,
-        counts: counts,
-        ended: [false; 6],
-    }
+    Ok(())
 }
 
 // The *next* of a slot, written into 512 bytes.
@@ -98,16 +68,17 @@ fn put_next(sender: u8, replicas: u8, slot: u32, block: &mut [u8])
     requires { length block.old ≡ 512 }
     ensures { block.new ≡ block_of (record { kind = 1; sender = sender; replicas = replicas; slot = slot; records = [] }) }
 {
-    clear_bytes(&mut *block);
+    block.fill(0);
     let header = Header {
         kind: 1,
-        sender: sender,
-        replicas: replicas,
+        sender,
+        replicas,
         count: 0,
-        slot: slot,
+        slot,
     };
-    write_header(&mut block[0..16], header);
-    write_check(&mut *block);
+    // The lengths are right.
+    let _ = write_header(&mut block[0..16], header);
+    let _ = write_check(block);
 }
 
 // An out slot passed: the window gets its *next*, which is handed out, also where it is the replica's own, the turn advances, and no row ends.
@@ -116,28 +87,22 @@ fn pass_out(group: Group, turn: Turn, counts: Counts, window: &mut [u8]) -> Work
     ensures { ((m : Memory) →
         Gives work_reply
         (pass_out (turn_parts m group turn counts m.txns.table m.blocks.places window.old))
-        result.reply
+        (worked_reply 0 result)
         (turn_parts m group result.turn result.counts m.txns.table m.blocks.places window.new))
         × (result.ended ≡ no_marks) }
 {
     let sender = owner_at(group, turn.slot) as u8;
     let at = place_start(WINDOW_SLOTS, turn.slot);
-    let end = at + 512;
-    put_next(sender, group.replicas, turn.slot, &mut window[at..end]);
-    let mut after = counts;
-    after.done = 0;
+    put_next(sender, group.replicas, turn.slot, &mut window[at..at + 512]);
     Worked {
-        reply: WorkReply {
-            number: 0,
-            sender: sender,
-            moved: true,
-            count: 0,
-            ticket: 0,
-            aborted: [0; 6],
-            append: true,
-        },
+        aborted: [0; 6],
+        ticket: 0,
+        counts: Counts { done: 0, ..counts },
         turn: turn.advance(),
-        counts: after,
+        sender,
+        moved: true,
+        count: 0,
+        append: true,
         ended: [false; 6],
     }
 }
@@ -155,34 +120,28 @@ fn pass_next(
     ensures { ((m : Memory) →
         Gives work_reply
         (pass_next (turn_parts m group turn counts m.txns.table places.old window.old))
-        result.reply
+        (worked_reply 0 result)
         (turn_parts m group result.turn result.counts m.txns.table places.new window.new))
         × (result.ended ≡ no_marks) }
 {
     let sender = places[at + 1];
-    let end = at + 512;
-    keep(&mut *window, turn.slot, &places[at..end]);
+    keep(window, turn.slot, &places[at..at + 512]);
     places[at] = 0;
-    let mut after = counts;
-    after.done = 0;
     Worked {
-        reply: WorkReply {
-            number: 0,
-            sender: sender,
-            moved: true,
-            count: 0,
-            ticket: 0,
-            aborted: [0; 6],
-            append: sender != group.own,
-        },
+        aborted: [0; 6],
+        ticket: 0,
+        counts: Counts { done: 0, ..counts },
         turn: turn.advance(),
-        counts: after,
+        sender,
+        moved: true,
+        count: 0,
+        append: sender != group.own,
         ended: [false; 6],
     }
 }
 
-// The answer to a writeset committed.
-fn answered(
+// What a writeset committed did.
+fn committed(
     sender: u8,
     moved: bool,
     append: bool,
@@ -192,34 +151,33 @@ fn answered(
 ) -> Worked
     ensures { result
         ≡ record {
-          reply = record {
-            number = 0;
-            sender = sender;
-            moved = moved;
-            count = ended.count;
-            ticket = ended.ticket;
-            aborted = ended.aborted;
-            append = append;
-          };
-          turn = turn;
+          aborted = ended.aborted;
+          ticket = ended.ticket;
           counts = counts;
+          turn = turn;
+          sender = sender;
+          moved = moved;
+          count = ended.count;
+          append = append;
           ended = ended.marks;
         } }
 {
-    let marks = ended.marks;
-    let aborted = ended.aborted;
+    let Ended {
+        aborted,
+        ticket,
+        count,
+        marks,
+        ..
+    } = ended;
     Worked {
-        reply: WorkReply {
-            number: 0,
-            sender: sender,
-            moved: moved,
-            count: ended.count,
-            ticket: ended.ticket,
-            aborted: aborted,
-            append: append,
-        },
-        turn: turn,
-        counts: counts,
+        aborted,
+        ticket,
+        counts,
+        turn,
+        sender,
+        moved,
+        count,
+        append,
         ended: marks,
     }
 }
@@ -230,17 +188,14 @@ fn pass_writeset(ended: Ended, own: u8, places: &mut [u8], at: usize, window: &m
     ensures { let last = leb (get_or places.old (at + 3) 0) (ended.counts.done + 1) in
         (result
         ≡ record {
-          reply = record {
-            number = 0;
-            sender = get_or places.old (at + 1) 0;
-            moved = last;
-            count = ended.count;
-            ticket = ended.ticket;
-            aborted = ended.aborted;
-            append = last && not (eqb (get_or places.old (at + 1) 0) own);
-          };
-          turn = cond last (advance ended.turn) ended.turn;
+          aborted = ended.aborted;
+          ticket = ended.ticket;
           counts = with_done ended.counts (cond last 0 (ended.counts.done + 1));
+          turn = cond last (advance ended.turn) ended.turn;
+          sender = get_or places.old (at + 1) 0;
+          moved = last;
+          count = ended.count;
+          append = last && not (eqb (get_or places.old (at + 1) 0) own);
           ended = ended.marks;
         })
         × (places.new ≡ cond last (set places.old at 0) places.old)
@@ -252,15 +207,14 @@ fn pass_writeset(ended: Ended, own: u8, places: &mut [u8], at: usize, window: &m
     let mut counts = ended.counts;
     let next = counts.done as u32 + 1;
     if count as u32 <= next {
-        let end = at + 512;
-        keep(&mut *window, turn.slot, &places[at..end]);
+        keep(window, turn.slot, &places[at..at + 512]);
         places[at] = 0;
         counts.done = 0;
-        let advanced = turn.advance();
-        return answered(sender, true, sender != own, advanced, counts, ended);
+        committed(sender, true, sender != own, turn.advance(), counts, ended)
+    } else {
+        counts.done = next as u8;
+        committed(sender, false, false, turn, counts, ended)
     }
-    counts.done = next as u8;
-    answered(sender, false, false, turn, counts, ended)
 }
 
 // Processes the next step at the turn: an out slot, a *next*, or one writeset. Where the turn leaves its slot, the window has the slot's block: the one that waited, or the *next* of an out slot.
@@ -275,14 +229,15 @@ pub fn work(
     stamps: &mut [u32],
     places: &mut [u8],
     window: &mut [u8],
-) -> Worked
+) -> Result<Worked, Fault>
     ensures { (m : Memory) →
         let before = work_parts m group turn counts rows queue.old items.now values.old stamps.old places.old window.old in
+        let after = left_by result (unworked turn counts) in
         Gives work_reply
         (work_step before)
-        result.reply
-        (work_parts m group result.turn result.counts (end_rows result.ended rows) queue.new items.now values.new stamps.new places.new window.new)
-        × (result.ended ≡ ended_marks before) }
+        (worked_reply (number_in result) after)
+        (work_parts m group after.turn after.counts (end_rows after.ended rows) queue.new items.now values.new stamps.new places.new window.new)
+        × (after.ended ≡ ended_marks before) }
 {
     let fits = lengths_fit(
         group.replicas,
@@ -295,27 +250,16 @@ pub fn work(
     );
     let out = is_out(group, turn.slot);
     let at = place_start(group.replicas, turn.slot);
-    let number = refusal(fits, out, at, &*places);
-    if number != 0 {
-        return unchanged(number, turn, counts);
-    }
+    check(fits, out, at, places)?;
     if out {
-        return pass_out(group, turn, counts, &mut *window);
+        return Ok(pass_out(group, turn, counts, window));
     }
     if places[at] == 1 {
-        return pass_next(group, turn, counts, &mut *places, at, &mut *window);
+        return Ok(pass_next(group, turn, counts, places, at, window));
     }
-    let end = at + 512;
+    let block = &places[at..at + 512];
     let ended = end_writeset(
-        rows,
-        group.own,
-        turn,
-        counts,
-        &mut *queue,
-        items,
-        &mut *values,
-        &mut *stamps,
-        &places[at..end],
+        rows, group.own, turn, counts, queue, items, values, stamps, block,
     );
-    pass_writeset(ended, group.own, &mut *places, at, &mut *window)
+    Ok(pass_writeset(ended, group.own, places, at, window))
 }

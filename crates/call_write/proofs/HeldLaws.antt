@@ -8,8 +8,7 @@ use borrow.Author.Tests.{eq-eqb, ne_eqb}
 use lib.Dec.{eqb}
 use lib.ListN.{set, take, drop}
 use lib.Seq.{slice}
-use Rattle.memory.specs.declared.Held.{Held}
-use Rattle.memory.specs.declared.Held.TheVariants.{Nobody}
+use Rattle.std.specs.Prelude.{Option, None}
 use Rattle.memory.specs.declared.Txn.{Txn}
 use Rattle.memory.specs.Rows.{write_count, has, holder_from}
 use Rattle.engine.proofs.HasLaws.{has_not}
@@ -33,14 +32,14 @@ module _ (x : ℕ) where
   slice-not : (f t : ℕ) (l : List ℕ) → has x l ≡ false → has x (slice f t l) ≡ false
   slice-not f t l h = drop-not f (take t l) (take-not t l h)
 
-  pub nobody : (items : List ℕ) → has x items ≡ false → (me i : ℕ) (rows : List Txn) → holder_from items me x i rows ≡ Nobody
+  pub nobody : (items : List ℕ) → has x items ≡ false → (me i : ℕ) (rows : List Txn) → holder_from items me x i rows ≡ None
   unfolding holder_from
   nobody items h me i [] = refl
   nobody items h me i (t ∷ ts) =
       let later = nobody items h me (suc i) ts in
       rw (slice-not (8 * i) (8 * i + write_count t) items h)
-      (cond_by (λ (o : Held). o ≡ Nobody) (eqb i me) (λ e. later)
-      (λ e. cond_by (λ (o : Held). o ≡ Nobody) (eqb t.ticket 0) (λ z. later) (λ z. later)))
+      (cond_by (λ (o : Option ℕ). o ≡ None) (eqb i me) (λ e. later)
+      (λ e. cond_by (λ (o : Option ℕ). o ≡ None) (eqb t.ticket 0) (λ z. later) (λ z. later)))
 
 -- row me, which is row k of those from i on, is passed over
 pub holder_but : (items : List ℕ) (me item i : ℕ) (rows : List Txn) (k : ℕ) (t : Txn) → i + k ≡ me → holder_from items me item i (set rows k t) ≡ holder_from items me item i rows

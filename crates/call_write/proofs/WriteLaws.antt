@@ -1,16 +1,16 @@
 -- A write that no early refusal meets is that of an active transaction; and each answer of that, from the tests that lead to it. Assumes nothing.
 use Prim.Native.Nat.{ℕ, suc, ◌+◌, ◌*◌, ◌-◌, ◌≤◌, ◌<◌, min}
-use mathlib.Core.Path.{◌≡◌, refl, ap, ◌∙◌}
-use mathlib.Core.Bool.{Bool, true, false, cond, ◌&&◌}
-use mathlib.Core.List.{List, [], ◌∷◌}
+use mathlib.Core.Path.{◌≡◌, refl, sym, ap, ◌∙◌}
+use mathlib.Core.Bool.{Bool, true, false, cond, not, ◌&&◌}
+use mathlib.Core.List.{List, [], ◌∷◌, ◌++◌}
 use native.Mathlib.Omega.{arith}
 use borrow.Rule.Slice.PartMut.{put_mid}
-use borrow.Author.Tests.{eqb-true, eq-eqb, ne_eqb, lt-ltb, le-ltb, lt-leb}
-use lib.Dec.{eqb}
+use borrow.Author.Tests.{eqb-true, eq-eqb, ne_eqb, lt-ltb, le-ltb, lt-leb, le-leb}
+use lib.Dec.{eqb, leb}
 use lib.IntN.{ℤ}
 use lib.ListN.{length, get_or, set, drop, length-take}
 use lib.Seq.{slice}
-use Rattle.block.specs.Answers.{refuse, first_of}
+use Rattle.block.specs.Answers.{Refusal, refuse, first_of}
 use Rattle.block.proofs.BoolLaws.{both}
 use Rattle.block.proofs.ListLaws.{lent, lent_slice}
 use Rattle.memory.specs.declared.Txn.{Txn}
@@ -20,7 +20,12 @@ use Rattle.memory.proofs.RowLaws.{below-within, insert-back}
 use Rattle.engine.specs.Answers.{Outcome, outcome, unless}
 use Rattle.engine.specs.Answers.Answer.{refused, wrote}
 use Rattle.engine.specs.Classes.{must_wait}
-use Rattle.engine.specs.Client.{write_lent, is_own, held_by_other, is_stale, is_full, write_refusal, rewrite_at, insert_write, stale_at, write_row}
+use Rattle.engine.specs.Client.{write_lent, early_refusals, late_refusals, is_own, held_by_other, is_stale, is_full, write_refusal, rewrite_at, insert_write, stale_at, write_row}
+use Rattle.engine.proofs.Tests.{bool_by, less_by, not_first}
+use Rattle.call_reply.specs.declared.faults.Fault.{Fault}
+use Rattle.call_reply.specs.declared.faults.Fault.TheVariants.{Stale}
+use Rattle.call_reply.specs.Faults.{fault_number}
+use Rattle.call_reply.proofs.FaultLaws.{fault_some}
 use Rattle.call_write.specs.Parts.{Inserted, inserted, insert_in, write_active}
 
 -- the last three refusals, where the item is not the transaction's own
@@ -52,6 +57,39 @@ module _ (m : Memory) (r item : ℕ) (value : ℤ) (lengths : write_lent m ≡ t
     pub write-active : write_row m r item value ≡ write_active m r item value
     unfolding write_row write_active
     write-active = rw past (by_cases m _ _ _ _ _ _ _)
+
+-- what the first refusals say, where one holds, all say
+first-early : (early rest : List Refusal) (k : ℕ) → k ≡ first_of early → (k ≡ 0 → ⊥) → first_of (early ++ rest) ≡ k
+unfolding first_of
+first-early [] rest k e some = absurd (some e)
+first-early (r ∷ early) rest k e some =
+    bool_by r.holds (λ h. rw h (sym (rw h at e))) (λ h. rw h (first-early early rest k (rw h at e) some))
+
+-- the first refusals, by the stage of the row's record
+abbrev pub by_stage : Bool → ℕ → ℕ → ℕ → List Refusal
+by_stage lent item r stage = refuse 1 (not lent) ∷ refuse 2 (leb 128 item) ∷ refuse 3 (leb 6 r) ∷ refuse 4 (not (eqb stage 0)) ∷ []
+
+-- the stage is looked at only where there is a row
+pub same_stage : (lent : Bool) (item r s s' : ℕ) → (r < 6 → s ≡ s') → first_of (by_stage lent item r s) ≡ first_of (by_stage lent item r s')
+unfolding first_of
+same_stage lent item r s s' e = less_by r 6 (λ h. rw (e h)) (λ h. rw (le-leb 6 r h))
+
+module _ (f : Fault) (lent : Bool) (item r s : ℕ) (early : fault_number f ≡ first_of (by_stage lent item r s)) where
+  not_nine : fault_number f ≡ 9 → ⊥
+  not_nine z = not_first 9 (by_stage lent item r s) refl (sym early ∙ z)
+
+  pub not_stale : f ≡ Stale → ⊥
+  not_stale z = not_nine (ap fault_number z)
+
+pub write-early : (m : Memory) (r item : ℕ) (value : ℤ) (f : Fault) → fault_number f ≡ first_of (early_refusals (write_lent m) m r item)
+    → outcome (refused (fault_number f)) m ≡ write_row m r item value
+unfolding write_row write_refusal
+write-early m r item value f early =
+    rw (
+      first-early (early_refusals (write_lent m) m r item) (refuse 7 (must_wait m item) ∷ late_refusals m r item) (fault_number f) early (fault_some f),
+      ne_eqb (fault_number f) 9 (not_nine f (write_lent m) item r (row_at m.txns.table r).stage early),
+      ne_eqb (fault_number f) 0 (fault_some f),
+    )
 
 -- what the lengths are where they fit
 pub fits_long : (i w s c p n : ℕ) → (eqb i 48 && eqb w 48 && (eqb s 128 && (eqb c 128 && eqb p n))) ≡ true → (i ≡ 48) × (w ≡ 48) × (s ≡ 128)

@@ -10,8 +10,7 @@ use lib.ListN.{length, set, length-map, get_or-map}
 use lib.Seq.{slice_empty, get_or-set_same, get_or-set_other}
 use borrow.Author.Tests.{eqb-true, eqb-false, eq-eqb, ne_eqb}
 use Rattle.memory.specs.declared.Txn.{Txn}
-use Rattle.memory.specs.declared.Held.{Held}
-use Rattle.memory.specs.declared.Held.TheVariants.{By}
+use Rattle.std.specs.Prelude.{Option, Some}
 use Rattle.memory.specs.Rows.{closed, is_open, open_count, row_from, row_of, free_row, row_at, items_of, index_from, has, holder_from, holder_of, is_held}
 use Rattle.engine.specs.Moves.{send_row}
 use Rattle.engine.proofs.Tests.{cond_by, same_by, clash}
@@ -157,13 +156,13 @@ pub no_items : (x r : ℕ) (items : List ℕ) → has x (items_of r closed items
 unfolding has
 no_items x r items = rw (add-zero (8 * r), slice_empty (8 * r) items)
 
-unheld_rest : (a b c : Bool) (i : ℕ) (rest : Held) → is_held (cond a rest (cond b rest (cond c (By i) rest))) ≡ false → is_held rest ≡ false
+unheld_rest : (a b c : Bool) (i : ℕ) (rest : Option ℕ) → is_held (cond a rest (cond b rest (cond c (Some i) rest))) ≡ false → is_held rest ≡ false
 unheld_rest true b c i rest e = e
 unheld_rest false true c i rest e = e
 unheld_rest false false true i rest e = clash {b = true} refl e
 unheld_rest false false false i rest e = e
 
-unheld_first : (a b c : Bool) (i : ℕ) (rest : Held) → is_held (cond a rest (cond b rest (cond c (By i) rest))) ≡ false
+unheld_first : (a b c : Bool) (i : ℕ) (rest : Option ℕ) → is_held (cond a rest (cond b rest (cond c (Some i) rest))) ≡ false
     → a ≡ false → b ≡ false → c ≡ true → ⊥
 unheld_first true b c i rest e p q u = clash {b = true} refl p
 unheld_first false true c i rest e p q u = clash {b = true} refl q

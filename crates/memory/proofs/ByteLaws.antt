@@ -1,10 +1,10 @@
 -- Bytes copied over as many others are what is left; a block put in place of 512 bytes. Assumes nothing.
-use Prim.Native.Nat.{ℕ, ◌+◌, ◌-◌, ◌≤◌, min}
-use mathlib.Core.Path.{◌≡◌, sym, ◌∙◌}
+use Prim.Native.Nat.{ℕ, ◌+◌, ◌-◌, min}
+use mathlib.Core.Path.{◌≡◌, sym}
 use mathlib.Core.List.{List, append-nil, append_assoc}
 use native.Mathlib.Nat.{zero-add}
 use native.Mathlib.Omega.{arith}
-use borrow.Rule.Slice.PartMut.{put_mid, mid_len}
+use borrow.Rule.Slice.PartMut.{put_mid}
 use lib.ListN.{length, take, drop, drop_of_length-le}
 use lib.Seq.{paste, take-length, take_all, drop-drop}
 
@@ -13,11 +13,7 @@ copied to bytes h =
     let e : min (length bytes) (length to) ≡ length bytes = omega arith in
     rw (e, take-length bytes, zero-add, drop_of_length-le to {i = length bytes} (omega arith)) (append-nil bytes)
 
--- 512 bytes lent of a list have as many bytes as a block
-pub part-long : (at : ℕ) (l bytes : List ℕ) → at + 512 ≤ length l → length bytes ≡ 512 → length (take (at + 512 - at) (drop at l)) ≡ length bytes
-part-long at l bytes h e = mid_len at (at + 512) l h ∙ omega arith
-
--- put back as the block, they are the block pasted
+-- 512 bytes lent and put back as the block are the block pasted
 pub put-paste : (at : ℕ) (l bytes : List ℕ) → length bytes ≡ 512 → put_mid at (at + 512 - at) l bytes ≡ paste l at bytes 512
 put-paste at l bytes h =
     let e : at + 512 - at ≡ 512 = omega arith in

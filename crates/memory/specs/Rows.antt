@@ -1,8 +1,6 @@
 -- The rows of the table and the writes of each.
-use Rattle.std.specs.Prelude.{ℕ, suc, ◌+◌, ◌*◌, min, Bool, true, false, cond, not, List, [], ◌∷◌, ◌++◌, eqb, ltb, length, get_or, take, drop}
+use Rattle.std.specs.Prelude.{ℕ, suc, ◌+◌, ◌*◌, min, Bool, true, false, cond, not, List, [], ◌∷◌, ◌++◌, eqb, ltb, length, get_or, take, drop, Option, Some, None}
 use Rattle.std.proofs.Math.Seq.{slice}
-use Rattle.memory.specs.declared.Held.{Held}
-use Rattle.memory.specs.declared.Held.TheVariants.{By, Nobody}
 use Rattle.memory.specs.declared.Txn.{Txn}
 
 -- a free row
@@ -59,19 +57,19 @@ has x [] = false
 has x (y ∷ ys) = cond (eqb y x) true (has x ys)
 
 -- the first open row but `me`, counted from i, that has written the item: document 01's *holder* of its lock
-unfoldable pub holder_from : List ℕ → ℕ → ℕ → ℕ → List Txn → Held
-holder_from items me item i [] = Nobody
+unfoldable pub holder_from : List ℕ → ℕ → ℕ → ℕ → List Txn → Option ℕ
+holder_from items me item i [] = None
 holder_from items me item i (t ∷ ts) =
     cond (eqb i me) (holder_from items me item (suc i) ts)
     (cond (eqb t.ticket 0) (holder_from items me item (suc i) ts)
-    (cond (has item (items_of i t items)) (By i) (holder_from items me item (suc i) ts)))
+    (cond (has item (items_of i t items)) (Some i) (holder_from items me item (suc i) ts)))
 
-abbrev pub holder_of : List Txn → List ℕ → ℕ → ℕ → Held
+abbrev pub holder_of : List Txn → List ℕ → ℕ → ℕ → Option ℕ
 holder_of table items me item = holder_from items me item 0 table
 
-abbrev pub is_held : Held → Bool
-is_held (By r) = true
-is_held Nobody = false
+abbrev pub is_held : Option ℕ → Bool
+is_held (Some r) = true
+is_held None = false
 
 -- how many of a list's first elements are below x
 unfoldable pub count_below : ℕ → List ℕ → ℕ → ℕ

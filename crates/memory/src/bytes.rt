@@ -1,27 +1,18 @@
-// Bytes of a block, or of a part of the memory.
+// A byte of a block or of a part of the memory, and a copy of any elements.
 ghost use Rattle.std.specs.Prelude.{◌≡◌, min, length, get_or};
 ghost use Rattle.std.proofs.Math.Seq.{paste};
-
-use super::rows::lesser;
 
 // A byte, 0 past the end.
 pub fn byte_at(bytes: &[u8], at: usize) -> u8
     ensures { result ≡ get_or bytes.now at 0 }
 {
-    if at < bytes.len() {
-        return bytes[at];
-    }
-    0
+    bytes.get(at).copied().unwrap_or(0)
 }
 
-// The bytes over the first of `to`, as many as both have.
-pub fn copy_bytes(bytes: &[u8], to: &mut [u8])
-    ensures { to.new ≡ paste to.old 0 bytes.now (min (length bytes.now) (length to.old)) }
+// The elements over the first of `to`, as many as both have.
+pub fn copy_over<T: Copy>(from: &[T], to: &mut [T])
+    ensures { to.new ≡ paste to.old 0 from.now (min (length from.now) (length to.old)) }
 {
-    let n = lesser(bytes.len(), to.len());
-    let mut k: usize = 0;
-    while k < n {
-        to[k] = bytes[k];
-        k += 1;
-    }
+    let n = from.len().min(to.len());
+    to[..n].copy_from_slice(&from[..n]);
 }

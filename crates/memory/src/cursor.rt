@@ -19,20 +19,15 @@ impl Turn {
     pub fn mark_sent(self) -> Turn
         ensures { result ≡ mark_sent self }
     {
-        Turn {
-            slot: self.slot,
-            sent: 1,
-            applying: self.applying,
-        }
+        Turn { sent: 1, ..self }
     }
 
     pub fn mark_applying(self) -> Turn
         ensures { result ≡ mark_applying self }
     {
         Turn {
-            slot: self.slot,
-            sent: self.sent,
             applying: 1,
+            ..self
         }
     }
 
@@ -51,18 +46,12 @@ impl Turn {
 pub fn owner_at(group: Group, slot: u32) -> u32
     ensures { result ≡ owner_at group slot }
 {
-    if group.replicas == 0 {
-        return slot;
-    }
-    slot % (group.replicas as u32)
+    slot.checked_rem(group.replicas as u32).unwrap_or(slot)
 }
 
 // Where the place of a slot begins, among so many; where there is none it is defined too. By the number and not the group: one field read twice is one division.
 pub fn place_start(span: u8, slot: u32) -> usize
     ensures { result ≡ place_start span slot }
 {
-    if span == 0 {
-        return 512 * slot as usize;
-    }
-    512 * (slot % (span as u32)) as usize
+    512 * slot.checked_rem(span as u32).unwrap_or(slot) as usize
 }

@@ -63,13 +63,6 @@ pub struct Counts {
     pub withdrawn: u32,
 }
 
-// Who holds an item's lock.
-#[derive(Clone, Copy)]
-pub enum Held {
-    By(usize),
-    Nobody,
-}
-
 // Whose slot a turn is, beside the turn.
 #[derive(Clone, Copy)]
 pub struct Owned {

@@ -5,28 +5,12 @@ ghost use Rattle.memory.specs.Notices.{is_out, with_notice};
 use super::cursor::owner_at;
 use super::{Group, SLOT_LIMIT};
 
-// Where the replica's last outage begins; 0 past the sixth. The array by itself: what is indexed by a variable is first copied.
-pub fn out_from(group: Group, replica: u32) -> u32
-    ensures { result ≡ get_or group.from replica 0 }
+// What stands there for a replica, 0 past the sixth: of `from` where its last outage begins, of `until` its first slot that is not out any more.
+// The array by itself: what is indexed by a variable is first copied.
+pub fn entry_of(outages: [u32; 6], replica: u32) -> u32
+    ensures { result ≡ get_or outages replica 0 }
 {
-    let k = replica as usize;
-    if 6 <= k {
-        return 0;
-    }
-    let from = group.from;
-    from[k]
-}
-
-// Where it ends: its first slot that is not out any more; 0 past the sixth.
-pub fn out_until(group: Group, replica: u32) -> u32
-    ensures { result ≡ get_or group.until replica 0 }
-{
-    let k = replica as usize;
-    if 6 <= k {
-        return 0;
-    }
-    let until = group.until;
-    until[k]
+    outages.get(replica as usize).copied().unwrap_or(0)
 }
 
 // Whether the slot is out: it is a slot, and in the last outage of its owner. Where that ends comes first: most slots are behind all outages, or there was none.
@@ -34,13 +18,7 @@ pub fn is_out(group: Group, slot: u32) -> bool
     ensures { result ≡ is_out group slot }
 {
     let owner = owner_at(group, slot);
-    if out_until(group, owner) <= slot {
-        return false;
-    }
-    if SLOT_LIMIT <= slot {
-        return false;
-    }
-    out_from(group, owner) <= slot
+    slot < entry_of(group.until, owner) && slot < SLOT_LIMIT && entry_of(group.from, owner) <= slot
 }
 
 // The group with a notice in force: an Out begins an outage, with no end yet, and a Back ends it. A number past the sixth changes nothing.

@@ -4,7 +4,6 @@ ghost use Rattle.memory.specs.Memory.{window_bytes};
 ghost use Rattle.memory.specs.Window.{keeping};
 
 use super::WINDOW_SLOTS;
-use super::bytes::copy_bytes;
 use super::cursor::place_start;
 
 // The block of a slot that the turn leaves, over that of 64 slots before.
@@ -13,6 +12,5 @@ pub fn keep(window: &mut [u8], slot: u32, block: &[u8])
     ensures { window.new ≡ keeping window.old slot block.now }
 {
     let at = place_start(WINDOW_SLOTS, slot);
-    let end = at + 512;
-    copy_bytes(block, &mut window[at..end]);
+    window[at..at + 512].copy_from_slice(block);
 }

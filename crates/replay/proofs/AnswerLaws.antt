@@ -1,6 +1,5 @@
 -- What is said of a call. Assumes nothing.
-use Rattle.std.proofs.Common.{◌≡◌, ℕ, ◌≤◌, min, Bool, true, false, cond, eqb, ◌⊎◌, List, [], length, take, replicate, ℤ, sym, refl, ap, ◌∙◌, subst, inl, inr, arith, eq-eqb, ne_eqb}
-use lib.Seq.{paste}
+use Rattle.std.proofs.Common.{◌≡◌, ℕ, ◌≤◌, Bool, true, false, cond, eqb, List, [], length, take, replicate, ℤ, sym, refl, ap, ◌∙◌, subst, inl, inr, arith}
 use Rattle.replay_parse.specs.declared.Call.{Call}
 use Rattle.replay_print.specs.Text.{answer_text, unknown_text, Holds}
 use Rattle.replay_replica.specs.declared.Replica.{Replica}
@@ -9,29 +8,9 @@ use Rattle.replay.specs.declared.Place.{Place}
 use Rattle.replay.specs.declared.Placed.{Placed}
 use Rattle.replay.specs.Places.{PlaysAt}
 use Rattle.replay.specs.Givings.{GivesAt}
-use Rattle.replay.specs.Answers.{shown_if, shows_block, block_shown, is_sent, kept_after, Says, SaysOf, AnswersAt, GivesLine, is_asked_at, Replies}
+use Rattle.replay.specs.Answers.{shows_block, block_shown, is_sent, kept_after, Says, SaysOf, AnswersAt, GivesLine, is_asked_at, Replies}
 
 module _ (letter number : ℕ) where
-  pub shows_first : (letter ≡ 74) ⊎ (letter ≡ 89) → shown_if number ≡ block_shown letter number
-  unfolding block_shown
-  shows_first (inl e) = rw e
-  shows_first (inr e) = rw e
-
-  pub shows-last : (letter ≡ 83) ⊎ (letter ≡ 90) → shown_if number ≡ block_shown letter number
-  unfolding block_shown
-  shows-last (inl e) = rw e
-  shows-last (inr e) = rw e
-
-  pub shows-none : ((letter ≡ 74) ⊎ (letter ≡ 89) → ⊥) → ((letter ≡ 83) ⊎ (letter ≡ 90) → ⊥) → 0 ≡ block_shown letter number
-  unfolding block_shown
-  shows-none h k =
-      rw (
-        ne_eqb letter 74 (λ e. h (inl e)),
-        ne_eqb letter 89 (λ e. h (inr e)),
-        ne_eqb letter 83 (λ e. k (inl e)),
-        ne_eqb letter 90 (λ e. k (inr e)),
-      )
-
   few-if : (b d : Bool) → cond b (cond d 512 0) 0 ≤ 512
   few-if true true = omega arith
   few-if true false = omega arith
@@ -41,20 +20,6 @@ module _ (letter number : ℕ) where
   pub shows-few : block_shown letter number ≤ 512
   unfolding block_shown
   shows-few = few-if (shows_block letter) (eqb number 0)
-
-  module _ (block kept : List ℕ) where
-    pub sent-other : (letter ≡ 83 → ⊥) → (false ≡ is_sent letter number) × (kept ≡ kept_after letter number block kept)
-    unfolding kept_after
-    sent-other h = rw (ne_eqb letter 83 h) (refl, refl)
-
-    pub sent-refused : letter ≡ 83 → (number ≡ 0 → ⊥) → (false ≡ is_sent letter number) × (kept ≡ kept_after letter number block kept)
-    unfolding kept_after
-    sent-refused e h = rw (eq-eqb letter 83 e, ne_eqb number 0 h) (refl, refl)
-
-    pub sent-kept : {left : List ℕ} → letter ≡ 83 → number ≡ 0 → left ≡ paste kept 0 block (min (length block) (length kept))
-        → (true ≡ is_sent letter number) × (left ≡ kept_after letter number block kept)
-    unfolding kept_after
-    sent-kept e h k = rw (eq-eqb letter 83 e, eq-eqb number 0 h) (refl, k)
 
 -- the text and the block kept, put together
 pub says_all : (letter number : ℕ) (numbers : List ℕ) (values : List ℤ) (block kept out : List ℕ) {shown n : ℕ} {sent : Bool} {kept_left out_left : List ℕ} → shown ≡ block_shown letter number
@@ -102,10 +67,6 @@ module _ (known : Bool) (c : Call) (named told : List ℕ) (lender : Replica) (p
     pub reply-played : told ≡ [] → AnswersAt c named place page kept out after n sent left kept_left out_left
         → Replies known c named told lender place page kept out after n sent left kept_left out_left
     reply-played z h = record { does = inl (sym e ∙ t, inl (z, h)); within = h.says.within }
-
-    pub reply-given : (told ≡ [] → ⊥) → GivesLine told lender.window place page kept out after n sent left kept_left out_left
-        → Replies known c named told lender place page kept out after n sent left kept_left out_left
-    reply-given z h = record { does = inl (sym e ∙ t, inr (z, h)); within = h.says.within }
 
   pub reply-passed : {out_left : List ℕ} {n : ℕ} → b ≡ false → Holds out unknown_text out_left n → length out_left ≡ length out
       → Replies known c named told lender place page kept out place n false page kept out_left

@@ -1,13 +1,11 @@
 -- A call at a place, and the journal and the notices after it. Assumes nothing.
-use Rattle.std.proofs.Common.{◌≡◌, ℕ, ◌+◌, ◌≤◌, min, Bool, true, false, not, eqb, ◌⊎◌, List, length, take, replicate, sym, ap, ◌∙◌, inl, inr, arith, ne_eqb}
+use Rattle.std.specs.Prelude.{Option}
+use Rattle.std.proofs.Common.{◌≡◌, ℕ, ◌+◌, ◌≤◌, min, List, length, take, replicate, sym, ap, ◌∙◌, arith, ne_eqb}
 use lib.Seq.{paste, length-paste, take-paste}
-use Rattle.memory.specs.Memory.{numberless}
-use Rattle.memory.specs.declared.Group.{Group}
 use Rattle.replay_parse.specs.declared.Call.{Call}
-use Rattle.replay_journal.specs.declared.Held.{Held}
-use Rattle.replay_journal.specs.Journals.{Journal, journal_of, has_part, bytes_given, Lends, Keeps}
+use Rattle.replay_journal.specs.Journals.{Journal, journal_of, bytes_given, Lends, Keeps}
 use Rattle.replay_journal.specs.declared.notices.Taken.{Taken}
-use Rattle.replay_journal.specs.Taken.{taken_of, has_taken, numbers_lent, KeepsTaken}
+use Rattle.replay_journal.specs.Taken.{taken_of, numbers_lent, KeepsTaken}
 use Rattle.replay_journal.proofs.JournalLaws.{take_there}
 use Rattle.replay_replica.specs.declared.Played.{Played}
 use Rattle.replay_replica.specs.declared.Replica.{Replica}
@@ -15,65 +13,7 @@ use Rattle.call_reply.specs.Notices.{restart_lent}
 use Rattle.replay_replica.specs.Effects.{places_size, memory_of, Effect, effect, Plays}
 use Rattle.replay_calls.specs.Letters.{played}
 use Rattle.replay.specs.declared.Place.{Place}
-use Rattle.replay.specs.Places.{is_replica, is_there, is_answered, size_at, given_at, played_at, PlaysAt}
-
--- ---- whether there is an answer
-
-pub replica_not : (group : Group) → numberless group ≡ true → false ≡ is_replica group
-replica_not group e = rw e
-
-pub replica_made : (group : Group) → numberless group ≡ false → not (eqb group.replicas 0) ≡ is_replica group
-replica_made group e = rw e
-
-module _ (c : Call) (group : Group) where
-  -- A, M, Y; and J, P, Z
-  abbrev Makes : Type 0
-  Makes = (c.letter ≡ 65) ⊎ ((c.letter ≡ 77) ⊎ (c.letter ≡ 89))
-
-  abbrev Replicas : Type 0
-  Replicas = (c.letter ≡ 74) ⊎ ((c.letter ≡ 80) ⊎ (c.letter ≡ 90))
-
-  pub there-made : Makes → true ≡ is_there c group
-  there-made (inl e) = rw e
-  there-made (inr (inl e)) = rw e
-  there-made (inr (inr e)) = rw e
-
-  pub there-replica : Replicas → is_replica group ≡ is_there c group
-  there-replica (inl e) = rw e
-  there-replica (inr (inl e)) = rw e
-  there-replica (inr (inr e)) = rw e
-
-  pub there-other : (Makes → ⊥) → (Replicas → ⊥) → not (eqb group.replicas 0) ≡ is_there c group
-  there-other h k =
-      rw (
-        ne_eqb c.letter 65 (λ e. h (inl e)),
-        ne_eqb c.letter 77 (λ e. h (inr (inl e))),
-        ne_eqb c.letter 89 (λ e. h (inr (inr e))),
-        ne_eqb c.letter 74 (λ e. k (inl e)),
-        ne_eqb c.letter 80 (λ e. k (inr (inl e))),
-        ne_eqb c.letter 90 (λ e. k (inr (inr e))),
-      )
-
-  module _ (j t : Journal) {known : Bool} where
-    pub answer-unknown : known ≡ false → false ≡ is_answered known c group j t
-    unfolding is_answered
-    answer-unknown k = rw k
-
-    pub answer-none : known ≡ true → c.letter ≡ 0 → false ≡ is_answered known c group j t
-    unfolding is_answered
-    answer-none k z = rw (k, z)
-
-    pub answer-missing : known ≡ true → (c.letter ≡ 0 → ⊥) → is_there c group ≡ false → false ≡ is_answered known c group j t
-    unfolding is_answered
-    answer-missing k z h = rw (k, ne_eqb c.letter 0 z, h)
-
-    pub answer-short : known ≡ true → (c.letter ≡ 0 → ⊥) → is_there c group ≡ true → has_part c j ≡ false → false ≡ is_answered known c group j t
-    unfolding is_answered
-    answer-short k z h p = rw (k, ne_eqb c.letter 0 z, h, p)
-
-    pub answer-taken : known ≡ true → (c.letter ≡ 0 → ⊥) → is_there c group ≡ true → has_part c j ≡ true → has_taken c t ≡ is_answered known c group j t
-    unfolding is_answered
-    answer-taken k z h p = rw (k, ne_eqb c.letter 0 z, h, p)
+use Rattle.replay.specs.Places.{size_at, given_at, played_at, PlaysAt}
 
 -- ---- Z, and any other call
 
@@ -116,7 +56,7 @@ given-at c named j {n = n} l h =
 -- ---- the call
 
 module _ (c : Call) (place : Place) (named lent page : List ℕ) where
-  pub plays-at : {given block left : List ℕ} {p : Played} {journal : Held} {notices : Taken}
+  pub plays-at : {given block left : List ℕ} {p : Played} {journal : Option ℕ} {notices : Option Taken}
       → given ≡ given_at c named (journal_of place.held page)
       → Plays (size_at c place.replica) place.replica p block (played_at c given (taken_of place.taken) lent place.replica)
       → Keeps p.change given block place.held page journal left

@@ -1,7 +1,6 @@
 -- What is said of a call, and which blocks are kept of those sent.
-use Rattle.std.specs.Prelude.{◌≡◌, ℕ, ◌≤◌, min, Bool, true, false, cond, ◌&&◌, ◌||◌, ◌⊎◌, List, [], length, take, drop, replicate, ℤ, ◌==◌, ◌≢◌}
+use Rattle.std.specs.Prelude.{◌≡◌, ℕ, ◌≤◌, min, Bool, true, false, cond, ◌&&◌, ◌||◌, ◌⊎◌, List, [], length, take, drop, replicate, ℤ, ◌==◌, ◌≢◌, Some}
 use Rattle.std.proofs.Math.Seq.{paste}
-use Rattle.replay_journal.specs.declared.Held.TheVariants.{Bytes}
 use Rattle.replay_journal.specs.Journals.{journal_of, Keeps}
 use Rattle.replay_journal.specs.Taken.{none_taken, taken_of, KeepsTaken}
 use Rattle.replay_parse.specs.declared.Call.{Call}
@@ -15,7 +14,7 @@ use Rattle.replay.specs.declared.Place.{Place}
 
 -- where nothing was made
 abbrev pub no_place : Place
-no_place = record { replica = no_replica; held = Bytes 0; taken = none_taken }
+no_place = record { replica = no_replica; held = Some 0; taken = Some none_taken }
 
 -- ---- what is said
 

@@ -9,84 +9,55 @@ use super::places::{is_answered, is_replica};
 use super::{Place, Placed};
 use call_giver::giver;
 use memory::Group;
-use memory::rows::lesser;
 use replay_give::give;
 use replay_give::kept::catch_up;
-use replay_give::told::Told;
 use replay_parse::Call;
 
 // The place of the giver, one of the eight: any where there is none.
-pub fn place_of(group: Group, told: Told) -> usize
-    requires { told.count ≤ 6 }
-    ensures { (result ≡ min (giver_of group.own (take told.count told.turns)) 7) × (result < 8) }
+pub fn place_of(group: Group, told: &[u32]) -> usize
+    ensures { (result ≡ min (giver_of group.own told.now) 7) × (result < 8) }
 {
-    let turns = told.turns;
-    let n = told.count;
-    lesser(giver(group.own, &turns[..n]), 7)
+    giver(group.own, told).unwrap_or(group.own as usize).min(7)
 }
 
 // Whether there is an answer to a giving. `lender` is known of its group by what stands at the place of the giver.
-fn is_given(known: bool, told: Told, group: Group, lender: Group) -> bool
-    requires { told.count ≤ 6 }
-    ensures { result ≡ is_given known (take told.count told.turns) group lender }
+#[tactic(auto, unfolding(crate::specs::Givings::is_given))]
+fn is_given(known: bool, told: &[u32], group: Group, lender: Group) -> bool
+    ensures { result ≡ is_given known told.now group lender }
 {
-    if !known {
-        return false;
-    }
-    if !is_replica(group) {
-        return false;
-    }
-    if told.count != group.replicas as usize {
-        return false;
-    }
-    let turns = told.turns;
-    let n = told.count;
-    if giver(group.own, &turns[..n]) == group.own as usize {
-        return true;
-    }
-    is_replica(lender)
+    known
+        && is_replica(group)
+        && told.len() == group.replicas as usize
+        && (giver(group.own, told).is_none() || is_replica(lender))
 }
 
 // Whether there is an answer to the line: a call, or a giving where turns are told.
 pub fn is_asked(
     known: bool,
     call: Call,
-    told: Told,
+    told: &[u32],
     place: Place,
     lender: Group,
     page: &[u8],
 ) -> bool
-    requires { told.count ≤ 6 }
-    ensures { result ≡ is_asked known call (take told.count told.turns) place.replica.group lender (journal_of place.held page.now) (taken_of place.taken) }
+    ensures { result ≡ is_asked known call told.now place.replica.group lender (journal_of place.held page.now) (taken_of place.taken) }
 {
-    if told.count == 0 {
+    if told.is_empty() {
         return is_answered(known, call, place, page);
     }
-    let replica = place.replica;
-    let group = replica.group;
-    is_given(known, told, group, lender)
+    is_given(known, told, place.replica.group, lender)
 }
 
 // The giving, lent the window of the one at the lender's place, and after it the journal; the notices stay.
-pub fn run(told: Told, place: Place, lender: Place, page: &mut [u8]) -> Placed
-    requires { told.count ≤ 6 }
-    ensures { GivesAt (take told.count told.turns) lender.replica.window place page.old result page.new }
+pub fn run(told: &[u32], place: Place, lent: &[u8], page: &mut [u8]) -> Placed
+    ensures { GivesAt told.now lent.now place page.old result page.new }
 {
-    let turns = told.turns;
-    let n = told.count;
-    let other = lender.replica;
-    let lent = other.window;
-    let replica = place.replica;
-    let held = place.held;
-    let taken = place.taken;
-    let played = give(replica, &turns[..n], &lent);
+    let played = give(place.replica, told, lent);
     let after = played.replica;
-    let turn = after.turn;
-    let window = after.window;
-    let journal = catch_up(held, &window, turn.slot, &mut *page);
+    let held = catch_up(place.held, &after.window, after.turn.slot, page);
     Placed {
-        played: played,
-        held: journal,
-        taken: taken,
+        played,
+        held,
+        taken: place.taken,
     }
 }

@@ -1,13 +1,14 @@
 // Plays a list of calls at eight places for replicas and stations, one call to a line, and prints each answer.
 #![tactic(auto)]
 
-ghost use Rattle.std.specs.Prelude.{◌≡◌, ◌+◌, ◌%◌, ◌^◌, ◌<◌, ◌≤◌, ◌&&◌, length, take, if◌then◌else◌, nat_lt};
+ghost use Rattle.std.specs.Prelude.{◌≡◌, ◌+◌, ◌%◌, ◌^◌, ◌<◌, ◌≤◌, length, take, if◌then◌else◌};
 ghost use Rattle.replay_print.specs.Text.{answer_text, Holds};
 ghost use Rattle.replay.specs.Answers.{no_place, shown_if, block_shown, is_sent, kept_after, Says, AnswersAt, GivesLine, Replies};
 
-use memory::bytes::copy_bytes;
-use replay_give::told::{Told, turns_of};
-use replay_journal::Held;
+use memory::bytes::copy_over;
+use replay_delivery::Delivery;
+use replay_give::TurnsTold;
+use replay_give::told::turns_of;
 use replay_journal::notices::{Taken, none};
 use replay_parse::Call;
 use replay_replica::{Played, Replica, nobody};
@@ -23,16 +24,16 @@ mod usage;
 #[derive(Clone, Copy)]
 pub struct Place {
     pub replica: Replica,
-    pub held: Held,
-    pub taken: Taken,
+    pub held: Option<usize>,
+    pub taken: Option<Taken>,
 }
 
 // What a call at a place gives, and after it how much of the page is the journal, and the notices.
 #[derive(Clone, Copy)]
 pub struct Placed {
     pub played: Played,
-    pub held: Held,
-    pub taken: Taken,
+    pub held: Option<usize>,
+    pub taken: Option<Taken>,
 }
 
 // The place of a call, the call, and the first `count` bytes for it, or the turns that a giving is told; not `known` where the line names no place, or no bytes.
@@ -43,7 +44,9 @@ struct Request {
     call: Call,
     count: usize,
     bytes: [u8; 2100],
-    told: Told,
+    told: TurnsTold,
+    ghost at_place: { place < 8 },
+    ghost within: { count ≤ 2100 },
 }
 
 // What the next line asks, unless the input has ended.
@@ -82,43 +85,42 @@ fn nowhere() -> Place
 {
     Place {
         replica: nobody(),
-        held: Held::Bytes(0),
-        taken: none(),
+        held: Some(0),
+        taken: Some(none()),
     }
 }
 
-// One of the eight: any for what names none.
-fn at_most_seven(k: usize) -> usize
-    ensures { result < 8 }
-{
-    if k < 8 { k } else { 7 }
-}
+// What stands for no call: no call is of letter 0.
+const NO_CALL: Call = Call {
+    letter: 0,
+    first: 0,
+    second: 0,
+    value: 0,
+    digits: 0,
+};
 
-// Whether the line names a place, and bytes.
-fn is_known(place: usize, known: bool) -> bool
-    ensures { result ≡ (nat_lt place 8 && known) }
-{
-    if place < 8 { known } else { false }
-}
+const NO_BYTES: Delivery = Delivery {
+    count: 0,
+    bytes: [0; 2100],
+};
 
 // What the line asks. `kept` are the blocks sent last.
 fn request_of(line: &[u8], sent: u64, kept: &[u8]) -> Request
     requires { length kept.now ≡ 32768 }
-    ensures { (result.place < 8) × (result.count ≤ 2100) × (result.told.count ≤ 6) }
 {
     let place = replay_parse::place_named(line);
-    let call = replay_parse::call_of(line);
+    let call = replay_parse::call_of(line).unwrap_or(NO_CALL);
     let from = replay_delivery::start_of(call.first as u64);
     let delivery = replay_delivery::delivered(call, line, sent, &kept[from..from + 512]);
-    let bytes = delivery.bytes;
-    let told = turns_of(line);
+    let known = place.is_some() && delivery.is_some();
+    let Delivery { count, bytes } = delivery.unwrap_or(NO_BYTES);
     Request {
-        place: at_most_seven(place),
-        known: is_known(place, delivery.known),
-        call: call,
-        count: delivery.count,
-        bytes: bytes,
-        told: told,
+        place: place.unwrap_or(7),
+        known,
+        call,
+        count,
+        bytes,
+        told: turns_of(line),
     }
 }
 
@@ -131,17 +133,14 @@ fn next_request<R: Read>(
     kept: &[u8],
 ) -> Asked
     requires { length kept.now ≡ 32768 }
-    ensures { (result.request.place < 8) × (result.request.count ≤ 2100) × (result.request.told.count ≤ 6) }
 {
     // One byte more than the longest call has, `Y k `, three numbers and 2,100 bytes: a longer line is no call.
     let mut line = [0u8; 4239];
-    let read = text_lines::input::next_line(&mut *input, source, &mut *buffer, &mut line);
-    let n = read.length;
-    let after = read.source;
+    let read = text_lines::input::next_line(input, source, buffer, &mut line);
     Asked {
-        source: after,
+        source: read.source,
         ended: read.ended,
-        request: request_of(&line[..n], sent, kept),
+        request: request_of(&line[..read.length], sent, kept),
     }
 }
 
@@ -150,15 +149,11 @@ fn put_played(played: Played, block: &[u8], out: &mut [u8]) -> usize
     requires { (played.count ≤ 10) × (played.shown ≤ 128) }
     ensures { Holds out.old (answer_text played.number (take played.count played.numbers) (take played.shown played.values) block.now) out.new result }
 {
-    let numbers = played.numbers;
-    let count = played.count;
-    let values = played.values;
-    let shown = played.shown;
     replay_print::put_answer(
-        &mut *out,
+        out,
         played.number,
-        &numbers[..count],
-        &values[..shown],
+        &played.numbers[..played.count],
+        &played.values[..played.shown],
         block,
     )
 }
@@ -171,28 +166,26 @@ fn shown_if(number: u8) -> usize
 }
 
 // How many bytes of a block the answer shows: those of a block that was sent, given back or asked for.
+#[tactic(auto, unfolding(crate::specs::Answers::block_shown))]
 fn block_shown(letter: u8, number: u8) -> usize
     ensures { result ≡ block_shown letter number }
 {
     match letter {
-        b'J' | b'Y' => shown_if(number),
-        b'S' | b'Z' => shown_if(number),
+        b'J' | b'S' | b'Y' | b'Z' => shown_if(number),
         _ => 0,
     }
 }
 
 // Keeps a block that was sent; whether one was.
+#[tactic(auto, unfolding(crate::specs::Answers::kept_after))]
 fn keep_sent(letter: u8, number: u8, block: &[u8], kept: &mut [u8]) -> bool
     ensures { (result ≡ is_sent letter number) × (kept.new ≡ kept_after letter number block.now kept.old) }
 {
-    if letter != b'S' {
-        return false;
+    let sent = letter == b'S' && number == 0;
+    if sent {
+        copy_over(block, kept);
     }
-    if number != 0 {
-        return false;
-    }
-    copy_bytes(block, &mut *kept);
-    true
+    sent
 }
 
 // The answer put as a line; a block that was sent goes into `kept`.
@@ -203,8 +196,8 @@ fn put_answer(letter: u8, played: Played, block: &[u8], kept: &mut [u8], out: &m
 {
     let shown = block_shown(letter, played.number);
     Said {
-        length: put_played(played, &block[..shown], &mut *out),
-        sent: keep_sent(letter, played.number, block, &mut *kept),
+        length: put_played(played, &block[..shown], out),
+        sent: keep_sent(letter, played.number, block, kept),
     }
 }
 
@@ -216,55 +209,48 @@ fn play_line(
     kept: &mut [u8],
     out: &mut [u8],
 ) -> Answered
-    requires { request.count ≤ 2100 }
     ensures { AnswersAt request.call (take request.count request.bytes) place page.old kept.old out.old
         result.place result.said.length result.said.sent page.new kept.new out.new }
 {
-    let call = request.call;
-    let bytes = request.bytes;
-    let n = request.count;
     let mut block = [0u8; 512];
-    let placed = places::run(call, place, &bytes[..n], &mut *page, &mut block);
-    let played = placed.played;
-    let after = played.replica;
-    let left = placed.held;
-    let notices = placed.taken;
+    let placed = places::run(
+        request.call,
+        place,
+        &request.bytes[..request.count],
+        page,
+        &mut block,
+    );
     Answered {
         place: Place {
-            replica: after,
-            held: left,
-            taken: notices,
+            replica: placed.played.replica,
+            held: placed.held,
+            taken: placed.taken,
         },
-        said: put_answer(call.letter, played, &block, &mut *kept, &mut *out),
+        said: put_answer(request.call.letter, placed.played, &block, kept, out),
     }
 }
 
 // The giving at its place, and the answer put.
 fn give_line(
-    told: Told,
+    told: &[u32],
     place: Place,
-    lender: Place,
+    lent: &[u8],
     page: &mut [u8],
     kept: &mut [u8],
     out: &mut [u8],
 ) -> Answered
-    requires { told.count ≤ 6 }
-    ensures { GivesLine (take told.count told.turns) lender.replica.window place page.old kept.old out.old
+    ensures { GivesLine told.now lent.now place page.old kept.old out.old
         result.place result.said.length result.said.sent page.new kept.new out.new }
 {
-    let placed = givings::run(told, place, lender, &mut *page);
+    let placed = givings::run(told, place, lent, page);
     let block = [0u8; 512];
-    let played = placed.played;
-    let after = played.replica;
-    let left = placed.held;
-    let notices = placed.taken;
     Answered {
         place: Place {
-            replica: after,
-            held: left,
-            taken: notices,
+            replica: placed.played.replica,
+            held: placed.held,
+            taken: placed.taken,
         },
-        said: put_answer(b'G', played, &block, &mut *kept, &mut *out),
+        said: put_answer(b'G', placed.played, &block, kept, out),
     }
 }
 
@@ -277,28 +263,25 @@ fn answer(
     kept: &mut [u8],
     out: &mut [u8],
 ) -> Answered
-    requires { (request.count ≤ 2100) × (request.told.count ≤ 6) }
     ensures { Replies request.known request.call (take request.count request.bytes) (take request.told.count request.told.turns) lender.replica place
         page.old kept.old out.old
         result.place result.said.length result.said.sent page.new kept.new out.new }
 {
-    let call = request.call;
-    let told = request.told;
-    let other = lender.replica;
-    let group = other.group;
-    if !givings::is_asked(request.known, call, told, place, group, &*page) {
+    let told = request.told.turns();
+    let group = lender.replica.group;
+    if !givings::is_asked(request.known, request.call, told, place, group, page) {
         return Answered {
-            place: place,
+            place,
             said: Said {
-                length: replay_print::put_unknown(&mut *out),
+                length: replay_print::put_unknown(out),
                 sent: false,
             },
         };
     }
-    if told.count == 0 {
-        return play_line(request, place, &mut *page, &mut *kept, &mut *out);
+    if told.is_empty() {
+        return play_line(request, place, page, kept, out);
     }
-    give_line(told, place, lender, &mut *page, &mut *kept, &mut *out)
+    give_line(told, place, &lender.replica.window, page, kept, out)
 }
 
 // How many blocks were sent, with one more where one was.
@@ -319,39 +302,32 @@ fn reply(
     kept: &mut [u8],
     out: &mut [u8],
 ) -> Replied
-    requires { (request.place < 8) × (request.count ≤ 2100) × (request.told.count ≤ 6) × (output.held ≤ 65536)
+    requires { (output.held ≤ 65536)
         × (length pages.old ≡ 524288) × (length kept.old ≡ 32768) × (length out.old ≡ 65536) }
     ensures { result.output.held ≤ 65536 }
 {
     let page = 65536 * request.place;
     let slot = replay_delivery::start_of(sent);
-    let end = output.held;
     let next = answer(
         request,
         place,
         lender,
         &mut pages[page..page + 65536],
         &mut kept[slot..slot + 512],
-        &mut out[end..],
+        &mut out[output.held..],
     );
-    let after = next.place;
-    let said = next.said;
     Replied {
-        place: after,
-        output: with_line(output, said.length),
-        sent: counted(sent, said.sent),
+        place: next.place,
+        output: with_line(output, next.said.length),
+        sent: counted(sent, next.said.sent),
     }
 }
 
 // The place of the giver that the line names, any where it names none.
 fn lender_of(request: Request, place: Place) -> usize
-    requires { request.told.count ≤ 6 }
     ensures { result < 8 }
 {
-    let told = request.told;
-    let replica = place.replica;
-    let group = replica.group;
-    givings::place_of(group, told)
+    givings::place_of(place.replica.group, request.told.turns())
 }
 
 // Every line of the input, in its order.
@@ -364,39 +340,34 @@ fn play<R: Read, W: Write, E: Write>(input: &mut R, to: &mut W, errors: &mut E) 
     let mut out = io::large_buffer();
     let mut source = start();
     let mut output = nothing();
-    let mut sent: u64 = 0;
-    let mut turns = u64::MAX;
-    while turns > 0 {
-        output = with_room(output, source, b"replay", &out, &mut *to, &mut *errors);
+    let mut sent = 0;
+    for _turn in 0..u64::MAX {
+        output = with_room(output, source, b"replay", &out, to, errors);
         if output.failed {
             return;
         }
-        let asked = next_request(&mut *input, source, sent, &mut buffer, &kept);
+        let asked = next_request(input, source, sent, &mut buffer, &kept);
         source = asked.source;
         if asked.ended {
-            finish(
-                output,
-                source.failed,
-                b"replay",
-                &out,
-                &mut *to,
-                &mut *errors,
-            );
+            finish(output, source.failed, b"replay", &out, to, errors);
             return;
         }
-        let request = asked.request;
-        let at = request.place;
+        let at = asked.request.place;
         let place = places[at];
-        let from = lender_of(request, place);
-        let lender = places[from];
+        let from = lender_of(asked.request, place);
         let next = reply(
-            request, place, lender, output, sent, &mut pages, &mut kept, &mut out,
+            asked.request,
+            place,
+            places[from],
+            output,
+            sent,
+            &mut pages,
+            &mut kept,
+            &mut out,
         );
-        let after = next.place;
-        places[at] = after;
+        places[at] = next.place;
         output = next.output;
         sent = next.sent;
-        turns -= 1;
     }
 }
 

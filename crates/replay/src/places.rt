@@ -15,18 +15,14 @@ use replay_replica::{Played, Replica, is_station};
 pub fn is_replica(group: Group) -> bool
     ensures { result ≡ is_replica group }
 {
-    if is_station(group) {
-        return false;
-    }
-    group.replicas != 0
+    !is_station(group) && group.replicas != 0
 }
 
 // Whether the place has what the call is for: a replica, or also a station. The call may be one that makes it.
 fn is_there(call: Call, group: Group) -> bool
     ensures { result ≡ is_there call group }
 {
-    let letter = call.letter;
-    match letter {
+    match call.letter {
         b'A' | b'M' | b'Y' => true,
         b'J' | b'P' | b'Z' => is_replica(group),
         _ => group.replicas != 0,
@@ -34,46 +30,39 @@ fn is_there(call: Call, group: Group) -> bool
 }
 
 // Whether there is an answer to the call. `known` where the bytes that its line names are.
+#[tactic(auto, unfolding(crate::specs::Places::is_answered))]
 pub fn is_answered(known: bool, call: Call, place: Place, page: &[u8]) -> bool
     ensures { result ≡ is_answered known call place.replica.group (journal_of place.held page.now) (taken_of place.taken) }
 {
-    if !known {
-        return false;
-    }
-    if call.letter == 0 {
-        return false;
-    }
-    let replica = place.replica;
-    let group = replica.group;
-    if !is_there(call, group) {
-        return false;
-    }
-    let held = place.held;
-    if !has_part(call, held, page) {
-        return false;
-    }
-    let taken = place.taken;
-    has_taken(call, taken)
+    known
+        && call.letter != 0
+        && is_there(call, place.replica.group)
+        && has_part(call, place.held, page)
+        && has_taken(call, place.taken)
 }
 
 // The call at the replica there. Z is a restart with the N and the own number that it has, lent the notices that are kept.
-fn play(call: Call, replica: Replica, bytes: &[u8], taken: Taken, block: &mut [u8]) -> Played
+fn play(
+    call: Call,
+    replica: Replica,
+    bytes: &[u8],
+    taken: Option<Taken>,
+    block: &mut [u8],
+) -> Played
     ensures { Plays (size_at call replica) replica result block.new (played_at call bytes.now (taken_of taken) block.old replica) }
 {
     if call.letter != b'Z' {
-        return replay_calls::run(call, replica, bytes, &mut *block);
+        return replay_calls::run(call, replica, bytes, block);
     }
     let group = replica.group;
-    let numbers = taken.numbers;
-    let n = lent(taken);
     replay_moves::restart(
         replica,
         group.replicas as u32,
         group.own as u32,
         call.value,
         bytes,
-        &numbers[..n],
-        &mut *block,
+        lent(&taken),
+        block,
     )
 }
 
@@ -81,17 +70,12 @@ fn play(call: Call, replica: Replica, bytes: &[u8], taken: Taken, block: &mut [u
 pub fn run(call: Call, place: Place, bytes: &[u8], page: &mut [u8], block: &mut [u8]) -> Placed
     ensures { PlaysAt call bytes.now block.old place page.old result page.new block.new }
 {
-    let replica = place.replica;
-    let held = place.held;
-    let taken = place.taken;
     let mut given = io::large_buffer();
-    let n = give(call, held, &*page, bytes, &mut given);
-    let played = play(call, replica, &given[..n], taken, &mut *block);
-    let change = played.change;
-    let journal = keep(change, held, &given[..n], &*block, &mut *page);
+    let n = give(call, place.held, page, bytes, &mut given);
+    let played = play(call, place.replica, &given[..n], place.taken, block);
     Placed {
-        played: played,
-        held: journal,
-        taken: after(call, played.number, taken),
+        played,
+        held: keep(played.change, place.held, &given[..n], block, page),
+        taken: after(call, played.number, place.taken),
     }
 }

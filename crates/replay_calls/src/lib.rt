@@ -5,7 +5,7 @@ ghost use Rattle.std.specs.Prelude.{ℕ, List};
 ghost use Rattle.replay_replica.specs.Effects.{memory_of, Plays};
 ghost use Rattle.replay_calls.specs.Letters.{size_lent, look, show, played};
 
-use memory::bytes::copy_bytes;
+use memory::bytes::copy_over;
 use replay_journal::Change;
 use replay_parse::Call;
 use replay_replica::results::{bare, with_values};
@@ -15,15 +15,14 @@ use replay_replica::{Played, Replica};
 fn shown(replica: Replica) -> Played
     ensures { (size : ℕ) (lent : List ℕ) → Plays size replica result lent (look lent (memory_of size replica)) }
 {
-    let values = replica.values;
-    with_values(replica, 0, 128, values)
+    with_values(replica, 0, 128, replica.values)
 }
 
 // The bytes, put over those lent.
 fn show(replica: Replica, bytes: &[u8], block: &mut [u8]) -> Played
     ensures { (size : ℕ) → Plays size replica result block.new (show bytes.now block.old (memory_of size replica)) }
 {
-    copy_bytes(bytes, &mut *block);
+    copy_over(bytes, block);
     bare(replica, 0, Change::Stays)
 }
 
@@ -32,8 +31,7 @@ pub fn run(call: Call, replica: Replica, bytes: &[u8], block: &mut [u8]) -> Play
     ensures { Plays (size_lent call replica.group) replica result block.new
         (played call bytes.now block.old (memory_of (size_lent call replica.group) replica)) }
 {
-    let letter = call.letter;
-    match letter {
+    match call.letter {
         b'M' => replay_moves::make(replica, call.first, call.second, call.value),
         b'B' => replay_client::begin(replica),
         b'R' => replay_client::read(replica, call.first, call.second),
@@ -41,19 +39,19 @@ pub fn run(call: Call, replica: Replica, bytes: &[u8], block: &mut [u8]) -> Play
         b'C' => replay_client::ask(replica, call.first),
         b'X' => replay_client::withdraw(replica, call.first),
         b'Q' => replay_client::report(replica),
-        b'S' => replay_moves::send(replica, &mut *block),
+        b'S' => replay_moves::send(replica, block),
         b'D' | b'F' | b'H' => replay_moves::deliver(replica, bytes),
-        b'K' => replay_moves::work(replica, &mut *block),
+        b'K' => replay_moves::work(replica, block),
         b'Y' => replay_moves::restart_alone(
             replica,
             call.first,
             call.second,
             call.value,
             bytes,
-            &mut *block,
+            block,
         ),
         b'P' => replay_client::load(replica, bytes),
-        b'J' => show(replica, bytes, &mut *block),
+        b'J' => show(replica, bytes, block),
         b'A' => replay_moves::make_station(replica, call.first, call.value),
         b'O' => replay_moves::notice(replica, call.first, true, call.second),
         b'U' => replay_moves::notice(replica, call.first, false, call.second),

@@ -2,7 +2,7 @@
 // but for a write.
 #![tactic(auto)]
 
-ghost use Rattle.std.specs.Prelude.{ℕ, ◌≡◌, List, set};
+ghost use Rattle.std.specs.Prelude.{ℕ, ◌≡◌, List};
 ghost use Rattle.engine.specs.Classes.{load_step};
 ghost use Rattle.engine.specs.Client.{begin_step, read_step, write_step, ask_step, withdraw_step, report_step};
 ghost use Rattle.engine.specs.Calls.{step};
@@ -10,104 +10,102 @@ ghost use Rattle.engine.specs.Calls.Call.{write};
 ghost use Rattle.replay_replica.specs.Effects.{places_size, memory_of, effect, Plays};
 ghost use Rattle.replay_client.specs.Rows.{with_row};
 
-use memory::rows::{free_row, row_at, row_of};
+use call_reply::Asked;
+use call_reply::faults::Fault;
+use memory::rows::{bump, free, free_row, row_at, row_of};
 use memory::{Counts, Txn};
 use replay_journal::Change;
-use replay_replica::results::{
-    accepted, bare, flag, repeated, with_number, with_numbers, with_values,
-};
+use replay_replica::results::{bare, flag, repeated, with_number, with_numbers, with_values};
 use replay_replica::{Played, Replica, is_station, places_size};
 
-fn put_row(rows: [Txn; 6], at: usize, row: Txn) -> [Txn; 6]
-    ensures { result ≡ set rows at row }
-{
-    let mut after = rows;
-    if at < 6 {
-        after[at] = row;
-    }
-    after
-}
-
 // The replica with these numbers, and the row's record in place of the old one; past the last there is none.
-fn with_row(replica: Replica, counts: Counts, at: usize, row: Txn) -> Replica
+fn with_row(mut replica: Replica, counts: Counts, at: usize, row: Txn) -> Replica
     ensures { result ≡ with_row replica counts at row }
 {
-    let rows = replica.rows;
-    let table = put_row(rows, at, row);
-    let mut after = replica;
-    after.counts = counts;
-    after.rows = table;
-    after
+    replica.counts = counts;
+    if at < 6 {
+        replica.rows[at] = row;
+    }
+    replica
 }
 
-pub fn begin(replica: Replica) -> Played
+pub fn begin(mut replica: Replica) -> Played
     ensures { (size : ℕ) (lent : List ℕ) → Plays size replica result lent (effect lent (begin_step (memory_of size replica))) }
 {
-    let rows = replica.rows;
+    let at = free_row(replica.rows);
+    let row = row_at(replica.rows, at);
     let counts = replica.counts;
-    let values = replica.values;
-    let mut snapshots = replica.snapshots;
-    let at = free_row(rows);
-    let row = row_at(rows, at);
-    let begun = call_client::begin(at, row, counts, &values, &mut snapshots);
-    let reply = begun.reply;
-    let numbers = begun.counts;
-    let next = begun.row;
-    let mut after = with_row(replica, numbers, at, next);
-    after.snapshots = snapshots;
-    with_number(after, reply.number, reply.ticket, Change::Stays)
+    match call_client::begin(at, row, counts, &replica.values, &mut replica.snapshots) {
+        Ok(begun) => {
+            let counts = Counts {
+                tickets: begun.ticket,
+                ..counts
+            };
+            let after = with_row(replica, counts, at, begun);
+            with_number(after, 0, begun.ticket, Change::Stays)
+        }
+        Err(fault) => with_number(replica, fault.number(), 0, Change::Stays),
+    }
 }
 
 pub fn read(replica: Replica, ticket: u32, item: u32) -> Played
     ensures { (size : ℕ) (lent : List ℕ) → Plays size replica result lent (effect lent (read_step (memory_of size replica) ticket item)) }
 {
-    let rows = replica.rows;
-    let items = replica.items;
-    let writes = replica.writes;
-    let snapshots = replica.snapshots;
-    let at = row_of(rows, ticket);
-    let row = row_at(rows, at);
-    let reply = call_client::read(at, row, &items, &writes, &snapshots, item);
-    let values = repeated(reply.value);
-    with_values(replica, reply.number, accepted(reply.number, 1), values)
-}
-
-fn write_at_replica(replica: Replica, ticket: u32, item: u32, value: i32) -> Played
-    ensures { (lent : List ℕ) → Plays (places_size replica.group.replicas) replica result lent (effect lent (write_step (memory_of (places_size replica.group.replicas) replica) ticket item value)) }
-{
-    let group = replica.group;
-    let turn = replica.turn;
-    let rows = replica.rows;
-    let counts = replica.counts;
-    let mut items = replica.items;
-    let mut writes = replica.writes;
-    let stamps = replica.stamps;
-    let classes = replica.classes;
-    let places = replica.places;
-    let size = places_size(group.replicas as u32);
-    let at = row_of(rows, ticket);
-    let row = row_at(rows, at);
-    let changed = call_write::write(
+    let at = row_of(replica.rows, ticket);
+    let row = row_at(replica.rows, at);
+    let read = call_client::read(
         at,
         row,
-        rows,
-        group,
-        turn,
-        counts,
-        &mut items,
-        &mut writes,
-        &stamps,
-        &classes,
-        &places[..size],
+        &replica.items,
+        &replica.writes,
+        &replica.snapshots,
+        item,
+    );
+    match read {
+        Ok(value) => with_values(replica, 0, 1, repeated(value)),
+        Err(fault) => with_values(replica, fault.number(), 0, repeated(0)),
+    }
+}
+
+fn write_at_replica(mut replica: Replica, ticket: u32, item: u32, value: i32) -> Played
+    ensures { (lent : List ℕ) → Plays (places_size replica.group.replicas) replica result lent (effect lent (write_step (memory_of (places_size replica.group.replicas) replica) ticket item value)) }
+{
+    let size = places_size(replica.group.replicas as u32);
+    let at = row_of(replica.rows, ticket);
+    let row = row_at(replica.rows, at);
+    let written = call_write::write(
+        at,
+        row,
+        replica.rows,
+        replica.group,
+        replica.turn,
+        replica.counts,
+        &mut replica.items,
+        &mut replica.writes,
+        &replica.stamps,
+        &replica.classes,
+        &replica.places[..size],
         item,
         value,
     );
-    let numbers = changed.counts;
-    let next = changed.row;
-    let mut after = with_row(replica, numbers, at, next);
-    after.items = items;
-    after.writes = writes;
-    bare(after, changed.number, Change::Stays)
+    match written {
+        Ok(n) => {
+            let counts = replica.counts;
+            let after = with_row(replica, counts, at, Txn { writes: n, ..row });
+            bare(after, 0, Change::Stays)
+        }
+        Err(fault) => match fault {
+            Fault::Stale => {
+                let counts = Counts {
+                    aborted: bump(replica.counts.aborted),
+                    ..replica.counts
+                };
+                let after = with_row(replica, counts, at, free());
+                bare(after, fault.number(), Change::Stays)
+            }
+            _ => bare(replica, fault.number(), Change::Stays),
+        },
+    }
 }
 
 // 25 at a station, whatever is to be written.
@@ -115,59 +113,61 @@ pub fn write(replica: Replica, ticket: u32, item: u32, value: i32) -> Played
     ensures { (lent : List ℕ) → Plays (places_size replica.group.replicas) replica result lent
         (effect lent (step (memory_of (places_size replica.group.replicas) replica) (write ticket item value))) }
 {
-    let group = replica.group;
-    if is_station(group) {
+    if is_station(replica.group) {
         return bare(replica, 25, Change::Stays);
     }
     write_at_replica(replica, ticket, item, value)
 }
 
-pub fn ask(replica: Replica, ticket: u32) -> Played
+pub fn ask(mut replica: Replica, ticket: u32) -> Played
     ensures { (size : ℕ) (lent : List ℕ) → Plays size replica result lent (effect lent (ask_step (memory_of size replica) ticket)) }
 {
-    let rows = replica.rows;
-    let counts = replica.counts;
-    let mut queue = replica.queue;
-    let at = row_of(rows, ticket);
-    let row = row_at(rows, at);
-    let asked = call_client::ask(at, row, counts, &mut queue);
-    let reply = asked.reply;
-    let numbers = asked.counts;
-    let next = asked.row;
-    let mut after = with_row(replica, numbers, at, next);
-    after.queue = queue;
-    with_number(after, reply.number, flag(reply.read_only), Change::Stays)
+    let at = row_of(replica.rows, ticket);
+    let row = row_at(replica.rows, at);
+    match call_client::ask(at, row, replica.counts, &mut replica.queue) {
+        Ok(Asked::ReadOnly(n)) => {
+            let counts = Counts {
+                read_only: n,
+                ..replica.counts
+            };
+            let after = with_row(replica, counts, at, free());
+            with_number(after, 0, flag(true), Change::Stays)
+        }
+        Ok(Asked::Queued(asked)) => {
+            let counts = replica.counts;
+            let after = with_row(replica, counts, at, asked);
+            with_number(after, 0, flag(false), Change::Stays)
+        }
+        Err(fault) => with_number(replica, fault.number(), flag(false), Change::Stays),
+    }
 }
 
 pub fn withdraw(replica: Replica, ticket: u32) -> Played
     ensures { (size : ℕ) (lent : List ℕ) → Plays size replica result lent (effect lent (withdraw_step (memory_of size replica) ticket)) }
 {
-    let rows = replica.rows;
-    let counts = replica.counts;
-    let at = row_of(rows, ticket);
-    let row = row_at(rows, at);
-    let changed = call_client::withdraw(at, row, counts);
-    let numbers = changed.counts;
-    let next = changed.row;
-    bare(
-        with_row(replica, numbers, at, next),
-        changed.number,
-        Change::Stays,
-    )
+    let at = row_of(replica.rows, ticket);
+    let row = row_at(replica.rows, at);
+    match call_client::withdraw(at, row, replica.counts) {
+        Ok(n) => {
+            let counts = Counts {
+                withdrawn: n,
+                ..replica.counts
+            };
+            let after = with_row(replica, counts, at, free());
+            bare(after, 0, Change::Stays)
+        }
+        Err(fault) => bare(replica, fault.number(), Change::Stays),
+    }
 }
 
 pub fn report(replica: Replica) -> Played
     ensures { (size : ℕ) (lent : List ℕ) → Plays size replica result lent (effect lent (report_step (memory_of size replica))) }
 {
-    let rows = replica.rows;
-    let turn = replica.turn;
-    let counts = replica.counts;
-    let reply = call_client::report(rows, turn, counts);
-    let report = reply.report;
+    let report = call_client::report(replica.rows, replica.turn, replica.counts);
     with_numbers(
         replica,
-        reply.number,
-        accepted(reply.number, 8),
+        0,
+        8,
         [
             report.turn,
             report.commits,
@@ -185,13 +185,11 @@ pub fn report(replica: Replica) -> Played
 }
 
 // The bytes as the table of classes.
-pub fn load(replica: Replica, bytes: &[u8]) -> Played
+pub fn load(mut replica: Replica, bytes: &[u8]) -> Played
     ensures { (size : ℕ) (lent : List ℕ) → Plays size replica result lent (effect lent (load_step (memory_of size replica) bytes.now)) }
 {
-    let turn = replica.turn;
-    let mut classes = replica.classes;
-    let number = call_classes::load_classes(turn, &mut classes, bytes);
-    let mut after = replica;
-    after.classes = classes;
-    bare(after, number, Change::Stays)
+    match call_classes::load_classes(replica.turn, &mut replica.classes, bytes) {
+        Ok(()) => bare(replica, 0, Change::Stays),
+        Err(fault) => bare(replica, fault.number(), Change::Stays),
+    }
 }

@@ -1,73 +1,21 @@
 -- Hexadecimal digits, and bytes with zeros behind. Assumes nothing.
-use Prim.Native.Nat.{ℕ, zero, suc, ◌+◌, ◌*◌, ◌-◌, ◌/◌, ◌%◌, ◌^◌, ◌≤◌, ◌<◌, min}
+use Prim.Native.Nat.{ℕ, zero, suc, ◌+◌, ◌*◌, ◌-◌, ◌%◌, ◌^◌, ◌≤◌, ◌<◌, min}
 use mathlib.Core.Path.{◌≡◌, refl, sym, ap, ◌∙◌}
 use mathlib.Core.Bool.{Bool, true, false, ◌&&◌}
 use mathlib.Core.List.{List, [], ◌∷◌, ◌++◌, append_assoc, append-nil}
-use mathlib.Core.Logic.{◌⊎◌, inl, inr}
 use native.Mathlib.Decide.{dec_le, dec_lt}
 use native.Mathlib.Numerals.{add-one}
 use native.Mathlib.Omega.{arith}
-use borrow.Author.Tests.{lt-ltb, le-ltb, le-leb, lt-leb, ne_eqb, eqb-true}
+use borrow.Author.Tests.{lt-ltb, le-ltb, le-leb, eqb-true}
 use lib.Bits.{bit_xor}
 use lib.Dec.{ltb, leb, eqb}
-use lib.ListN.{length, get_or, take, drop, set, replicate, length-set, get_or-append, length-append, take-append-drop}
+use lib.ListN.{length, get_or, take, drop, set, replicate, length-set, get_or-append, length-append, length-take, take-append-drop}
 use lib.Seq.{drop-cons, drop-length, set_at, set-append_left, set_out, take_all}
-use Rattle.block.specs.Message.{within}
 use Rattle.block.specs.Theorems.{flipped, flip_bit}
 use Rattle.block.proofs.BoolLaws.{both}
-use Rattle.replay_delivery.specs.Deliveries.{hex_number, hex_pair, is_hex, is_hex_text, most_bytes, digits_of, unhex, is_kept, names_bytes, bytes_named, padded, delivery}
-use Rattle.replay_parse.specs.declared.Call.{Call}
+use Rattle.replay_delivery.specs.Deliveries.{hex_pair, is_hex, is_hex_text, unhex, padded, filled, delivery, below}
+use Rattle.std.specs.Prelude.{Option, Some, None, unwrap_or}
 use Rattle.replay_delivery.specs.declared.Delivery.{Delivery}
-
--- ---- digits
-
-pub hex_digit : (b : ℕ) → 48 ≤ b → b < 58 → b - 48 ≡ hex_number b
-unfolding hex_number within
-hex_digit b h k =
-    let l : b ≤ 57 = omega arith in
-    rw (le-leb 48 b h, le-leb b 57 l)
-
-pub hex_letter : (b : ℕ) → 97 ≤ b → b < 103 → b - 87 ≡ hex_number b
-unfolding hex_number within
-hex_letter b h k =
-    let l : 48 ≤ b = omega arith in
-    let m : 57 < b = omega arith in
-    let n : b ≤ 102 = omega arith in
-    rw (le-leb 48 b l, lt-leb b 57 m, le-leb 97 b h, le-leb b 102 n)
-
-pub hex_below : (b : ℕ) → b < 48 → 16 ≡ hex_number b
-unfolding hex_number within
-hex_below b h =
-    let l : b < 97 = omega arith in
-    rw (lt-leb 48 b h, lt-leb 97 b l)
-
-pub hex_between : (b : ℕ) → 58 ≤ b → b < 97 → 16 ≡ hex_number b
-unfolding hex_number within
-hex_between b h k =
-    let l : 48 ≤ b = omega arith in
-    let m : 57 < b = omega arith in
-    rw (le-leb 48 b l, lt-leb b 57 m, lt-leb 97 b k)
-
-pub hex_above : (b : ℕ) → 103 ≤ b → 16 ≡ hex_number b
-unfolding hex_number within
-hex_above b h =
-    let l : 48 ≤ b = omega arith in
-    let m : 57 < b = omega arith in
-    let n : 97 ≤ b = omega arith in
-    let o : 102 < b = omega arith in
-    rw (le-leb 48 b l, lt-leb b 57 m, le-leb 97 b n, lt-leb b 102 o)
-
-pub pair_high : (a b : ℕ) → 15 < hex_number a → 256 ≡ hex_pair a b
-unfolding hex_pair
-pair_high a b h = rw (le-ltb (hex_number a) 16 (omega arith))
-
-pub pair_low : (a b : ℕ) → hex_number a ≤ 15 → 15 < hex_number b → 256 ≡ hex_pair a b
-unfolding hex_pair
-pair_low a b h k = rw (lt-ltb (hex_number a) 16 (omega arith), le-ltb (hex_number b) 16 (omega arith))
-
-pub pair_of : (a b : ℕ) → hex_number a ≤ 15 → hex_number b ≤ 15 → 16 * hex_number a + hex_number b ≡ hex_pair a b
-unfolding hex_pair
-pair_of a b h k = rw (lt-ltb (hex_number a) 16 (omega arith), lt-ltb (hex_number b) 16 (omega arith))
 
 -- ---- the digits from place 2·i on
 
@@ -153,16 +101,49 @@ take_whole l i e = sym (append-nil (take i l)) ∙ rw (← e) (take-append-drop 
 
 -- ---- what is delivered
 
-pub no_delivery : (bytes : List ℕ) {known : Bool} → known ≡ false → delivery false [] ≡ delivery known bytes
+pub no_delivery : (bytes : List ℕ) {known : Bool} → known ≡ false → None ≡ delivery known bytes
 no_delivery bytes e = rw e
 
-pub a_delivery : {known : Bool} {front bytes : List ℕ} {n : ℕ} → known ≡ true → Filled front bytes n → ◌≡◌ {A = Delivery} (record { known = true; count = n; bytes = bytes }) (delivery known front)
+pub a_delivery : {known : Bool} {front bytes : List ℕ} {n : ℕ} → known ≡ true → Filled front bytes n → Some (record { count = n; bytes = bytes }) ≡ delivery known front
 a_delivery e f = rw (e, filled-all f, f.count)
 
-pub delivery-short : (d : Delivery) (known : Bool) (bytes : List ℕ) → d ≡ delivery known bytes → d.count ≤ length d.bytes
+-- as much of a block as there is room for
+pub copied_is : (block front rest : List ℕ) (n : ℕ) → n ≡ min (length block) 2100 → front ≡ take n block → rest ≡ replicate (2100 - n) 0
+    → ◌≡◌ {A = Delivery} (record { count = n; bytes = front ++ rest }) (filled (take 2100 block))
 unfolding padded
-delivery-short d true bytes e = rw e (omega (arith, length-append bytes (replicate (2100 - length bytes) 0)))
-delivery-short d false bytes e = rw e (omega arith)
+copied_is block front rest n e f g =
+    let l : length (take 2100 block) ≡ n = omega (arith, e, length-take 2100 block) in
+    rw (f, g, take_min block 2100 n e, l)
+
+pub filled-short : (d : Delivery) (l : List ℕ) → d ≡ filled (take 2100 l) → d.count ≤ 2100
+filled-short d l e = rw e (omega (arith, length-take 2100 l))
+
+pub below_none : {most n : ℕ} → below most n ≡ None → most ≤ n
+below_none {most} {n} e = go (dec_le most n)
+  where
+    go : Dec (most ≤ n) → most ≤ n
+    go (yes h) = h
+    go (no h) =
+        let f : Some n ≡ None = rw (lt-ltb n most (omega (arith, h))) at e in
+        absurd (cc)
+
+pub below_some : {most n x : ℕ} → below most n ≡ Some x → (x ≡ n) × (n < most)
+below_some {most} {n} {x} e = go (dec_le most n)
+  where
+    go : Dec (most ≤ n) → (x ≡ n) × (n < most)
+    go (yes h) =
+        let f : ◌≡◌ {A = Option ℕ} None (Some x) = rw (le-ltb n most h) at e in
+        absurd (cc)
+    go (no h) =
+        let f : Some n ≡ Some x = rw (lt-ltb n most (omega (arith, h))) at e in
+        let g : x ≡ n = cc in
+        (g, omega (arith, h))
+
+pub delivery-short : (known : Bool) (bytes : List ℕ) (other : Delivery) {d : Delivery} {o : Option Delivery} → o ≡ delivery known bytes → d ≡ unwrap_or o other → other.count ≤ length other.bytes
+    → d.count ≤ length d.bytes
+unfolding padded
+delivery-short true bytes other e f h = rw (f, e) (omega (arith, length-append bytes (replicate (2100 - length bytes) 0)))
+delivery-short false bytes other e f h = rw (f, e) h
 
 -- ---- digits read: the first i bytes are those that the first 2·i digits write, and what the other digits write is to come
 
@@ -170,9 +151,6 @@ pub record Decoded (d bytes : List ℕ) (i : ℕ) : Type 0 where
   pub digits : is_hex d ≡ is_hex (drop (2 * i) d)
   pub behind : drop i (unhex d) ≡ unhex (drop (2 * i) d)
   pub filled : Filled (take i (unhex d)) bytes i
-
-pub decoded_none : {d bytes : List ℕ} → bytes ≡ padded [] → Decoded d bytes 0
-decoded_none e = record { digits = refl; behind = refl; filled = filled_none e }
 
 module _ (d bytes : List ℕ) (i x : ℕ) (is : x ≡ hex_pair (get_or d (2 * i) 0) (get_or d (2 * i + 1) 0)) (more : 2 * i + 1 < length d) (f : Decoded d bytes i) where
   pub decoded-next : x < 256 → i < 2100 → Decoded d (set bytes i x) (i + 1)
@@ -185,11 +163,11 @@ module _ (d bytes : List ℕ) (i x : ℕ) (is : x ≡ hex_pair (get_or d (2 * i)
         filled = rw (ap (λ (n : ℕ). take n (unhex d)) (add-one i) ∙ take_next (unhex d) i e) (filled_next x k f.filled);
       }
 
-  pub decoded-not : (most : ℕ) → 256 ≤ x → is_hex_text most d ≡ false
-  decoded-not most h = rw (f.digits, hex-next d i more, ← is, le-ltb x 256 h) (and_false (leb (length d) (2 * most)))
+pub decoded-not : (d bytes : List ℕ) (i most : ℕ) → 2 * i + 1 < length d → Decoded d bytes i → 256 ≤ hex_pair (get_or d (2 * i) 0) (get_or d (2 * i + 1) 0) → is_hex_text most d ≡ false
+decoded-not d bytes i most more f h = rw (f.digits, hex-next d i more, le-ltb (hex_pair (get_or d (2 * i) 0) (get_or d (2 * i + 1) 0)) 256 h) (and_false (leb (length d) (2 * most)))
 
 pub decoded_all : (d bytes : List ℕ) (i most : ℕ) → 2 * i ≡ length d → length d ≤ 2 * most → Decoded d bytes i
-    → ◌≡◌ {A = Delivery} (record { known = true; count = i; bytes = bytes }) (delivery (is_hex_text most d) (unhex d))
+    → Some (record { count = i; bytes = bytes }) ≡ delivery (is_hex_text most d) (unhex d)
 unfolding is_hex unhex
 decoded_all d bytes i most e h f =
     let r : drop (2 * i) d ≡ [] = rw e (drop-length d) in
@@ -221,49 +199,15 @@ flip_is x t h k =
     eqb-true (bit_xor x (1 * 2 ^ t % 256)) (flipped t x) (each_below_lem 8 (λ (t : ℕ). eqb (bit_xor x (1 * 2 ^ t % 256)) (flipped t x)) bits t k)
 
 -- bit t of byte p of what is delivered
-module _ (l : List ℕ) (d : Delivery) (p t : ℕ) (e : d ≡ delivery true l) where
-  pub flipped-in : p < d.count
-      → ◌≡◌ {A = Delivery} (record { known = true; count = d.count; bytes = set d.bytes p (flipped t (get_or d.bytes p 0)) }) (delivery true (flip_bit l p t))
+module _ (l : List ℕ) (d : Delivery) (p t : ℕ) (e : d ≡ filled l) where
+  pub flipped-in : p < d.count → ◌≡◌ {A = Delivery} (record { count = d.count; bytes = set d.bytes p (flipped t (get_or d.bytes p 0)) }) (filled (flip_bit l p t))
   unfolding flip_bit padded
   flipped-in h =
       let k : p < length l = rw e at h in
       rw (e, length-set l p (flipped t (get_or l p 0)), set-append_left l (replicate (2100 - length l) 0) p (flipped t (get_or (padded l) p 0)) k, get_or-append l (replicate (2100 - length l) 0) 0 p k)
 
-  pub flipped-out : d.count ≤ p → ◌≡◌ {A = Delivery} (record { known = true; count = d.count; bytes = d.bytes }) (delivery true (flip_bit l p t))
+  pub flipped-out : d.count ≤ p → d ≡ filled (flip_bit l p t)
   unfolding flip_bit
   flipped-out h =
       let k : length l ≤ p = rw e at h in
       rw (e, set_out l p (flipped t (get_or l p 0)) k)
-
--- ---- the bytes that a line names
-
-pub other_letter : {x a b : ℕ} → (x ≡ a) ⊎ (x ≡ b) → (x ≡ a → ⊥) → x ≡ b
-other_letter (inl e) h = absurd (h e)
-other_letter (inr e) h = e
-
-module _ (c : Call) (line : List ℕ) (sent : ℕ) where
-  pub not-kept : (c.letter ≡ 68) ⊎ (c.letter ≡ 70) → is_kept c.first sent ≡ false → names_bytes c line sent ≡ false
-  unfolding names_bytes
-  not-kept (inl e) h = rw (e, h)
-  not-kept (inr e) h = rw (e, h)
-
-  pub bit-out : (c.letter ≡ 68) ⊎ (c.letter ≡ 70) → 4095 < c.second → names_bytes c line sent ≡ false
-  unfolding names_bytes
-  bit-out (inl e) h = rw (e, lt-leb c.second 4095 h) (and_false (is_kept c.first sent))
-  bit-out (inr e) h = rw (e, lt-leb c.second 4095 h) (and_false (is_kept c.first sent))
-
-  module _ (block : List ℕ) where
-    pub names-block : c.letter ≡ 68 → is_kept c.first sent ≡ true → c.second ≤ 4095
-        → delivery true (take 2100 block) ≡ delivery (names_bytes c line sent) (bytes_named c line block)
-    unfolding names_bytes bytes_named
-    names-block e k h = rw (e, k, le-leb c.second 4095 h)
-
-    pub names-flipped : c.letter ≡ 70 → is_kept c.first sent ≡ true → c.second ≤ 4095
-        → delivery true (flip_bit (take 2100 block) (c.second / 8) (c.second % 8)) ≡ delivery (names_bytes c line sent) (bytes_named c line block)
-    unfolding names_bytes bytes_named
-    names-flipped e k h = rw (e, k, le-leb c.second 4095 h)
-
-    pub names-digits : ((c.letter ≡ 68) ⊎ (c.letter ≡ 70) → ⊥)
-        → delivery (is_hex_text (most_bytes c.letter) (digits_of c line)) (unhex (digits_of c line)) ≡ delivery (names_bytes c line sent) (bytes_named c line block)
-    unfolding names_bytes bytes_named
-    names-digits other = rw (ne_eqb c.letter 68 (λ e. other (inl e)), ne_eqb c.letter 70 (λ e. other (inr e)))

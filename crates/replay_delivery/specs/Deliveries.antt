@@ -1,5 +1,5 @@
 -- Which bytes a line names. The blocks sent count from 0 over the whole run, and the last 64 are kept.
-use Rattle.std.specs.Prelude.{ℕ, ◌+◌, ◌*◌, ◌-◌, ◌/◌, ◌%◌, Bool, true, false, cond, ◌&&◌, ◌||◌, List, [], ◌∷◌, ◌++◌, eqb, ltb, leb, length, take, drop, replicate}
+use Rattle.std.specs.Prelude.{ℕ, ◌+◌, ◌*◌, ◌-◌, ◌/◌, ◌%◌, Bool, true, false, cond, ◌&&◌, ◌||◌, List, [], ◌∷◌, ◌++◌, eqb, ltb, leb, length, take, drop, replicate, Option, Some, None}
 use Rattle.block.specs.Message.{within}
 use Rattle.block.specs.Theorems.{flip_bit}
 use Rattle.replay_parse.specs.declared.Call.{Call}
@@ -20,6 +20,10 @@ hex_number b = cond (within 48 57 b) (b - 48) (cond (within 97 102 b) (b - 87) 1
 -- the byte that two digits write, 256 where they are none
 unfoldable pub hex_pair : ℕ → ℕ → ℕ
 hex_pair a b = cond (ltb (hex_number a) 16 && ltb (hex_number b) 16) (16 * hex_number a + hex_number b) 256
+
+-- n, where it is below `most`
+abbrev pub below : ℕ → ℕ → Option ℕ
+below most n = cond (ltb n most) (Some n) None
 
 -- digits alone, two to a byte
 unfoldable pub is_hex : List ℕ → Bool
@@ -60,5 +64,8 @@ bytes_named c line block =
 unfoldable pub padded : List ℕ → List ℕ
 padded bytes = bytes ++ replicate (2_100 - length bytes) 0
 
-abbrev pub delivery : Bool → List ℕ → Delivery
-delivery known bytes = cond known (record { known = true; count = length bytes; bytes = padded bytes }) (record { known = false; count = 0; bytes = padded [] })
+abbrev pub filled : List ℕ → Delivery
+filled bytes = record { count = length bytes; bytes = padded bytes }
+
+abbrev pub delivery : Bool → List ℕ → Option Delivery
+delivery known bytes = cond known (Some (filled bytes)) None

@@ -1,17 +1,15 @@
 // The bytes that a line names: a block sent in this run, of which the last 64 are kept, or what the line writes out.
 #![tactic(auto)]
 
-ghost use Rattle.std.specs.Prelude.{◌≡◌, true, false, ◌/◌, ◌%◌, ◌≤◌, ◌<◌, [], take};
+ghost use Rattle.std.specs.Prelude.{◌≡◌, ◌/◌, ◌%◌, ◌≤◌, ◌<◌, take};
 ghost use Rattle.block.specs.Theorems.{flipped, flip_bit};
-ghost use Rattle.replay_delivery.specs.Deliveries.{kept_start, is_kept, hex_number, hex_pair, is_hex_text, most_bytes, digits_of, unhex, names_bytes, bytes_named, padded, delivery};
+ghost use Rattle.replay_delivery.specs.Deliveries.{kept_start, is_kept, hex_number, hex_pair, is_hex_text, most_bytes, digits_of, unhex, names_bytes, bytes_named, filled, delivery, below};
 
-use memory::rows::lesser;
 use replay_parse::Call;
 
-// The bytes that a line names, zeros behind; none where it names a block that is not kept, or no bytes.
+// The bytes that a line names, the first `count`, and zeros behind: an array, since the program has no heap.
 #[derive(Clone, Copy)]
 pub struct Delivery {
-    pub known: bool,
     pub count: usize,
     pub bytes: [u8; 2100],
 }
@@ -27,97 +25,54 @@ fn is_kept(i: u32, sent: u64) -> bool
     ensures { result ≡ is_kept i sent }
 {
     let block = i as u64;
-    if sent <= block {
-        return false;
-    }
-    sent <= block + 64
+    block < sent && sent <= block + 64
 }
 
-fn zeros() -> [u8; 2100]
-    ensures { result ≡ padded [] }
-{
-    [0; 2100]
-}
-
-fn nothing() -> Delivery
-    ensures { result ≡ delivery false [] }
-{
-    Delivery {
-        known: false,
-        count: 0,
-        bytes: zeros(),
-    }
-}
-
-fn hex_number(byte: u8) -> u8
-    ensures { result ≡ hex_number byte }
+#[tactic(auto, unfolding(crate::specs::Deliveries::hex_number, block::specs::Message::within))]
+fn hex_number(byte: u8) -> Option<u8>
+    ensures { result ≡ below 16 (hex_number byte) }
 {
     match byte {
-        48..=57 => byte - 48,
-        97..=102 => byte - 87,
-        _ => 16,
+        b'0'..=b'9' => Some(byte - b'0'),
+        b'a'..=b'f' => Some(byte - b'a' + 10),
+        _ => None,
     }
 }
 
-fn hex_pair(a: u8, b: u8) -> u16
-    ensures { result ≡ hex_pair a b }
+#[tactic(auto, unfolding(crate::specs::Deliveries::hex_pair))]
+fn hex_pair(a: u8, b: u8) -> Option<u8>
+    ensures { result ≡ below 256 (hex_pair a b) }
 {
-    let high = hex_number(a);
-    let low = hex_number(b);
-    if 15 < high {
-        return 256;
-    }
-    if 15 < low {
-        return 256;
-    }
-    16 * (high as u16) + low as u16
+    Some(16 * hex_number(a)? + hex_number(b)?)
 }
 
 // The bytes that digits write, at most so many.
-fn decode(digits: &[u8], most: usize) -> Delivery
+fn decode(digits: &[u8], most: usize) -> Option<Delivery>
     requires { most ≤ 2100 }
     ensures { result ≡ delivery (is_hex_text most digits.now) (unhex digits.now) }
 {
     if digits.len() % 2 != 0 {
-        return nothing();
+        return None;
     }
     if 2 * most < digits.len() {
-        return nothing();
+        return None;
     }
-    let n = digits.len() / 2;
-    let mut bytes = zeros();
-    let mut i: usize = 0;
-    while i < n {
-        let byte = hex_pair(digits[2 * i], digits[2 * i + 1]);
-        if 255 < byte {
-            return nothing();
-        }
-        bytes[i] = byte as u8;
-        i += 1;
+    let count = digits.len() / 2;
+    let mut bytes = [0; 2100];
+    for i in 0..count {
+        bytes[i] = hex_pair(digits[2 * i], digits[2 * i + 1])?;
     }
-    Delivery {
-        known: true,
-        count: n,
-        bytes: bytes,
-    }
+    Some(Delivery { count, bytes })
 }
 
 // The block's bytes, at most 2100.
 fn copied(block: &[u8]) -> Delivery
-    ensures { result ≡ delivery true (take 2100 block.now) }
+    ensures { result ≡ filled (take 2100 block.now) }
 {
-    let n = lesser(block.len(), 2100);
-    let mut bytes = zeros();
-    let mut i: usize = 0;
-    while i < n {
-        bytes[i] = block[i];
-        i += 1;
-    }
-    Delivery {
-        known: true,
-        count: n,
-        bytes: bytes,
-    }
+    let count = block.len().min(2100);
+    let mut bytes = [0; 2100];
+    bytes[..count].copy_from_slice(&block[..count]);
+    Delivery { count, bytes }
 }
 
 // A byte with its bit t changed.
@@ -130,20 +85,14 @@ fn flipped(byte: u8, t: u32) -> u8
 
 // The block with one bit changed, counted from the lowest of the first byte.
 fn copied_but(block: &[u8], bit: u32) -> Delivery
-    ensures { result ≡ delivery true (flip_bit (take 2100 block.now) (bit / 8) (bit % 8)) }
+    ensures { result ≡ filled (flip_bit (take 2100 block.now) (bit / 8) (bit % 8)) }
 {
-    let whole = copied(block);
+    let mut whole = copied(block);
     let at = (bit / 8) as usize;
-    let mut bytes = whole.bytes;
-    let n = whole.count;
-    if at < n {
-        bytes[at] = flipped(bytes[at], bit % 8);
+    if at < whole.count {
+        whole.bytes[at] = flipped(whole.bytes[at], bit % 8);
     }
-    Delivery {
-        known: true,
-        count: n,
-        bytes: bytes,
-    }
+    whole
 }
 
 // The most bytes that a line with the letter writes out.
@@ -158,31 +107,28 @@ fn most_bytes(letter: u8) -> usize
 }
 
 // The bytes of the digits that end the line.
-fn written_out(call: Call, line: &[u8]) -> Delivery
+fn written_out(call: Call, line: &[u8]) -> Option<Delivery>
     ensures { result ≡ delivery (is_hex_text (most_bytes call.letter) (digits_of call line.now)) (unhex (digits_of call line.now)) }
 {
-    let from = line.len() - lesser(call.digits, line.len());
+    let from = line.len().saturating_sub(call.digits);
     decode(&line[from..], most_bytes(call.letter))
 }
 
-// `block` is the one kept where the block that the call names stands.
-pub fn delivered(call: Call, line: &[u8], sent: u64, block: &[u8]) -> Delivery
+// The bytes of the line's call; none where it names a block that is not kept, or no bytes. `block` is the one kept where the block that the call names stands.
+#[tactic(auto, unfolding(crate::specs::Deliveries::names_bytes, crate::specs::Deliveries::bytes_named))]
+pub fn delivered(call: Call, line: &[u8], sent: u64, block: &[u8]) -> Option<Delivery>
     ensures { result ≡ delivery (names_bytes call line.now sent) (bytes_named call line.now block.now) }
 {
     let letter = call.letter;
-    match letter {
-        b'D' | b'F' => {
-            if !is_kept(call.first, sent) {
-                return nothing();
-            }
-            if 4095 < call.second {
-                return nothing();
-            }
-            if letter == b'D' {
-                return copied(block);
-            }
-            copied_but(block, call.second)
-        }
-        _ => written_out(call, line),
+    if letter != b'D' && letter != b'F' {
+        return written_out(call, line);
     }
+    if !is_kept(call.first, sent) || 4095 < call.second {
+        return None;
+    }
+    Some(if letter == b'D' {
+        copied(block)
+    } else {
+        copied_but(block, call.second)
+    })
 }

@@ -8,8 +8,8 @@ use lib.ListN.{length, get_or, take, set, drop}
 use Rattle.replay_parse.specs.Lines.{read_number}
 use Rattle.replay_parse.specs.Lines.Field.{none, found}
 use Rattle.replay_parse.proofs.LineLaws.{text_at, text_past}
-use Rattle.replay_give.specs.declared.told.Told.{Told}
-use Rattle.replay_give.specs.Told.{numbers_from, told_in, none_told, Tells}
+use Rattle.replay_give.specs.declared.TurnsTold.{TurnsTold}
+use Rattle.replay_give.specs.Told.{numbers_from, told_in, Tells}
 
 all_read : (most : ℕ) (before : List ℕ) → numbers_from most before [] ≡ before
 unfolding numbers_from
@@ -44,8 +44,8 @@ take-set (x ∷ l) (suc i) n h =
 
 -- ---- in the loop that reads them
 
-pub tells_none : {r : Told} {total : List ℕ} → r ≡ none_told → total ≡ [] → Tells r total
-tells_none e t = rw (e, t) (record { first = refl; within = omega arith })
+pub tells_none : {r : TurnsTold} {total : List ℕ} → r.count ≡ 0 → total ≡ [] → Tells r total
+tells_none e t = record { first = rw (e, t) refl; within = rw e (omega arith) }
 
 -- count numbers are read, and the line goes on at the place; `total` is what they come to
 module _ (line : List ℕ) (at count : ℕ) (turns : List ℕ) {total : List ℕ} (is : numbers_from (6 - count) (take count turns) (drop at line) ≡ total) where

@@ -1,8 +1,6 @@
 -- The journal after a giving: each step that moves the turn journals the block that the window keeps, unless the journal has it, an own one, since its send.
-use Rattle.std.specs.Prelude.{ℕ, zero, suc, ◌-◌, ◌/◌, ◌≡◌, List, [], ◌++◌, length}
+use Rattle.std.specs.Prelude.{ℕ, zero, suc, ◌-◌, ◌/◌, ◌≡◌, List, [], ◌++◌, length, Option, Some, None}
 use Rattle.memory.specs.Window.{kept_block}
-use Rattle.replay_journal.specs.declared.Held.{Held}
-use Rattle.replay_journal.specs.declared.Held.TheVariants.{Bytes, Outgrown}
 use Rattle.replay_journal.specs.Journals.{Journal, whole, outgrown, grown, journal_of, journal_end, held_behind, page_behind}
 
 -- the window's blocks of n slots, from s on
@@ -18,15 +16,15 @@ caught_up room window turn outgrown = outgrown
 -- ---- the bytes that hold it
 
 -- so many blocks put behind, one after the other
-unfoldable pub behind_all : List ℕ → (s n : ℕ) → Held → List ℕ → Held × List ℕ
+unfoldable pub behind_all : List ℕ → (s n : ℕ) → Option ℕ → List ℕ → Option ℕ × List ℕ
 behind_all window s zero h page = (h, page)
 behind_all window s (suc n) h page = behind_all window (suc s) n (held_behind (kept_block window s) h page) (page_behind (kept_block window s) h page)
 
-abbrev pub behind_turn : List ℕ → ℕ → Held → List ℕ → Held × List ℕ
-behind_turn window turn (Bytes n) page = behind_all window (journal_end n page / 512) (turn - journal_end n page / 512) (Bytes n) page
-behind_turn window turn Outgrown page = (Outgrown, page)
+abbrev pub behind_turn : List ℕ → ℕ → Option ℕ → List ℕ → Option ℕ × List ℕ
+behind_turn window turn (Some n) page = behind_all window (journal_end n page / 512) (turn - journal_end n page / 512) (Some n) page
+behind_turn window turn None page = (None, page)
 
 -- the journal by its rule, and no other bytes of the page changed
-pub record CatchesUp (window : List ℕ) (turn : ℕ) (h : Held) (page : List ℕ) (after : Held) (left : List ℕ) : Type 0 where
+pub record CatchesUp (window : List ℕ) (turn : ℕ) (h : Option ℕ) (page : List ℕ) (after : Option ℕ) (left : List ℕ) : Type 0 where
   pub journal : journal_of after left ≡ caught_up (length page) window turn (journal_of h page)
   pub bytes : (after, left) ≡ behind_turn window turn h page

@@ -1,8 +1,8 @@
 -- The turns that a line tells a giving: behind its letter and its place numbers to its end, six at most.
-use Rattle.std.specs.Prelude.{ℕ, zero, suc, ◌≤◌, ◌≡◌, cond, List, [], ◌∷◌, ◌++◌, eqb, ltb, length, get_or, take, drop, replicate}
+use Rattle.std.specs.Prelude.{ℕ, zero, suc, ◌≤◌, ◌≡◌, cond, List, [], ◌∷◌, ◌++◌, eqb, ltb, length, get_or, take, drop}
 use Rattle.replay_parse.specs.Lines.{Field, read_number}
 use Rattle.replay_parse.specs.Lines.Field.{none, found}
-use Rattle.replay_give.specs.declared.told.Told.{Told}
+use Rattle.replay_give.specs.declared.TurnsTold.{TurnsTold}
 
 -- the one where a text is at its end, else the other
 abbrev pub at_end : (text one other : List ℕ) → List ℕ
@@ -25,9 +25,6 @@ told_in line = cond (ltb (length line) 3) [] (cond (eqb (get_or line 0 0) 71) (n
 
 -- ---- what the program has of it
 
-abbrev pub none_told : Told
-none_told = record { count = 0; turns = replicate 6 0 }
-
-pub record Tells (t : Told) (turns : List ℕ) : Type 0 where
+pub record Tells (t : TurnsTold) (turns : List ℕ) : Type 0 where
   pub first : take t.count t.turns ≡ turns
   pub within : t.count ≤ 6

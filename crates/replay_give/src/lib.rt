@@ -7,13 +7,21 @@ ghost use Rattle.replay_replica.specs.Effects.{places_size, memory_of, Plays};
 ghost use Rattle.replay_give.specs.Givings.{count_shown, give_effect};
 
 use call_give::GiveReply;
-use call_give::tickets::end_rows;
+use host_table::end_rows;
 use replay_journal::Change;
 use replay_replica::results::with_numbers;
 use replay_replica::{Played, Replica, places_size};
 
 pub mod kept;
 pub mod told;
+
+// The turns that a line tells: the first `count`, none where the line is no giving. No heap, and a request with them is copied.
+#[derive(Clone, Copy)]
+pub struct TurnsTold {
+    pub count: usize,
+    pub turns: [u32; 6],
+    ghost within: { count ≤ 6 },
+}
 
 // How many numbers stand behind that of a giving which aborted `count` transactions.
 fn count_shown(number: u8, count: u8) -> usize
@@ -61,50 +69,31 @@ fn answer(replica: Replica, reply: GiveReply) -> Played
 }
 
 // The call at the returner, told these turns and lent the giver's window.
-pub fn give(replica: Replica, turns: &[u32], lent: &[u8]) -> Played
+pub fn give(mut replica: Replica, turns: &[u32], lent: &[u8]) -> Played
     ensures { (block : List ℕ) → Plays (places_size replica.group.replicas) replica result block
         (give_effect block (memory_of (places_size replica.group.replicas) replica) turns.now lent.now) }
 {
-    let group = replica.group;
-    let turn = replica.turn;
-    let counts = replica.counts;
-    let rows = replica.rows;
-    let mut queue = replica.queue;
-    let items = replica.items;
-    let mut values = replica.values;
-    let mut stamps = replica.stamps;
+    let size = places_size(replica.group.replicas as u32);
+    // A copy: of a field that is lent in part the proof knows nothing afterwards.
     let mut places = replica.places;
-    let outbox = replica.outbox;
-    let mut window = replica.window;
-    let size = places_size(group.replicas as u32);
     let given = call_give::give(
-        rows,
-        group,
-        turn,
-        counts,
-        &mut queue,
-        &items,
-        &mut values,
-        &mut stamps,
+        replica.rows,
+        replica.group,
+        replica.turn,
+        replica.counts,
+        &mut replica.queue,
+        &replica.items,
+        &mut replica.values,
+        &mut replica.stamps,
         &mut places[..size],
-        &outbox,
-        &mut window,
+        &replica.outbox,
+        &mut replica.window,
         turns,
         lent,
     );
-    let reply = given.reply;
-    let ended = given.ended;
-    let table = end_rows(rows, ended);
-    let next = given.turn;
-    let numbers = given.counts;
-    let mut after = replica;
-    after.rows = table;
-    after.turn = next;
-    after.counts = numbers;
-    after.queue = queue;
-    after.values = values;
-    after.stamps = stamps;
-    after.places = places;
-    after.window = window;
-    answer(after, reply)
+    end_rows(&mut replica.rows, given.ended);
+    replica.turn = given.turn;
+    replica.counts = given.counts;
+    replica.places = places;
+    answer(replica, given.reply)
 }

@@ -1,4 +1,3 @@
 -- Laws that the proofs of several functions cite.
 pub mod JournalLaws
 pub mod PartLaws
-pub mod TakenLaws

@@ -1,54 +1,30 @@
 -- The part of a journal that a line names. Assumes nothing.
+use Rattle.std.specs.Prelude.{Option, Some, None}
 use Prim.Native.Nat.{ℕ, ◌-◌, ◌≤◌, min}
 use mathlib.Core.Path.{◌≡◌, refl, sym, ap, ◌∙◌}
 use mathlib.Core.Bool.{true, false}
 use mathlib.Core.List.{List}
-use mathlib.Core.Logic.{◌⊎◌, inl, inr}
 use native.Mathlib.Decide.{dec_le}
 use native.Mathlib.Omega.{arith}
-use borrow.Author.Tests.{ne_eqb}
-use lib.Dec.{leb}
 use lib.ListN.{length, take, drop, length-take, length-drop, drop_of_length-le}
 use lib.Seq.{paste, slice, drop-length}
 use Rattle.block.proofs.ListLaws.{lent, lent_slice}
 use Rattle.replay_parse.specs.declared.Call.{Call}
-use Rattle.replay_journal.specs.declared.Held.{Held}
-use Rattle.replay_journal.specs.declared.Held.TheVariants.{Bytes, Outgrown}
-use Rattle.replay_journal.specs.Journals.{journal_of, is_part, part_start, part_end, has_part, bytes_given, Lends}
+use Rattle.replay_journal.specs.Journals.{journal_of, is_part, part_start, part_end, bytes_given, Lends}
 use Rattle.replay_journal.proofs.JournalLaws.{take-both, take_there}
 
-pub is_part_lem : (letter : ℕ) → (letter ≡ 74) ⊎ (letter ≡ 90) → true ≡ is_part letter
-is_part_lem letter (inl e) = rw e
-is_part_lem letter (inr e) = rw e
-
-pub no_part : (letter : ℕ) → ((letter ≡ 74) ⊎ (letter ≡ 90) → ⊥) → false ≡ is_part letter
-no_part letter h = rw (ne_eqb letter 74 (λ e. h (inl e)), ne_eqb letter 90 (λ e. h (inr e)))
-
 module _ (c : Call) (page : List ℕ) where
-  pub has_none : (held : Held) → is_part c.letter ≡ false → true ≡ has_part c (journal_of held page)
-  unfolding has_part
-  has_none (Bytes n) h = rw h
-  has_none Outgrown h = rw h
-
-  pub has-bytes : {held : Held} {n : ℕ} → held ≡ Bytes n → is_part c.letter ≡ true → leb (part_end c) (min n (length page)) ≡ has_part c (journal_of held page)
-  unfolding has_part
-  has-bytes {n = n} e h = rw (e, h, length-take n page)
-
-  pub has-outgrown : {held : Held} → held ≡ Outgrown → is_part c.letter ≡ true → false ≡ has_part c (journal_of held page)
-  unfolding has_part
-  has-outgrown e h = rw (e, h)
-
   module _ (named : List ℕ) where
-    pub given-named : (held : Held) → is_part c.letter ≡ false → named ≡ bytes_given c named (journal_of held page)
+    pub given-named : (held : Option ℕ) → is_part c.letter ≡ false → named ≡ bytes_given c named (journal_of held page)
     unfolding bytes_given
-    given-named (Bytes n) h = rw h
-    given-named Outgrown h = refl
+    given-named (Some n) h = rw h
+    given-named None h = refl
 
-    pub given-outgrown : {held : Held} → held ≡ Outgrown → named ≡ bytes_given c named (journal_of held page)
+    pub given-outgrown : {held : Option ℕ} → held ≡ None → named ≡ bytes_given c named (journal_of held page)
     unfolding bytes_given
     given-outgrown e = rw e
 
-    pub given-part : {held : Held} {n : ℕ} → held ≡ Bytes n → is_part c.letter ≡ true → slice (part_start c) (min (part_end c) n) page ≡ bytes_given c named (journal_of held page)
+    pub given-part : {held : Option ℕ} {n : ℕ} → held ≡ Some n → is_part c.letter ≡ true → slice (part_start c) (min (part_end c) n) page ≡ bytes_given c named (journal_of held page)
     unfolding bytes_given
     given-part {n = n} e h = rw (e, h) (ap (λ (l : List ℕ). drop (part_start c) l) (sym (take-both (part_end c) n page)))
 

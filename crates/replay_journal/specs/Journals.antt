@@ -1,9 +1,7 @@
 -- The journal of a place, which the program keeps whole while there is room for it, 128 blocks; and what a line may ask of it.
-use Rattle.std.specs.Prelude.{ℕ, ◌+◌, ◌*◌, min, ◌≡◌, Bool, true, false, cond, ◌||◌, List, ◌++◌, eqb, leb, length, take}
+use Rattle.std.specs.Prelude.{ℕ, ◌+◌, ◌*◌, min, ◌≡◌, Bool, true, false, cond, ◌||◌, List, ◌++◌, eqb, leb, length, take, Option, Some, None}
 use Rattle.std.proofs.Math.Seq.{paste, slice}
 use Rattle.replay_parse.specs.declared.Call.{Call}
-use Rattle.replay_journal.specs.declared.Held.{Held}
-use Rattle.replay_journal.specs.declared.Held.TheVariants.{Bytes, Outgrown}
 use Rattle.replay_journal.specs.declared.Change.{Change}
 use Rattle.replay_journal.specs.declared.Change.TheVariants.{Stays, Grows, Begins}
 
@@ -29,9 +27,9 @@ changed room given block Grows j = grown room block j
 changed room given block (Begins count) j = if_room room (take (512 * count) given)
 
 -- what the program has of it: the first bytes of a page
-abbrev pub journal_of : Held → List ℕ → Journal
-journal_of (Bytes n) page = whole (take n page)
-journal_of Outgrown page = outgrown
+abbrev pub journal_of : Option ℕ → List ℕ → Journal
+journal_of (Some n) page = whole (take n page)
+journal_of None page = outgrown
 
 -- ---- what a line asks of it
 
@@ -70,32 +68,32 @@ abbrev pub has_room : ℕ → List ℕ → List ℕ → Bool
 has_room n page bytes = leb (journal_end n page + length bytes) (length page)
 
 -- the bytes put behind the journal, where there is room for them, and how much is held then; else the page stays
-abbrev pub held_behind : List ℕ → Held → List ℕ → Held
-held_behind bytes (Bytes n) page = cond (has_room n page bytes) (Bytes (journal_end n page + length bytes)) Outgrown
-held_behind bytes Outgrown page = Outgrown
+abbrev pub held_behind : List ℕ → Option ℕ → List ℕ → Option ℕ
+held_behind bytes (Some n) page = cond (has_room n page bytes) (Some (journal_end n page + length bytes)) None
+held_behind bytes None page = None
 
-abbrev pub page_behind : List ℕ → Held → List ℕ → List ℕ
-page_behind bytes (Bytes n) page = cond (has_room n page bytes) (paste page (journal_end n page) bytes (length bytes)) page
-page_behind bytes Outgrown page = page
+abbrev pub page_behind : List ℕ → Option ℕ → List ℕ → List ℕ
+page_behind bytes (Some n) page = cond (has_room n page bytes) (paste page (journal_end n page) bytes (length bytes)) page
+page_behind bytes None page = page
 
 -- so after a call
-abbrev pub held_after : Change → List ℕ → List ℕ → Held → List ℕ → Held
+abbrev pub held_after : Change → List ℕ → List ℕ → Option ℕ → List ℕ → Option ℕ
 held_after Stays given block h page = h
 held_after Grows given block h page = held_behind block h page
-held_after (Begins count) given block h page = held_behind (take (512 * count) given) (Bytes 0) page
+held_after (Begins count) given block h page = held_behind (take (512 * count) given) (Some 0) page
 
-abbrev pub page_after : Change → List ℕ → List ℕ → Held → List ℕ → List ℕ
+abbrev pub page_after : Change → List ℕ → List ℕ → Option ℕ → List ℕ → List ℕ
 page_after Stays given block h page = page
 page_after Grows given block h page = page_behind block h page
-page_after (Begins count) given block h page = page_behind (take (512 * count) given) (Bytes 0) page
+page_after (Begins count) given block h page = page_behind (take (512 * count) given) (Some 0) page
 
 -- the journal by its rule, and no other bytes of the page changed
-pub record Appends (more : List ℕ) (h : Held) (page : List ℕ) (after : Held) (left : List ℕ) : Type 0 where
+pub record Appends (more : List ℕ) (h : Option ℕ) (page : List ℕ) (after : Option ℕ) (left : List ℕ) : Type 0 where
   pub journal : journal_of after left ≡ grown (length page) more (journal_of h page)
   pub held : after ≡ held_behind more h page
   pub bytes : left ≡ page_behind more h page
 
-pub record Keeps (change : Change) (given block : List ℕ) (h : Held) (page : List ℕ) (after : Held) (left : List ℕ) : Type 0 where
+pub record Keeps (change : Change) (given block : List ℕ) (h : Option ℕ) (page : List ℕ) (after : Option ℕ) (left : List ℕ) : Type 0 where
   pub journal : journal_of after left ≡ changed (length page) given block change (journal_of h page)
   pub held : after ≡ held_after change given block h page
   pub bytes : left ≡ page_after change given block h page

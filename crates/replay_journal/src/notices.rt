@@ -1,13 +1,13 @@
-// The notices that the program keeps at a place: those taken there, in order, which a restart from the journal is lent.
-ghost use Rattle.std.specs.Prelude.{◌≤◌, ◌≡◌, take};
+// The notices that the program keeps at a place: those taken there, in order, which a restart from the journal is lent. `None` stands for more than there is room for.
+ghost use Rattle.std.specs.Prelude.{◌≡◌};
 ghost use Rattle.replay_journal.specs.Taken.{none_taken, taken_of, has_taken, numbers_lent, with_taken, KeepsTaken};
 
 use replay_parse::Call;
 
-// Three numbers for each of `count` notices. There is room for 32: a count of 33 stands for any that are more, and the numbers are then not of use.
+// Three numbers for each notice: the first `length` of those here, as many as there are. No heap, and a place with them is copied.
 #[derive(Clone, Copy)]
 pub struct Taken {
-    pub count: usize,
+    pub length: usize,
     pub numbers: [u32; 96],
 }
 
@@ -15,61 +15,58 @@ pub fn none() -> Taken
     ensures { result ≡ none_taken }
 {
     Taken {
-        count: 0,
+        length: 0,
         numbers: [0; 96],
     }
 }
 
-// One notice more: the replica, 1 for an Out or 0 for a Back, the slot.
-fn with(taken: Taken, replica: u32, kind: u32, slot: u32) -> Taken
+// One notice more, where there is room: the replica, 1 for an Out or 0 for a Back, the slot.
+fn with(mut taken: Taken, replica: u32, kind: u32, slot: u32) -> Option<Taken>
     ensures { result ≡ with_taken taken replica kind slot }
 {
-    let count = taken.count;
-    let mut after = taken;
-    if 32 <= count {
-        after.count = 33;
-        return after;
+    let at = taken.length;
+    if 93 < at {
+        return None;
     }
-    let at = 3 * count;
-    after.numbers[at] = replica;
-    after.numbers[at + 1] = kind;
-    after.numbers[at + 2] = slot;
-    after.count = count + 1;
-    after
+    taken.numbers[at] = replica;
+    taken.numbers[at + 1] = kind;
+    taken.numbers[at + 2] = slot;
+    taken.length = at + 3;
+    Some(taken)
 }
 
 // Whether all notices taken are kept, where the call asks for them.
-pub fn has_taken(call: Call, taken: Taken) -> bool
+pub fn has_taken(call: Call, taken: Option<Taken>) -> bool
     ensures { result ≡ has_taken call (taken_of taken) }
 {
-    if call.letter != b'Z' {
-        return true;
-    }
-    taken.count <= 32
+    call.letter != b'Z' || taken.is_some()
 }
 
-// How many numbers a restart is lent.
-pub fn lent(taken: Taken) -> usize
-    ensures { (take result taken.numbers ≡ numbers_lent (taken_of taken)) × (result ≤ 96) }
+// The numbers that a restart is lent.
+pub fn lent(taken: &Option<Taken>) -> &[u32]
+    ensures { result.now ≡ numbers_lent (taken_of taken.now) }
 {
-    if 32 < taken.count {
-        return 0;
+    match taken {
+        Some(all) => {
+            let numbers = all.numbers.as_slice();
+            &numbers[..all.length.min(numbers.len())]
+        }
+        None => &[],
     }
-    3 * taken.count
 }
 
 // The notices after a call of that number.
-pub fn after(call: Call, number: u8, taken: Taken) -> Taken
+#[tactic(auto, unfolding(crate::specs::Taken::taken_after, crate::specs::Taken::held_after))]
+pub fn after(call: Call, number: u8, taken: Option<Taken>) -> Option<Taken>
     ensures { KeepsTaken call number taken result }
 {
     if number != 0 {
         return taken;
     }
-    let letter = call.letter;
-    match letter {
-        b'A' | b'M' | b'Y' => none(),
-        b'O' => with(taken, call.first, 1, call.second),
-        b'U' => with(taken, call.first, 0, call.second),
+    match call.letter {
+        b'A' | b'M' | b'Y' => Some(none()),
+        b'O' => with(taken?, call.first, 1, call.second),
+        b'U' => with(taken?, call.first, 0, call.second),
         _ => taken,
     }
 }

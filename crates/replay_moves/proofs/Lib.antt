@@ -1,4 +1,3 @@
 -- Laws that the proofs of several functions cite.
-pub mod EndLaws
 pub mod MoveLaws
 pub mod StationLaws

@@ -4,7 +4,7 @@ use mathlib.Core.Path.{◌≡◌, refl, ap}
 use mathlib.Core.Bool.{Bool, true, false, cond, not}
 use mathlib.Core.List.{List, [], ◌∷◌}
 use native.Mathlib.Omega.{arith}
-use borrow.Author.Tests.{eq-eqb, ne_eqb, eqb-false}
+use borrow.Author.Tests.{eq-eqb, eqb-false}
 use lib.Dec.{eqb}
 use lib.IntN.{ℤ}
 use lib.ListN.{length, get_or, take, replicate}
@@ -23,7 +23,6 @@ use Rattle.engine.specs.Restart.{restart_refusal, restart_step}
 use Rattle.engine.proofs.Restarts.{restarts}
 use Rattle.engine.proofs.Tests.{bool_by}
 use Rattle.engine.proofs.Window.{window_claims}
-use Rattle.call_reply.specs.declared.Restarted.{Restarted}
 use Rattle.call_reply.specs.declared.RestartReply.{RestartReply}
 use Rattle.call_reply.specs.declared.WorkReply.{WorkReply}
 use Rattle.call_reply.specs.Notices.{notices_in, restart_lent}
@@ -33,13 +32,9 @@ use Rattle.replay_journal.specs.declared.Change.TheVariants.{Stays, Grows, Begin
 use Rattle.replay_replica.specs.declared.Played.{Played}
 use Rattle.replay_replica.specs.declared.Replica.{Replica}
 use Rattle.replay_replica.specs.Effects.{memory_of, over, Effect, effect, Plays}
-use Rattle.replay_moves.specs.Makes.{with_made}
 use Rattle.replay_replica.proofs.EffectLaws.{Bare, bare-refused, by_number, unless-by, plays-bare, station-refuses, replica-does, six-few}
 
 -- ---- restart
-
-pub made_kept : (replica : Replica) (r : Restarted) → (r.reply.number ≡ 0 → ⊥) → replica ≡ with_made replica r
-made_kept replica r h = rw (ne_eqb r.reply.number 0 h)
 
 module _ (m : Memory) (n own : ℕ) (values : List ℤ) (journal notices lent zeros : List ℕ) where
   restart-shows : (o : Outcome) → Type 0

@@ -2,12 +2,12 @@
 #![tactic(auto)]
 
 ghost use Rattle.std.specs.Prelude.{ℕ, ◌+◌, ◌≤◌, ◌≡◌, cond, List, [], ◌∷◌, eqb, length, replicate};
-ghost use Rattle.memory.specs.Rows.{end_rows};
 ghost use Rattle.engine.specs.Make.{make_step};
 ghost use Rattle.engine.specs.Moves.{send_step, deliver_step, work_step};
 ghost use Rattle.engine.specs.Notices.{notice_step};
 ghost use Rattle.engine.specs.Restart.{restart_step};
 ghost use Rattle.call_reply.specs.Notices.{restart_lent};
+ghost use Rattle.call_restart.specs.Answered.{reply_of};
 ghost use Rattle.replay_journal.specs.declared.Change.TheVariants.{Stays, Grows};
 ghost use Rattle.engine.specs.Station.{station_step};
 ghost use Rattle.engine.specs.Calls.{step};
@@ -17,8 +17,10 @@ ghost use Rattle.memory.specs.Window.{kept_block};
 ghost use Rattle.replay_replica.specs.Effects.{places_size, memory_of, over, effect, Plays};
 ghost use Rattle.replay_moves.specs.Makes.{with_group, with_made};
 
-use call_reply::{Restarted, WorkReply};
-use memory::bytes::copy_bytes;
+use call_reply::faults::{Fault, number_of};
+use call_reply::{RestartReply, Restarted, WorkReply};
+use host_table::end_rows;
+use memory::bytes::copy_over;
 use memory::cursor::place_start;
 use memory::rows::free;
 use memory::{Group, NO_NUMBER, Txn, WINDOW_SLOTS};
@@ -29,28 +31,37 @@ use replay_replica::results::{
 use replay_replica::{Played, Replica, is_station, places_size};
 
 // The replica with group, turn, counts and rows of a restart, where it is accepted.
-fn if_made(replica: Replica, restarted: Restarted) -> Replica
+fn if_made(replica: Replica, restarted: Result<Restarted, Fault>) -> Replica
     ensures { result ≡ with_made replica restarted }
 {
-    let reply = restarted.reply;
-    if reply.number != 0 {
-        return replica;
+    match restarted {
+        Ok(made) => Replica {
+            group: made.group,
+            turn: made.turn,
+            counts: made.counts,
+            rows: [free(); 6],
+            ..replica
+        },
+        Err(_) => replica,
     }
-    let group = restarted.group;
-    let turn = restarted.turn;
-    let counts = restarted.counts;
-    let rows = [free(); 6];
-    let mut after = replica;
-    after.group = group;
-    after.turn = turn;
-    after.counts = counts;
-    after.rows = rows;
-    after
+}
+
+// As a restart is answered.
+fn reply(restarted: Result<Restarted, Fault>) -> RestartReply
+    ensures { result ≡ reply_of restarted }
+{
+    match restarted {
+        Ok(made) => RestartReply {
+            number: 0,
+            count: made.count,
+        },
+        Err(fault) => fault.into(),
+    }
 }
 
 // A replica restarted in the place of the other, which stays where the restart is refused. The block given back goes into the bytes lent.
 pub fn restart(
-    replica: Replica,
+    mut replica: Replica,
     n: u32,
     own: u32,
     value: i32,
@@ -61,49 +72,31 @@ pub fn restart(
     ensures { Plays (places_size n) replica result block.new
         (effect block.old (restart_lent (memory_of (places_size n) replica) n own (replicate 128 value) journal.now notices.now block.old)) }
 {
-    let start = repeated(value);
     let size = places_size(n);
-    let mut queue = replica.queue;
-    let mut items = replica.items;
-    let mut writes = replica.writes;
-    let mut snapshots = replica.snapshots;
-    let mut values = replica.values;
-    let mut stamps = replica.stamps;
-    let mut classes = replica.classes;
+    // A copy: of a field that is lent in part the proof knows nothing afterwards.
     let mut places = replica.places;
-    let mut outbox = replica.outbox;
-    let mut window = replica.window;
     let restarted = call_restart::restart(
         n,
         own,
-        &start,
-        &mut queue,
-        &mut items,
-        &mut writes,
-        &mut snapshots,
-        &mut values,
-        &mut stamps,
-        &mut classes,
+        &repeated(value),
+        &mut replica.queue,
+        &mut replica.items,
+        &mut replica.writes,
+        &mut replica.snapshots,
+        &mut replica.values,
+        &mut replica.stamps,
+        &mut replica.classes,
         &mut places[..size],
-        &mut outbox,
-        &mut window,
+        &mut replica.outbox,
+        &mut replica.window,
         journal,
         notices,
-        &mut *block,
+        block,
     );
-    let mut after = if_made(replica, restarted);
-    after.queue = queue;
-    after.items = items;
-    after.writes = writes;
-    after.snapshots = snapshots;
-    after.values = values;
-    after.stamps = stamps;
-    after.classes = classes;
-    after.places = places;
-    after.outbox = outbox;
-    after.window = window;
-    let reply = restarted.reply;
+    replica.places = places;
+    let reply = reply(restarted);
     let change = changing(reply.number, Change::Begins(reply.count));
+    let after = if_made(replica, restarted);
     with_number(after, reply.number, reply.count, change)
 }
 
@@ -119,8 +112,7 @@ pub fn restart_alone(
     ensures { Plays (places_size n) replica result block.new
         (effect block.old (restart_step (memory_of (places_size n) replica) n own (replicate 128 value) journal.now [] block.old)) }
 {
-    let none = [0u32; 0];
-    restart(replica, n, own, value, journal, &none, &mut *block)
+    restart(replica, n, own, value, journal, &[], block)
 }
 
 // A replica made in the place of the other, which stays where the make is refused: a restart from no journal, with no block given back.
@@ -129,23 +121,23 @@ pub fn make(replica: Replica, n: u32, own: u32, value: i32) -> Played
 {
     let mut block = [0u8; 512];
     let made = restart_alone(replica, n, own, value, b"", &mut block);
-    let after = made.replica;
-    bare(after, made.number, changing(made.number, Change::Begins(0)))
+    bare(
+        made.replica,
+        made.number,
+        changing(made.number, Change::Begins(0)),
+    )
 }
 
 fn without_number(replica: Replica) -> Replica
     ensures { result ≡ with_group replica (group_of replica.group.replicas no_number) }
 {
-    let group = replica.group;
-    let station = Group {
-        replicas: group.replicas,
+    let group = Group {
+        replicas: replica.group.replicas,
         own: NO_NUMBER,
         from: [0; 6],
         until: [0; 6],
     };
-    let mut after = replica;
-    after.group = station;
-    after
+    Replica { group, ..replica }
 }
 
 // A station made in the place of what was there, which stays where the make is refused: a replica made with number 0, and then without it.
@@ -156,39 +148,32 @@ pub fn make_station(replica: Replica, n: u32, value: i32) -> Played
     if made.number != 0 {
         return made;
     }
-    let after = made.replica;
-    bare(without_number(after), 0, Change::Begins(0))
+    bare(without_number(made.replica), 0, Change::Begins(0))
 }
 
 // The block goes into the bytes lent.
-fn send_at_replica(replica: Replica, block: &mut [u8]) -> Played
+fn send_at_replica(mut replica: Replica, block: &mut [u8]) -> Played
     ensures { (size : ℕ) → Plays size replica result block.new (effect block.old (send_step (memory_of size replica) block.old)) }
 {
-    let group = replica.group;
-    let turn = replica.turn;
-    let rows = replica.rows;
-    let mut queue = replica.queue;
-    let items = replica.items;
-    let writes = replica.writes;
-    let mut outbox = replica.outbox;
     let sent = call_send::send(
-        rows,
-        group,
-        turn,
-        &mut queue,
-        &items,
-        &writes,
-        &mut outbox,
-        &mut *block,
+        replica.rows,
+        replica.group,
+        replica.turn,
+        &mut replica.queue,
+        &replica.items,
+        &replica.writes,
+        &mut replica.outbox,
+        block,
     );
-    let next = sent.turn;
-    let table = sent.rows;
-    let mut after = replica;
-    after.turn = next;
-    after.rows = table;
-    after.queue = queue;
-    after.outbox = outbox;
-    bare(after, sent.number, changing(sent.number, Change::Grows))
+    match sent {
+        Ok(sent) => {
+            replica.turn = sent.turn;
+            let rows = sent.rows;
+            replica.rows = rows;
+            bare(replica, 0, Change::Grows)
+        }
+        Err(fault) => bare(replica, fault.number(), Change::Stays),
+    }
 }
 
 // 25 at a station, which leaves the bytes lent as they are.
@@ -196,40 +181,27 @@ pub fn send(replica: Replica, block: &mut [u8]) -> Played
     ensures { (size : ℕ) → Plays size replica result block.new
         (effect block.old (step (memory_of size replica) (send block.old))) }
 {
-    let group = replica.group;
-    if is_station(group) {
+    if is_station(replica.group) {
         return bare(replica, 25, Change::Stays);
     }
-    send_at_replica(replica, &mut *block)
+    send_at_replica(replica, block)
 }
 
-pub fn deliver(replica: Replica, bytes: &[u8]) -> Played
+pub fn deliver(mut replica: Replica, bytes: &[u8]) -> Played
     ensures { (lent : List ℕ) → Plays (places_size replica.group.replicas) replica result lent (effect lent (deliver_step (memory_of (places_size replica.group.replicas) replica) bytes.now)) }
 {
-    let group = replica.group;
-    let turn = replica.turn;
-    let outbox = replica.outbox;
+    let size = places_size(replica.group.replicas as u32);
+    // A copy: of a field that is lent in part the proof knows nothing afterwards.
     let mut places = replica.places;
-    let size = places_size(group.replicas as u32);
-    let number = call_deliver::deliver(group, turn, &mut places[..size], &outbox, bytes);
-    let mut after = replica;
-    after.places = places;
-    bare(after, number, Change::Stays)
-}
-
-// The rows with those that are marked ended free.
-fn end_rows(rows: [Txn; 6], ended: [bool; 6]) -> [Txn; 6]
-    ensures { result ≡ end_rows ended rows }
-{
-    let mut after = rows;
-    let mut i: usize = 0;
-    while i < 6 {
-        if ended[i] {
-            after[i] = free();
-        }
-        i += 1;
-    }
-    after
+    let delivered = call_deliver::deliver(
+        replica.group,
+        replica.turn,
+        &mut places[..size],
+        &replica.outbox,
+        bytes,
+    );
+    replica.places = places;
+    bare(replica, number_of(delivered), Change::Stays)
 }
 
 // What a work did.
@@ -271,58 +243,43 @@ fn put_kept(append: bool, slot: u32, window: &[u8], block: &mut [u8])
     requires { length window.now ≡ window_bytes }
     ensures { block.new ≡ cond append (over block.old (kept_block window.now slot)) block.old }
 {
-    if !append {
-        return;
+    if append {
+        let at = place_start(WINDOW_SLOTS, slot);
+        copy_over(&window[at..at + 512], block);
     }
-    let at = place_start(WINDOW_SLOTS, slot);
-    let end = at + 512;
-    copy_bytes(&window[at..end], &mut *block);
 }
 
 // A block that is to be appended to the journal goes into the bytes lent.
-pub fn work(replica: Replica, block: &mut [u8]) -> Played
+pub fn work(mut replica: Replica, block: &mut [u8]) -> Played
     ensures { Plays (places_size replica.group.replicas) replica result block.new
         (effect block.old (work_step (memory_of (places_size replica.group.replicas) replica))) }
 {
-    let group = replica.group;
-    let turn = replica.turn;
-    let counts = replica.counts;
-    let rows = replica.rows;
-    let mut queue = replica.queue;
-    let items = replica.items;
-    let mut values = replica.values;
-    let mut stamps = replica.stamps;
+    let size = places_size(replica.group.replicas as u32);
+    // A copy: of a field that is lent in part the proof knows nothing afterwards.
     let mut places = replica.places;
-    let mut window = replica.window;
-    let size = places_size(group.replicas as u32);
     let worked = call_work::work(
-        rows,
-        group,
-        turn,
-        counts,
-        &mut queue,
-        &items,
-        &mut values,
-        &mut stamps,
+        replica.rows,
+        replica.group,
+        replica.turn,
+        replica.counts,
+        &mut replica.queue,
+        &replica.items,
+        &mut replica.values,
+        &mut replica.stamps,
         &mut places[..size],
-        &mut window,
+        &mut replica.window,
     );
-    let reply = worked.reply;
-    put_kept(reply.append, turn.slot, &window, &mut *block);
-    let numbers = worked.counts;
-    let next = worked.turn;
-    let ended = worked.ended;
-    let table = end_rows(rows, ended);
-    let mut after = replica;
-    after.turn = next;
-    after.counts = numbers;
-    after.rows = table;
-    after.queue = queue;
-    after.values = values;
-    after.stamps = stamps;
-    after.places = places;
-    after.window = window;
-    step_of(after, reply)
+    replica.places = places;
+    match worked {
+        Ok(worked) => {
+            put_kept(worked.append, replica.turn.slot, &replica.window, block);
+            end_rows(&mut replica.rows, worked.ended);
+            replica.turn = worked.turn;
+            replica.counts = worked.counts;
+            step_of(replica, worked.into())
+        }
+        Err(fault) => step_of(replica, fault.into()),
+    }
 }
 
 // The notice Out, or Back, about a replica and a slot.
@@ -330,13 +287,17 @@ pub fn notice(replica: Replica, about: u32, out: bool, slot: u32) -> Played
     ensures { (lent : List ℕ) → Plays (places_size replica.group.replicas) replica result lent
         (effect lent (notice_step (memory_of (places_size replica.group.replicas) replica) (record { about = about; out = out; slot = slot }))) }
 {
-    let group = replica.group;
-    let turn = replica.turn;
-    let places = replica.places;
-    let size = places_size(group.replicas as u32);
-    let noticed = call_notice::notice(group, turn, &places[..size], about, out, slot);
-    let known = noticed.group;
-    let mut after = replica;
-    after.group = known;
-    bare(after, noticed.number, Change::Stays)
+    let size = places_size(replica.group.replicas as u32);
+    let noticed = call_notice::notice(
+        replica.group,
+        replica.turn,
+        &replica.places[..size],
+        about,
+        out,
+        slot,
+    );
+    match noticed {
+        Ok(group) => bare(Replica { group, ..replica }, 0, Change::Stays),
+        Err(fault) => bare(replica, fault.number(), Change::Stays),
+    }
 }

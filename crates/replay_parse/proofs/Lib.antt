@@ -1,3 +1,2 @@
--- Laws of a line as a call, which several proofs cite.
+-- The laws that the proofs of the functions cite.
 pub mod LineLaws
-pub mod ShapeLaws

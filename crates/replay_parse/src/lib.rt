@@ -1,11 +1,11 @@
 // A line as a call. A number is read only as the program would print it.
 #![tactic(auto)]
 
-ghost use Rattle.std.specs.Prelude.{◌≤◌, ◌≡◌, length, drop};
-ghost use Rattle.replay_parse.specs.Lines.{digit_number, number_up_to, read_digits, read_number, negative, read_signed, read_value, call_with, no_call, bytes_behind, at_end, number_if, value_if, fields, shape_of, call_as, call_of, place_named};
-ghost use Rattle.replay_parse.specs.Lines.{ReadsNumber, ReadsValue};
+ghost use Rattle.std.specs.Prelude.{◌≤◌, ◌<◌, ◌≡◌, length, drop, IfSome};
+ghost use Rattle.replay_parse.specs.Lines.{digit_of, number_up_to, read_digits, read_number, negative, read_signed, read_value, call_with, bytes_behind, at_end, number_if, value_if, fields, shape_of, call_as, call_of, place_named};
+ghost use Rattle.replay_parse.specs.Lines.{Reads};
 
-// A call: its letter and its numbers, 0 where it has none, and how many digits of bytes end its line. Letter 0 is no call.
+// A call: its letter and its numbers, 0 where it has none, and how many digits of bytes end its line.
 #[derive(Clone, Copy)]
 pub struct Call {
     pub letter: u8,
@@ -15,23 +15,9 @@ pub struct Call {
     pub digits: usize,
 }
 
-// A number read from a line, and the place behind it; so for a value.
-#[derive(Clone, Copy)]
-pub enum Number {
-    Is(u32, usize),
-    Missing,
-}
-
-#[derive(Clone, Copy)]
-pub enum Value {
-    Is(i32, usize),
-    Missing,
-}
-
-// How a line goes on behind its place: so many numbers, at most two, then a value or none, then bytes or none. Not `known` where it is no call.
+// How a line goes on behind its place: so many numbers, at most two, then a value or none, then bytes or none.
 #[derive(Clone, Copy)]
 struct Shape {
-    known: bool,
     numbers: u8,
     value: bool,
     bytes: bool,
@@ -41,257 +27,208 @@ fn made(letter: u8, first: u32, second: u32, value: i32) -> Call
     ensures { result ≡ call_with letter first second value }
 {
     Call {
-        letter: letter,
-        first: first,
-        second: second,
-        value: value,
+        letter,
+        first,
+        second,
+        value,
         digits: 0,
     }
 }
 
-fn no_call() -> Call
-    ensures { result ≡ no_call }
+// A decimal digit's number.
+#[tactic(auto, unfolding(block::specs::Message::within))]
+fn digit(byte: u8) -> Option<u32>
+    ensures { result ≡ digit_of byte }
 {
-    made(0, 0, 0, 0)
-}
-
-// A decimal digit's number, 10 for any other byte.
-fn digit(byte: u8) -> u64
-    ensures { result ≡ digit_number byte }
-{
-    if byte < 48 {
-        return 10;
+    match byte {
+        b'0'..=b'9' => Some((byte - b'0') as u32),
+        _ => None,
     }
-    if 57 < byte {
-        return 10;
-    }
-    (byte - 48) as u64
 }
 
 // The number, where it is not above `most`.
-fn up_to(most: u32, n: u64, end: usize) -> Number
+fn up_to(most: u32, n: u32, end: usize) -> Option<(u32, usize)>
     ensures { result ≡ number_up_to most n end }
 {
-    if (most as u64) < n {
-        return Number::Missing;
-    }
-    Number::Is(n as u32, end)
+    if n <= most { Some((n, end)) } else { None }
 }
 
-// The number whose digits begin at `from`. A 0 in front stands alone: a digit behind it is then no separator.
-pub fn take_digits(line: &[u8], from: usize, most: u32) -> Number
-    ensures { ReadsNumber result line.now (read_digits most (drop from line.now)) }
+// The number whose digits begin at `from`, and the place behind it. A 0 in front stands alone: a digit behind it is then no separator.
+pub fn take_digits(line: &[u8], from: usize, most: u32) -> Option<(u32, usize)>
+    ensures { Reads result line.now (read_digits most (drop from line.now)) }
 {
     if line.len() <= from {
-        return Number::Missing;
+        return None;
     }
-    let mut n = digit(line[from]);
-    if 9 < n {
-        return Number::Missing;
-    }
-    let mut i = from + 1;
+    let mut n = digit(line[from])?;
     if n == 0 {
-        return Number::Is(0, i);
+        return Some((0, from + 1));
     }
-    while i < line.len() {
-        let next = digit(line[i]);
-        if 9 < next {
+    for i in from + 1..line.len() {
+        let Some(next) = digit(line[i]) else {
             return up_to(most, n, i);
-        }
-        if 429496729 < n {
-            return Number::Missing;
-        }
-        n = 10 * n + next;
-        i += 1;
+        };
+        n = n.checked_mul(10)?.checked_add(next)?;
     }
-    up_to(most, n, i)
+    up_to(most, n, line.len())
 }
 
 // A field that is an unsigned number.
-pub fn take_number(line: &[u8], at: usize) -> Number
-    ensures { ReadsNumber result line.now (read_number (drop at line.now)) }
+#[tactic(auto, unfolding(crate::specs::Lines::read_number))]
+pub fn take_number(line: &[u8], at: usize) -> Option<(u32, usize)>
+    ensures { Reads result line.now (read_number (drop at line.now)) }
 {
-    if line.len() <= at {
-        return Number::Missing;
+    if at < line.len() && line[at] == b' ' {
+        take_digits(line, at + 1, u32::MAX)
+    } else {
+        None
     }
-    if line[at] != b' ' {
-        return Number::Missing;
-    }
-    take_digits(line, at + 1, 4294967295)
 }
 
 // The number below zero whose digits begin at `from`; `-0` is none.
-fn take_negative(line: &[u8], from: usize) -> Value
-    ensures { ReadsValue result line.now (negative (read_digits 2147483648 (drop from line.now))) }
+fn take_negative(line: &[u8], from: usize) -> Option<(i32, usize)>
+    ensures { Reads result line.now (negative (read_digits 2147483648 (drop from line.now))) }
 {
-    let Number::Is(n, end) = take_digits(line, from, 2147483648) else {
-        return Value::Missing;
-    };
+    let (n, end) = take_digits(line, from, 2147483648)?;
     if n == 0 {
-        return Value::Missing;
+        return None;
     }
-    Value::Is(block::to_value((4294967296 - n as u64) as u32), end)
+    Some((block::to_value((4294967296 - n as u64) as u32), end))
 }
 
 // A signed number.
-pub fn take_signed(line: &[u8], from: usize) -> Value
-    ensures { ReadsValue result line.now (read_signed (drop from line.now)) }
+#[tactic(auto, unfolding(crate::specs::Lines::read_signed))]
+pub fn take_signed(line: &[u8], from: usize) -> Option<(i32, usize)>
+    ensures { Reads result line.now (read_signed (drop from line.now)) }
 {
     if line.len() <= from {
-        return Value::Missing;
+        return None;
     }
     if line[from] == b'-' {
         return take_negative(line, from + 1);
     }
-    let Number::Is(n, end) = take_digits(line, from, 2147483647) else {
-        return Value::Missing;
-    };
-    Value::Is(block::to_value(n), end)
+    let (n, end) = take_digits(line, from, 2147483647)?;
+    Some((block::to_value(n), end))
 }
 
 // A field that is a signed number.
-pub fn take_value(line: &[u8], at: usize) -> Value
-    ensures { ReadsValue result line.now (read_value (drop at line.now)) }
+#[tactic(auto, unfolding(crate::specs::Lines::read_value))]
+pub fn take_value(line: &[u8], at: usize) -> Option<(i32, usize)>
+    ensures { Reads result line.now (read_value (drop at line.now)) }
 {
-    if line.len() <= at {
-        return Value::Missing;
+    if at < line.len() && line[at] == b' ' {
+        take_signed(line, at + 1)
+    } else {
+        None
     }
-    if line[at] != b' ' {
-        return Value::Missing;
-    }
-    take_signed(line, at + 1)
 }
 
 // The call, with the digits of bytes behind a space.
-fn with_bytes(line: &[u8], at: usize, call: Call) -> Call
+fn with_bytes(line: &[u8], at: usize, call: Call) -> Option<Call>
     ensures { result ≡ bytes_behind call (drop at line.now) }
 {
-    if line.len() <= at {
-        return no_call();
+    if at < line.len() && line[at] == b' ' {
+        let digits = line.len() - (at + 1);
+        Some(Call { digits, ..call })
+    } else {
+        None
     }
-    if line[at] != b' ' {
-        return no_call();
-    }
-    let mut with = call;
-    with.digits = line.len() - (at + 1);
-    with
 }
 
 // The call, where nothing stands behind it but the bytes, if it has any.
-fn at_end(bytes: bool, line: &[u8], end: usize, call: Call) -> Call
+#[tactic(auto, unfolding(crate::specs::Lines::at_end))]
+fn at_end(bytes: bool, line: &[u8], end: usize, call: Call) -> Option<Call>
     ensures { result ≡ at_end bytes call (drop end line.now) }
 {
     if bytes {
         return with_bytes(line, end, call);
     }
-    if end < line.len() {
-        return no_call();
-    }
-    call
+    if end < line.len() { None } else { Some(call) }
 }
 
 // A number, where the line has one there, else 0.
-fn number_if(has: bool, line: &[u8], at: usize) -> Number
+#[tactic(auto, unfolding(crate::specs::Lines::number_if))]
+fn number_if(has: bool, line: &[u8], at: usize) -> Option<(u32, usize)>
     requires { at ≤ length line.now }
-    ensures { ReadsNumber result line.now (number_if has (drop at line.now)) }
+    ensures { Reads result line.now (number_if has (drop at line.now)) }
 {
     if has {
-        return take_number(line, at);
+        take_number(line, at)
+    } else {
+        Some((0, at))
     }
-    Number::Is(0, at)
 }
 
-fn value_if(has: bool, line: &[u8], at: usize) -> Value
+#[tactic(auto, unfolding(crate::specs::Lines::value_if))]
+fn value_if(has: bool, line: &[u8], at: usize) -> Option<(i32, usize)>
     requires { at ≤ length line.now }
-    ensures { ReadsValue result line.now (value_if has (drop at line.now)) }
+    ensures { Reads result line.now (value_if has (drop at line.now)) }
 {
     if has {
-        return take_value(line, at);
+        take_value(line, at)
+    } else {
+        Some((0, at))
     }
-    Value::Is(0, at)
 }
 
-fn fields(numbers: u8, value: bool, bytes: bool) -> Shape
+fn fields(numbers: u8, value: bool, bytes: bool) -> Option<Shape>
     ensures { result ≡ fields numbers value bytes }
 {
-    Shape {
-        known: true,
-        numbers: numbers,
-        value: value,
-        bytes: bytes,
-    }
+    Some(Shape {
+        numbers,
+        value,
+        bytes,
+    })
 }
 
 // How the lines of a letter go on.
-fn shape_of(letter: u8) -> Shape
+#[tactic(auto, unfolding(crate::specs::Lines::shape_of))]
+fn shape_of(letter: u8) -> Option<Shape>
     ensures { result ≡ shape_of letter }
 {
     match letter {
         b'B' | b'K' | b'Q' | b'S' | b'V' => fields(0, false, false),
         b'H' | b'P' => fields(0, false, true),
-        b'C' | b'J' | b'X' => fields(1, false, false),
-        b'D' => fields(1, false, false),
+        b'C' | b'D' | b'J' | b'X' => fields(1, false, false),
         b'A' | b'Z' => fields(1, true, false),
         b'F' | b'O' | b'R' | b'U' => fields(2, false, false),
         b'M' | b'W' => fields(2, true, false),
         b'Y' => fields(2, true, true),
-        _ => Shape {
-            known: false,
-            numbers: 0,
-            value: false,
-            bytes: false,
-        },
+        _ => None,
     }
 }
 
 // The call of a line that goes on so.
-fn shaped(line: &[u8], letter: u8, shape: Shape) -> Call
+#[tactic(auto, unfolding(crate::specs::Lines::call_as))]
+fn shaped(line: &[u8], letter: u8, shape: Shape) -> Option<Call>
     requires { 3 ≤ length line.now }
     ensures { result ≡ call_as shape letter (drop 3 line.now) }
 {
-    let Number::Is(first, at) = number_if(0 < shape.numbers, line, 3) else {
-        return no_call();
-    };
-    let Number::Is(second, next) = number_if(1 < shape.numbers, line, at) else {
-        return no_call();
-    };
-    let Value::Is(v, end) = value_if(shape.value, line, next) else {
-        return no_call();
-    };
-    at_end(shape.bytes, line, end, made(letter, first, second, v))
+    let (first, at) = number_if(0 < shape.numbers, line, 3)?;
+    let (second, next) = number_if(1 < shape.numbers, line, at)?;
+    let (value, end) = value_if(shape.value, line, next)?;
+    at_end(shape.bytes, line, end, made(letter, first, second, value))
 }
 
-// The place that the line names, 8 where it names none.
-pub fn place_named(line: &[u8]) -> usize
-    ensures { result ≡ place_named line.now }
+// The place that the line names, one of eight.
+#[tactic(auto, unfolding(crate::specs::Lines::place_named, block::specs::Message::within))]
+pub fn place_named(line: &[u8]) -> Option<usize>
+    ensures { (result ≡ place_named line.now) × IfSome result (λ k. k < 8) }
 {
-    if line.len() < 3 {
-        return 8;
+    match line {
+        [_, b' ', digit @ b'0'..=b'7', ..] => Some((digit - b'0') as usize),
+        _ => None,
     }
-    if line[1] != b' ' {
-        return 8;
-    }
-    let byte = line[2];
-    if byte < 48 {
-        return 8;
-    }
-    if 55 < byte {
-        return 8;
-    }
-    (byte - 48) as usize
 }
 
 // The call that the line makes, behind its place.
-pub fn call_of(line: &[u8]) -> Call
+#[tactic(auto, unfolding(crate::specs::Lines::call_of))]
+pub fn call_of(line: &[u8]) -> Option<Call>
     ensures { result ≡ call_of line.now }
 {
     if line.len() < 3 {
-        return no_call();
+        return None;
     }
     let letter = line[0];
-    let shape = shape_of(letter);
-    if !shape.known {
-        return no_call();
-    }
-    shaped(line, letter, shape)
+    shaped(line, letter, shape_of(letter)?)
 }

@@ -53,8 +53,8 @@ pub appends_none : (old : List ℕ) (at : ℕ) → Appends [] old at old at
 appends_none old at = record { behind = λ b text w. rw append-nil w; beyond = λ k. (refl, refl) }
 
 -- one text after the other
-pub appends-then : {a b : List ℕ} {old mid left : List ℕ} {at i end : ℕ} → Appends a old at mid i → Appends b mid i left end → Appends (a ++ b) old at left end
-appends-then {a} {b} {old} {mid} {left} {at} {i} {end} f g = record {
+pub appends_then : {a b : List ℕ} {old mid left : List ℕ} {at i end : ℕ} → Appends a old at mid i → Appends b mid i left end → Appends (a ++ b) old at left end
+appends_then {a} {b} {old} {mid} {left} {at} {i} {end} f g = record {
   behind = λ buffer text w. rw append_assoc at (g.behind buffer (text ++ a) (f.behind buffer text w));
   beyond = λ k. then-beyond (f.beyond k) g.beyond k;
 }
@@ -121,4 +121,4 @@ module _ {A : Type 0} (text : A → List ℕ) where
   -- the texts of the first i elements, and of the next
   pub each_turn : (l : List A) (i : ℕ) (d : A) {old mid left : List ℕ} {at k end : ℕ} → i < length l
       → Appends (each text (take i l)) old at mid k → Appends (text (get_or l i d)) mid k left end → Appends (each text (take (i + 1) l)) old at left end
-  each_turn l i d h f g = rw (add-one, take-suc l i d h, each_more (take i l) (get_or l i d)) (appends-then f g)
+  each_turn l i d h f g = rw (add-one, take-suc l i d h, each_more (take i l) (get_or l i d)) (appends_then f g)

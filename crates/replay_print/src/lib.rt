@@ -1,7 +1,7 @@
 // Answers as text, in a buffer that has room for a line. `at` is how many bytes of it are used: a byte past its end is left out.
-#![tactic(auto)]
+#![tactic(auto, using(crate::proofs::TextLaws::appends_then, crate::proofs::TextLaws::held))]
 
-ghost use Rattle.std.specs.Prelude.{◌≡◌, [], ◌∷◌, ◌<◌};
+ghost use Rattle.std.specs.Prelude.{◌≡◌, [], ◌∷◌, ◌<◌, ℕ, List};
 ghost use Rattle.replay_print.specs.Text.{decimal, signed, hex_digit, hex_byte, each, field, block_text, answer_text, unknown_text, Holds, Appends};
 
 pub fn put(out: &mut [u8], at: usize, byte: u8) -> usize
@@ -18,10 +18,8 @@ pub fn put_bytes(out: &mut [u8], at: usize, bytes: &[u8]) -> usize
     ensures { Appends bytes.now out.old at out.new result }
 {
     let mut end = at;
-    let mut i: usize = 0;
-    while i < bytes.len() {
-        end = put(&mut *out, end, bytes[i]);
-        i += 1;
+    for byte in bytes {
+        end = put(&mut *out, end, *byte);
     }
     end
 }
@@ -53,35 +51,11 @@ pub fn put_number(out: &mut [u8], at: usize, n: u32) -> usize
     put_decimal(&mut *out, end, n as u64)
 }
 
-fn put_numbers(out: &mut [u8], at: usize, numbers: &[u32]) -> usize
-    ensures { Appends (each (field decimal) numbers.now) out.old at out.new result }
-{
-    let mut end = at;
-    let mut i: usize = 0;
-    while i < numbers.len() {
-        end = put_number(&mut *out, end, numbers[i]);
-        i += 1;
-    }
-    end
-}
-
 pub fn put_value(out: &mut [u8], at: usize, value: i32) -> usize
     ensures { Appends (field signed value) out.old at out.new result }
 {
     let end = put(&mut *out, at, b' ');
     put_signed(&mut *out, end, value)
-}
-
-fn put_values(out: &mut [u8], at: usize, values: &[i32]) -> usize
-    ensures { Appends (each (field signed) values.now) out.old at out.new result }
-{
-    let mut end = at;
-    let mut i: usize = 0;
-    while i < values.len() {
-        end = put_value(&mut *out, end, values[i]);
-        i += 1;
-    }
-    end
 }
 
 fn hex_digit(d: u8) -> u8
@@ -98,14 +72,45 @@ fn put_hex(out: &mut [u8], at: usize, byte: u8) -> usize
     put(&mut *out, end, hex_digit(byte % 16))
 }
 
-fn put_digits(out: &mut [u8], at: usize, bytes: &[u8]) -> usize
-    ensures { Appends (each hex_byte bytes.now) out.old at out.new result }
+// What stands in a list, one after the other, in an answer.
+trait Listed: Copy {
+    ghost text: { Self → List ℕ };
+
+    fn put_at(self, out: &mut [u8], at: usize) -> usize
+        ensures { Appends (text self) out.old at out.new result };
+}
+
+impl Listed for u32 {
+    ghost text = { field decimal };
+
+    fn put_at(self, out: &mut [u8], at: usize) -> usize {
+        put_number(out, at, self)
+    }
+}
+
+impl Listed for i32 {
+    ghost text = { field signed };
+
+    fn put_at(self, out: &mut [u8], at: usize) -> usize {
+        put_value(out, at, self)
+    }
+}
+
+// A byte of a block.
+impl Listed for u8 {
+    ghost text = { hex_byte };
+
+    fn put_at(self, out: &mut [u8], at: usize) -> usize {
+        put_hex(out, at, self)
+    }
+}
+
+fn put_each<T: Listed>(out: &mut [u8], at: usize, items: &[T]) -> usize
+    ensures { Appends (each T.text items.now) out.old at out.new result }
 {
     let mut end = at;
-    let mut i: usize = 0;
-    while i < bytes.len() {
-        end = put_hex(&mut *out, end, bytes[i]);
-        i += 1;
+    for item in items {
+        end = item.put_at(&mut *out, end);
     }
     end
 }
@@ -113,11 +118,11 @@ fn put_digits(out: &mut [u8], at: usize, bytes: &[u8]) -> usize
 fn put_block(out: &mut [u8], at: usize, block: &[u8]) -> usize
     ensures { Appends (block_text block.now) out.old at out.new result }
 {
-    if block.len() == 0 {
+    if block.is_empty() {
         return at;
     }
     let end = put(&mut *out, at, b' ');
-    put_digits(&mut *out, end, block)
+    put_each(&mut *out, end, block)
 }
 
 // A line: the number of the refusal, or 0 and what the call gives.
@@ -131,8 +136,8 @@ pub fn put_answer(
     ensures { Holds out.old (answer_text number numbers.now values.now block.now) out.new result }
 {
     let first = put_decimal(&mut *out, 0, number as u64);
-    let second = put_numbers(&mut *out, first, numbers);
-    let third = put_values(&mut *out, second, values);
+    let second = put_each(&mut *out, first, numbers);
+    let third = put_each(&mut *out, second, values);
     let fourth = put_block(&mut *out, third, block);
     put(&mut *out, fourth, b'\n')
 }

@@ -97,5 +97,5 @@ pub fn nobody() -> Replica
 pub fn places_size(n: u32) -> usize
     ensures { (result ≡ places_size n) × (result ≤ 3072) }
 {
-    if n < 6 { 512 * (n as usize) } else { 3072 }
+    if n < 6 { 512 * n as usize } else { 3072 }
 }

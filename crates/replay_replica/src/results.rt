@@ -30,13 +30,13 @@ pub fn with_numbers(
     ensures { result ≡ record { replica = replica; number = number; count = count; numbers = numbers; shown = 0; values = result.values; change = change } }
 {
     Played {
-        replica: replica,
-        number: number,
-        count: count,
-        numbers: numbers,
+        replica,
+        number,
+        count,
+        numbers,
         shown: 0,
         values: [0; 128],
-        change: change,
+        change,
     }
 }
 
@@ -45,13 +45,9 @@ pub fn with_values(replica: Replica, number: u8, shown: usize, values: [i32; 128
     ensures { result ≡ record { replica = replica; number = number; count = 0; numbers = result.numbers; shown = shown; values = values; change = Stays } }
 {
     Played {
-        replica: replica,
-        number: number,
-        count: 0,
-        numbers: [0; 10],
-        shown: shown,
-        values: values,
-        change: Change::Stays,
+        shown,
+        values,
+        ..bare(replica, number, Change::Stays)
     }
 }
 
@@ -59,15 +55,7 @@ pub fn with_values(replica: Replica, number: u8, shown: usize, values: [i32; 128
 pub fn bare(replica: Replica, number: u8, change: Change) -> Played
     ensures { result ≡ record { replica = replica; number = number; count = 0; numbers = result.numbers; shown = 0; values = result.values; change = change } }
 {
-    Played {
-        replica: replica,
-        number: number,
-        count: 0,
-        numbers: [0; 10],
-        shown: 0,
-        values: [0; 128],
-        change: change,
-    }
+    with_numbers(replica, number, 0, [0; 10], change)
 }
 
 pub fn repeated(value: i32) -> [i32; 128]

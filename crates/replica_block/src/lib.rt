@@ -5,10 +5,10 @@
 ghost use Rattle.std.specs.Prelude.{◌≡◌};
 ghost use Rattle.block.specs.Answers.{block_read, record_at, entry_at};
 
-use block::{Entry, Header, Read, RecordHead};
+use block::{Entry, Header, RecordHead};
 use block_reader::{entry_at, read_block, record_at};
 
-// Document 01's number, 0 where the bytes are a good block: 1 for another length, 14 for its check, 15 for its form. The header is all zero where it is not 0.
+// 0 where the bytes are a good block, else why they are refused: 1 for another length, 14 for its check, 15 for its form. The header is all zero where it is not 0.
 #[repr(C)]
 #[derive(Clone, Copy)]
 pub struct BlockReply {
@@ -21,19 +21,10 @@ pub extern "C" fn stemline_block_header(bytes: &[u8]) -> BlockReply
     ensures { (result.number, result.header) ≡ block_read bytes.now }
 {
     match read_block(bytes) {
-        Read::Message(header) => BlockReply {
-            number: 0,
-            header: header,
-        },
-        Read::Refused(number) => BlockReply {
-            number: number,
-            header: Header {
-                kind: 0,
-                sender: 0,
-                replicas: 0,
-                count: 0,
-                slot: 0,
-            },
+        Ok(header) => BlockReply { number: 0, header },
+        Err(fault) => BlockReply {
+            number: fault.number(),
+            header: Header::default(),
         },
     }
 }

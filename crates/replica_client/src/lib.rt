@@ -10,12 +10,9 @@ ghost use Rattle.call_reply.specs.Replies.{number, begin_reply, read_reply, ask_
 ghost use Rattle.call_reply.specs.Called.{called};
 
 use call_client::{ask, begin, read, report, withdraw};
-use call_reply::replies::{no_ask, no_begin, no_read, no_report};
-use call_reply::{AskReply, BeginReply, ReadReply, ReportReply};
-use host_table::{
-    copy_counts, copy_turn, end, find, load, put, row, scan, set_read_only, set_stage, set_tickets,
-    set_withdrawn,
-};
+use call_reply::faults::Fault;
+use call_reply::{AskReply, Asked, BeginReply, ReadReply, ReportReply};
+use host_table::{end, find, load, put, row, scan};
 use memory::{Counts, Turn, Txn};
 
 #[unsafe(no_mangle)]
@@ -32,19 +29,20 @@ pub extern "C" fn stemline_begin(
         (begin_parts m table.new counts.new values.now snapshots.new) }
 {
     if table.len() != 6 {
-        return no_begin(1);
+        return Fault::WrongLength.into();
     }
     let at = scan(table, 0);
-    let t = row(table, at);
-    let before = copy_counts(counts);
-    let done = begin(at, t, before, values, snapshots);
-    let reply = done.reply;
-    if reply.number != 0 {
-        return reply;
+    match begin(at, row(table, at), *counts, values, snapshots) {
+        Ok(begun) => {
+            put(table, at, begun);
+            counts.tickets = begun.ticket;
+            BeginReply {
+                number: 0,
+                ticket: begun.ticket,
+            }
+        }
+        Err(fault) => fault.into(),
     }
-    put(table, at, done.row);
-    set_tickets(counts, reply.ticket);
-    reply
 }
 
 #[unsafe(no_mangle)]
@@ -63,11 +61,13 @@ pub extern "C" fn stemline_read(
         (read_parts m table.now items.now writes.now snapshots.now) }
 {
     if table.len() != 6 {
-        return no_read(1);
+        return Fault::WrongLength.into();
     }
     let at = find(table, ticket);
-    let t = row(table, at);
-    read(at, t, items, writes, snapshots, item)
+    match read(at, row(table, at), items, writes, snapshots, item) {
+        Ok(value) => ReadReply { number: 0, value },
+        Err(fault) => fault.into(),
+    }
 }
 
 #[unsafe(no_mangle)]
@@ -84,23 +84,27 @@ pub extern "C" fn stemline_ask(
         (ask_parts m counts.new table.new queue.new) }
 {
     if table.len() != 6 {
-        return no_ask(1);
+        return Fault::WrongLength.into();
     }
     let at = find(table, ticket);
-    let t = row(table, at);
-    let before = copy_counts(counts);
-    let done = ask(at, t, before, queue);
-    let reply = done.reply;
-    if reply.number != 0 {
-        return reply;
+    match ask(at, row(table, at), *counts, queue) {
+        Ok(Asked::ReadOnly(n)) => {
+            end(table, at);
+            counts.read_only = n;
+            AskReply {
+                number: 0,
+                read_only: true,
+            }
+        }
+        Ok(Asked::Queued(asked)) => {
+            put(table, at, asked);
+            AskReply {
+                number: 0,
+                read_only: false,
+            }
+        }
+        Err(fault) => fault.into(),
     }
-    if reply.read_only {
-        end(table, at);
-        set_read_only(counts, done.counts.read_only);
-        return reply;
-    }
-    set_stage(table, at, 1);
-    reply
 }
 
 #[unsafe(no_mangle)]
@@ -112,18 +116,17 @@ pub extern "C" fn stemline_withdraw(table: &mut [Txn], counts: &mut Counts, tick
         (withdraw_parts m counts.new table.new) }
 {
     if table.len() != 6 {
-        return 1;
+        return Fault::WrongLength.number();
     }
     let at = find(table, ticket);
-    let t = row(table, at);
-    let before = copy_counts(counts);
-    let done = withdraw(at, t, before);
-    if done.number != 0 {
-        return done.number;
+    match withdraw(at, row(table, at), *counts) {
+        Ok(n) => {
+            end(table, at);
+            counts.withdrawn = n;
+            0
+        }
+        Err(fault) => fault.number(),
     }
-    end(table, at);
-    set_withdrawn(counts, done.counts.withdrawn);
-    0
 }
 
 #[unsafe(no_mangle)]
@@ -135,10 +138,10 @@ pub extern "C" fn stemline_report(table: &[Txn], turn: &Turn, counts: &Counts) -
         (report_parts m turn.now counts.now table.now) }
 {
     if table.len() != 6 {
-        return no_report(1);
+        return Fault::WrongLength.into();
     }
-    let rows = load(table);
-    let cursor = copy_turn(turn);
-    let before = copy_counts(counts);
-    report(rows, cursor, before)
+    ReportReply {
+        number: 0,
+        report: report(load(table), *turn, *counts),
+    }
 }

@@ -1,4 +1,4 @@
-// Coming back after a holiday, document 02's Req 11, as a host does it: who gives, and the giving.
+// Coming back after a holiday, as a host does it: who gives, and the giving.
 // Table, group, turn and counts are lent as to a work. Each call copies what it needs of the lent parts, makes the call by value, and writes what changed where it lies. Its contract: what the call
 // gives is what the definitions give, on every memory with the lent parts.
 #![tactic(auto)]
@@ -8,9 +8,10 @@ ghost use Rattle.memory.specs.Memory.{Memory};
 ghost use Rattle.call_giver.specs.Asked.{giver_reply};
 ghost use Rattle.call_give.specs.Gifts.{give_parts, gift_called, GivesGift};
 
-use call_give::{GiveReply, give, no_gift};
+use call_give::{GiveReply, give};
 use call_giver::{GiverReply, ask_giver};
-use host_table::{copy_counts, copy_group, copy_turn, end_rows, load, replace_turn, set_counts};
+use call_reply::faults::Fault;
+use host_table::end_rows;
 use memory::{Counts, Group, Turn, Txn};
 
 // Whose window the giving is to be lent, by the turns told.
@@ -18,8 +19,10 @@ use memory::{Counts, Group, Turn, Txn};
 pub extern "C" fn stemline_giver(group: &Group, turns: &[u32]) -> GiverReply
     ensures { (m : Memory) → m.group ≡ group.now → result ≡ giver_reply m turns.now }
 {
-    let known = copy_group(group);
-    ask_giver(known, turns)
+    match ask_giver(*group, turns) {
+        Ok(giver) => GiverReply { number: 0, giver },
+        Err(fault) => fault.into(),
+    }
 }
 
 // The slots that the returner lacks, out of the giver's window.
@@ -46,20 +49,15 @@ pub extern "C" fn stemline_give(
         result
         (give_parts m group.now turn.new counts.new table.new queue.new items.now values.new stamps.new places.new outbox.now window.new) }
 {
-    if table.len() != 6 {
-        return no_gift(1);
-    }
-    let rows = load(table);
-    let known = copy_group(group);
-    let cursor = copy_turn(turn);
-    let before = copy_counts(counts);
+    let Some(rows) = table.as_array::<6>() else {
+        return Fault::WrongLength.into();
+    };
     let done = give(
-        rows, known, cursor, before, queue, items, values, stamps, places, outbox, window, turns,
+        *rows, *group, *turn, *counts, queue, items, values, stamps, places, outbox, window, turns,
         lent,
     );
-    let reply = done.reply;
     end_rows(table, done.ended);
-    replace_turn(turn, done.turn);
-    set_counts(counts, done.counts);
-    reply
+    *turn = done.turn;
+    *counts = done.counts;
+    done.reply
 }

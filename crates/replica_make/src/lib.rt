@@ -1,4 +1,4 @@
-// The calls that make a replica, as a host makes them: make, and the restart of document 02.
+// The calls that make a replica, as a host makes them: make, and the restart.
 // The table is lent as a slice of records, group, turn and counts behind references. Each call copies what it needs of the lent parts, makes the call by value, and writes what changed where it
 // lies. Its contract: what the call gives is what the engine's step gives, on every memory with the lent parts.
 #![tactic(auto)]
@@ -11,9 +11,9 @@ ghost use Rattle.call_reply.specs.Notices.{restart_lent};
 
 use call_make::make;
 use call_reply::RestartReply;
-use call_reply::replies::no_restart;
+use call_reply::faults::Fault;
 use call_restart::restart;
-use host_table::{end_rows, replace_turn, set_counts, set_group};
+use memory::rows::free;
 use memory::{Counts, Group, Turn, Txn};
 
 #[unsafe(no_mangle)]
@@ -43,20 +43,21 @@ pub extern "C" fn stemline_make(
         (all_parts group.new turn.new counts.new table.new queue.new items.new writes.new snapshots.new values.new stamps.new classes.new places.new outbox.new window.new) }
 {
     if table.len() != 6 {
-        return 1;
+        return Fault::WrongLength.number();
     }
-    let done = make(
+    match make(
         n, own, start, queue, items, writes, snapshots, values, stamps, classes, places, outbox,
         window,
-    );
-    if done.number != 0 {
-        return done.number;
+    ) {
+        Ok(made) => {
+            table.fill(free());
+            *group = made.group;
+            *turn = made.turn;
+            *counts = made.counts;
+            0
+        }
+        Err(fault) => fault.number(),
     }
-    end_rows(table, [true; 6]);
-    set_group(group, done.group);
-    replace_turn(turn, done.turn);
-    set_counts(counts, done.counts);
-    0
 }
 
 #[unsafe(no_mangle)]
@@ -91,19 +92,22 @@ pub extern "C" fn stemline_restart(
         block.new }
 {
     if table.len() != 6 {
-        return no_restart(1);
+        return Fault::WrongLength.into();
     }
-    let done = restart(
+    match restart(
         n, own, start, queue, items, writes, snapshots, values, stamps, classes, places, outbox,
         window, journal, notices, block,
-    );
-    let reply = done.reply;
-    if reply.number != 0 {
-        return reply;
+    ) {
+        Ok(made) => {
+            table.fill(free());
+            *group = made.group;
+            *turn = made.turn;
+            *counts = made.counts;
+            RestartReply {
+                number: 0,
+                count: made.count,
+            }
+        }
+        Err(fault) => fault.into(),
     }
-    end_rows(table, [true; 6]);
-    set_group(group, done.group);
-    replace_turn(turn, done.turn);
-    set_counts(counts, done.counts);
-    reply
 }

@@ -10,7 +10,6 @@ ghost use Rattle.call_reply.specs.Parts.{notice_parts};
 ghost use Rattle.call_reply.specs.Replies.{number, Gives};
 
 use call_notice::{take_back, take_out};
-use host_table::{copy_group, copy_turn, set_group};
 use memory::{Group, Turn};
 
 // Out of the replica from the slot on.
@@ -29,11 +28,13 @@ pub extern "C" fn stemline_out(
         result
         (notice_parts m group.new turn.now places.now) }
 {
-    let known = copy_group(group);
-    let cursor = copy_turn(turn);
-    let done = take_out(known, cursor, places, replica, slot);
-    set_group(group, done.group);
-    done.number
+    match take_out(*group, *turn, places, replica, slot) {
+        Ok(after) => {
+            *group = after;
+            0
+        }
+        Err(fault) => fault.number(),
+    }
 }
 
 // Back of the replica at the slot.
@@ -52,9 +53,11 @@ pub extern "C" fn stemline_back(
         result
         (notice_parts m group.new turn.now places.now) }
 {
-    let known = copy_group(group);
-    let cursor = copy_turn(turn);
-    let done = take_back(known, cursor, places, replica, slot);
-    set_group(group, done.group);
-    done.number
+    match take_back(*group, *turn, places, replica, slot) {
+        Ok(after) => {
+            *group = after;
+            0
+        }
+        Err(fault) => fault.number(),
+    }
 }

@@ -1,4 +1,4 @@
-// The call that makes a station, document 02's Req 05, as a host makes it: lent and given as a replica's make is (`replica_make`), but for the number. In a crate of its own, since a proof of an
+// The call that makes a station, as a host makes it: lent and given as a replica's make is (`replica_make`), but for the number. In a crate of its own, since a proof of an
 // exported call takes long and an edit of one proves its whole crate again.
 #![tactic(auto)]
 
@@ -8,7 +8,8 @@ ghost use Rattle.call_reply.specs.Replies.{number, Gives};
 ghost use Rattle.call_reply.specs.Called.{called};
 
 use call_make::make_station;
-use host_table::{end_rows, replace_turn, set_counts, set_group};
+use call_reply::faults::Fault;
+use memory::rows::free;
 use memory::{Counts, Group, Turn, Txn};
 
 #[unsafe(no_mangle)]
@@ -37,17 +38,18 @@ pub extern "C" fn stemline_make_station(
         (all_parts group.new turn.new counts.new table.new queue.new items.new writes.new snapshots.new values.new stamps.new classes.new places.new outbox.new window.new) }
 {
     if table.len() != 6 {
-        return 1;
+        return Fault::WrongLength.number();
     }
-    let done = make_station(
+    match make_station(
         n, start, queue, items, writes, snapshots, values, stamps, classes, places, outbox, window,
-    );
-    if done.number != 0 {
-        return done.number;
+    ) {
+        Ok(made) => {
+            table.fill(free());
+            *group = made.group;
+            *turn = made.turn;
+            *counts = made.counts;
+            0
+        }
+        Err(fault) => fault.number(),
     }
-    end_rows(table, [true; 6]);
-    set_group(group, done.group);
-    replace_turn(turn, done.turn);
-    set_counts(counts, done.counts);
-    0
 }

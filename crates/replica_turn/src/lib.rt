@@ -12,12 +12,10 @@ ghost use Rattle.call_reply.specs.Called.{called};
 
 use call_deliver::deliver;
 use call_reply::WorkReply;
-use call_reply::replies::no_work;
+use call_reply::faults::{Fault, number_of};
 use call_send::send;
 use call_work::work;
-use host_table::{
-    copy_counts, copy_group, copy_turn, end_rows, load, mark_rows, mark_sent, set_counts, step_turn,
-};
+use host_table::{end_rows, load};
 use memory::{Counts, Group, NO_NUMBER, Turn, Txn};
 
 #[unsafe(no_mangle)]
@@ -41,22 +39,22 @@ pub extern "C" fn stemline_send(
         (send_parts m group.now turn.new table.new queue.new items.now writes.now outbox.new)
         block.new }
 {
-    let known = copy_group(group);
-    if known.own == NO_NUMBER {
-        return 25;
+    if group.own == NO_NUMBER {
+        return Fault::StationOnlyReads.number();
     }
     if table.len() != 6 {
-        return 1;
+        return Fault::WrongLength.number();
     }
     let rows = load(table);
-    let cursor = copy_turn(turn);
-    let done = send(rows, known, cursor, queue, items, writes, outbox, block);
-    if done.number != 0 {
-        return done.number;
+    match send(rows, *group, *turn, queue, items, writes, outbox, block) {
+        Ok(sent) => {
+            *turn = sent.turn;
+            let after = sent.rows;
+            table.copy_from_slice(&after);
+            0
+        }
+        Err(fault) => fault.number(),
     }
-    mark_rows(table);
-    mark_sent(turn);
-    0
 }
 
 #[unsafe(no_mangle)]
@@ -74,9 +72,7 @@ pub extern "C" fn stemline_deliver(
         result
         (deliver_parts m group.now turn.now places.new outbox.now) }
 {
-    let known = copy_group(group);
-    let cursor = copy_turn(turn);
-    deliver(known, cursor, places, outbox, bytes)
+    number_of(deliver(*group, *turn, places, outbox, bytes))
 }
 
 #[unsafe(no_mangle)]
@@ -99,21 +95,18 @@ pub extern "C" fn stemline_work(
         (work_parts m group.now turn.new counts.new table.new queue.new items.now values.new stamps.new places.new window.new) }
 {
     if table.len() != 6 {
-        return no_work(1);
+        return Fault::WrongLength.into();
     }
     let rows = load(table);
-    let known = copy_group(group);
-    let cursor = copy_turn(turn);
-    let before = copy_counts(counts);
-    let done = work(
-        rows, known, cursor, before, queue, items, values, stamps, places, window,
-    );
-    let reply = done.reply;
-    if reply.number != 0 {
-        return reply;
+    match work(
+        rows, *group, *turn, *counts, queue, items, values, stamps, places, window,
+    ) {
+        Ok(worked) => {
+            *turn = worked.turn;
+            *counts = worked.counts;
+            end_rows(table, worked.ended);
+            worked.into()
+        }
+        Err(fault) => fault.into(),
     }
-    end_rows(table, done.ended);
-    step_turn(turn, reply.moved, reply.sender, known.own);
-    set_counts(counts, done.counts);
-    reply
 }

@@ -10,10 +10,10 @@ ghost use Rattle.call_reply.specs.Replies.{number, Gives};
 ghost use Rattle.call_reply.specs.Called.{called};
 
 use call_classes::load_classes;
+use call_reply::faults::Fault;
 use call_write::write;
-use host_table::{
-    copy_counts, copy_group, copy_turn, end, find, load, row, set_aborted, set_writes,
-};
+use host_table::{end, find, load, row, set_writes};
+use memory::rows::bump;
 use memory::{Counts, Group, NO_NUMBER, Turn, Txn};
 
 #[unsafe(no_mangle)]
@@ -39,31 +39,41 @@ pub extern "C" fn stemline_write(
         result
         (write_parts m group.now turn.now counts.new table.new items.new writes.new stamps.now classes.now places.now) }
 {
-    let known = copy_group(group);
-    if known.own == NO_NUMBER {
-        return 25;
+    if group.own == NO_NUMBER {
+        return Fault::StationOnlyReads.number();
     }
     if table.len() != 6 {
-        return 1;
+        return Fault::WrongLength.number();
     }
     let at = find(table, ticket);
     let t = row(table, at);
-    let rows = load(table);
-    let cursor = copy_turn(turn);
-    let before = copy_counts(counts);
-    let done = write(
-        at, t, rows, known, cursor, before, items, writes, stamps, classes, places, item, value,
-    );
-    if done.number == 9 {
-        end(table, at);
-        set_aborted(counts, done.counts.aborted);
-        return 9;
+    match write(
+        at,
+        t,
+        load(table),
+        *group,
+        *turn,
+        *counts,
+        items,
+        writes,
+        stamps,
+        classes,
+        places,
+        item,
+        value,
+    ) {
+        Ok(n) => {
+            set_writes(table, at, n);
+            0
+        }
+        Err(fault) => {
+            if let Fault::Stale = fault {
+                end(table, at);
+                counts.aborted = bump(counts.aborted);
+            }
+            fault.number()
+        }
     }
-    if done.number != 0 {
-        return done.number;
-    }
-    set_writes(table, at, done.row.writes);
-    0
 }
 
 #[unsafe(no_mangle)]
@@ -75,6 +85,8 @@ pub extern "C" fn stemline_load(turn: &Turn, classes: &mut [u8], given: &[u8]) -
         result
         (load_parts m turn.now classes.new) }
 {
-    let cursor = copy_turn(turn);
-    load_classes(cursor, classes, given)
+    match load_classes(*turn, classes, given) {
+        Ok(()) => 0,
+        Err(fault) => fault.number(),
+    }
 }

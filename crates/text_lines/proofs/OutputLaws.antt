@@ -1,17 +1,10 @@
 -- When the answers that are held are written. Assumes nothing.
-use Rattle.std.proofs.Common.{◌≡◌, ℕ, ◌<◌, ◌≤◌, Bool, true, false, cond, ◌||◌, ltb, leb, refl, ap, arith, ltb-false, le-ltb, lt-ltb, le-leb}
-use borrow.Author.Tests.{lt-leb}
+use Rattle.std.proofs.Common.{◌≡◌, ℕ, ◌≤◌, Bool, true, false, cond, ◌||◌, ltb, leb, refl, ap, arith, ltb-false}
 use Rattle.text_lines.specs.declared.input.Source.{Source}
 use Rattle.text_lines.specs.declared.output.Output.{Output}
 use Rattle.text_lines.specs.Outputs.{as_written, is_due}
 
 module _ (o : Output) (s : Source) {r : Output} where
-  pub due-input : s.end ≤ s.at → r ≡ as_written o r.failed → r ≡ cond (is_due o s) (as_written o r.failed) o
-  due-input h e = rw (le-leb s.end s.at h) e
-
-  pub due-room : s.at < s.end → 61440 < o.held → r ≡ as_written o r.failed → r ≡ cond (is_due o s) (as_written o r.failed) o
-  due-room h k e = rw (lt-leb s.end s.at h, lt-ltb 61440 o.held k) e
-
   either : (b : Bool) (n : ℕ) → r ≡ cond b (as_written o r.failed) o → o.held ≤ n → r.held ≤ n
   either true n e h = omega (arith, ap (λ (x : Output). x.held) e)
   either false n e h = omega (arith, ap (λ (x : Output). x.held) e)
@@ -27,6 +20,3 @@ module _ (o : Output) (s : Source) {r : Output} where
   -- there is room then
   pub room-then : r ≡ cond (is_due o s) (as_written o r.failed) o → r.held ≤ 61440
   room-then e = roomy (leb s.end s.at) (ltb 61440 o.held) refl e
-
-pub not_due : (o : Output) (s : Source) → s.at < s.end → o.held ≤ 61440 → o ≡ cond (is_due o s) (as_written o o.failed) o
-not_due o s h k = rw (lt-leb s.end s.at h, le-ltb 61440 o.held k)

@@ -1,7 +1,6 @@
 // The lines of an input.
 ghost use Rattle.std.specs.Prelude.{◌≡◌, ◌+◌, ◌≤◌, min, false, ◌||◌, length, ◌==◌, slice_set};
 
-use memory::rows::lesser;
 use std::io::Read;
 
 // The bytes of the input buffer from `at` to `end` are still to be read. `failed` where the system could not read more.
@@ -53,15 +52,11 @@ fn filled<R: Read>(input: &mut R, buffer: &mut [u8]) -> Source
 fn ready<R: Read>(input: &mut R, source: Source, buffer: &mut [u8]) -> Source
     ensures { result.end ≤ length buffer.new }
 {
-    let end = lesser(source.end, buffer.len());
+    let end = source.end.min(buffer.len());
     if source.at < end {
-        return Source {
-            at: source.at,
-            end: end,
-            failed: source.failed,
-        };
+        return Source { end, ..source };
     }
-    filled(&mut *input, &mut *buffer)
+    filled(input, buffer)
 }
 
 // The line with one byte more, where it has room.
@@ -80,9 +75,9 @@ fn last_line(source: Source, n: usize) -> Line
     ensures { result ≡ record { source = source; length = n; ended = source.failed || (n == 0) } }
 {
     Line {
-        source: source,
+        source,
         length: n,
-        ended: if source.failed { true } else { n == 0 },
+        ended: source.failed || n == 0,
     }
 }
 
@@ -90,27 +85,24 @@ fn last_line(source: Source, n: usize) -> Line
 pub fn next_line<R: Read>(input: &mut R, source: Source, buffer: &mut [u8], line: &mut [u8]) -> Line
     ensures { result.length ≤ length line.new }
 {
-    let mut from = source;
-    let mut n: usize = 0;
-    // A proved loop ends, and nothing says that a line does: this counts down from what no line uses up.
-    let mut turns = u64::MAX;
-    while turns > 0 {
-        from = ready(&mut *input, from, &mut *buffer);
-        let at = from.at;
-        if from.end <= at {
-            return last_line(from, n);
+    let mut source = source;
+    let mut length = 0;
+    // A proved loop ends, and nothing says that a line does: no line has so many bytes.
+    for _turn in 0..u64::MAX {
+        source = ready(input, source, buffer);
+        if source.end <= source.at {
+            return last_line(source, length);
         }
-        from.at = at + 1;
-        let byte = buffer[at];
+        let byte = buffer[source.at];
+        source.at += 1;
         if byte == b'\n' {
             return Line {
-                source: from,
-                length: n,
+                source,
+                length,
                 ended: false,
             };
         }
-        n = keep(&mut *line, n, byte);
-        turns -= 1;
+        length = keep(line, length, byte);
     }
-    last_line(from, n)
+    last_line(source, length)
 }

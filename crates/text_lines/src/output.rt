@@ -4,7 +4,6 @@ ghost use Rattle.std.specs.Io.KnownBytes.{Appends, Keeps};
 ghost use Rattle.text_lines.specs.Outputs.{as_written, is_due, with_line};
 
 use super::input::Source;
-use memory::rows::lesser;
 use std::io::Write;
 
 // How many bytes of answers are held, to how many lines there is an answer, and how many of these are written. `failed` where the system could not write.
@@ -46,11 +45,11 @@ fn written<W: Write, E: Write>(
     ensures held { result ≡ as_written output result.failed }
     ensures bytes { result.failed ≡ false → Appends (W.contents to.old) (W.contents to.new) (take output.held out.now) }
 {
-    let held = lesser(output.held, out.len());
+    let held = output.held.min(out.len());
     let done = to.write_all(&out[..held]).is_ok();
     if !done {
         complain(
-            &mut *errors,
+            errors,
             program,
             b": cannot write standard output; lines answered: ",
             output.written,
@@ -77,13 +76,11 @@ pub fn with_room<W: Write, E: Write>(
     ensures due { is_due output source ≡ true → result.failed ≡ false → Appends (W.contents to.old) (W.contents to.new) (take output.held out.now) }
     ensures early { is_due output source ≡ false → Keeps (W.contents to.old) (W.contents to.new) }
 {
-    if source.end <= source.at {
-        return written(output, program, out, &mut *to, &mut *errors);
+    if source.end <= source.at || 61440 < output.held {
+        written(output, program, out, to, errors)
+    } else {
+        output
     }
-    if 61440 < output.held {
-        return written(output, program, out, &mut *to, &mut *errors);
-    }
-    output
 }
 
 // The input has ended, or could not be read.
@@ -95,13 +92,10 @@ pub fn finish<W: Write, E: Write>(
     to: &mut W,
     errors: &mut E,
 ) {
-    let last = written(output, program, out, &mut *to, &mut *errors);
-    if last.failed {
-        return;
-    }
-    if failed {
+    let last = written(output, program, out, to, errors);
+    if !last.failed && failed {
         complain(
-            &mut *errors,
+            errors,
             program,
             b": cannot read standard input; lines answered: ",
             output.answered,

@@ -10,7 +10,7 @@ use Rattle.replay_parse.specs.declared.Call.{Call}
 use Rattle.replay_replica.specs.declared.Replica.{Replica}
 use Rattle.replay_replica.specs.Effects.{no_replica}
 use Rattle.replay_calls.specs.Letters.{size_lent}
-use Rattle.week_lines.specs.declared.Line.TheVariants.{Asks, Wrong}
+use Rattle.std.specs.Prelude.{Some, None}
 use Rattle.week_lines.specs.Weeks.{line_of}
 use Rattle.week_kept.specs.Blocks.{blocks_of}
 use Rattle.week_calls.specs.declared.Answered.{Answered}
@@ -38,10 +38,10 @@ module _ (l : List Replica) (k : ℕ) (four : length l ≡ 4) where
 -- ---- a line
 
 module _ (w : Week) (line : List ℕ) where
-  pub replies-wrong : Wrong ≡ line_of w.n line → Replies (line_of w.n line) w (record { week = w; number = 27 })
+  pub replies-wrong : None ≡ line_of w.n line → Replies (line_of w.n line) w (record { week = w; number = 27 })
   replies-wrong e = rw (← e) refl
 
-  pub replies-asks : (k : ℕ) (c : Call) (replica : Replica) (a : Answered) (after : List Replica) → Asks k c ≡ line_of w.n line → replica ≡ get_or w.replicas k no_replica
+  pub replies-asks : (k : ℕ) (c : Call) (replica : Replica) (a : Answered) (after : List Replica) → Some (k, c) ≡ line_of w.n line → replica ≡ get_or w.replicas k no_replica
       → Answers (size_lent c replica.group) c replica (blocks_of w.kept) a → after ≡ set w.replicas k a.replica → get_or after k no_replica ≡ a.replica
       → Replies (line_of w.n line) w (record { week = record { n = w.n; replicas = after; kept = a.kept }; number = a.number })
   replies-asks k c replica a after e f h s g = rw (← e) (record { count = refl; others = rw g s; one = rw (g, ← f) h })

@@ -1,11 +1,9 @@
 -- A week: what it begins with, and what a line changes.
-use Rattle.std.specs.Prelude.{ℕ, ◌≡◌, [], get_or, set}
+use Rattle.std.specs.Prelude.{ℕ, ◌≡◌, [], get_or, set, Option, Some, None}
 use Rattle.replay_parse.specs.declared.Call.{Call}
 use Rattle.replay_replica.specs.declared.Replica.{Replica}
 use Rattle.replay_replica.specs.Effects.{places_size, no_replica, memory_of}
 use Rattle.replay_calls.specs.Letters.{size_lent}
-use Rattle.week_lines.specs.declared.Line.{Line}
-use Rattle.week_lines.specs.declared.Line.TheVariants.{Asks, Wrong}
 use Rattle.week_kept.specs.Blocks.{blocks_of}
 use Rattle.week_calls.specs.Steps.{Answers, start_of}
 use Rattle.week.specs.declared.Week.{Week}
@@ -34,6 +32,6 @@ pub record Changes (k : ℕ) (c : Call) (w : Week) (r : Replied) : Type 0 where
   })
 
 -- what is no line is 27, and changes nothing
-abbrev pub Replies : Line → Week → Replied → Type 0
-Replies (Asks k c) w r = Changes k c w r
-Replies Wrong w r = r ≡ record { week = w; number = 27 }
+abbrev pub Replies : Option (ℕ × Call) → Week → Replied → Type 0
+Replies (Some (k, c)) w r = Changes k c w r
+Replies None w r = r ≡ record { week = w; number = 27 }

@@ -8,14 +8,13 @@ ghost use Rattle.text_lines.specs.Outputs.{with_line};
 ghost use Rattle.week.specs.Weeks.{Begins, Replies};
 ghost use Rattle.week.specs.Texts.{HasRoom, number_text, with_text, table_text, end_text, Prints};
 
-use memory::rows::lesser;
 use replay_replica::{Replica, nobody};
 use std::io::{Read, Write};
 use text_lines::input::{Source, next_line, start};
 use text_lines::output::{Output, finish, nothing, with_line, with_room};
 use week_calls::{answer, made, put_row};
 use week_kept::Kept;
-use week_lines::{Line, group_of, line_of};
+use week_lines::{group_of, line_of};
 
 // The number of what is no line of the week.
 const WRONG: u8 = 27;
@@ -50,44 +49,36 @@ fn begun(n: u32) -> Week
 fn replica_at(replicas: [Replica; 4], k: usize) -> Replica
     ensures { result ≡ get_or replicas k no_replica }
 {
-    if k < 4 {
-        return replicas[k];
-    }
-    nobody()
+    if k < 4 { replicas[k] } else { nobody() }
 }
 
 // The replicas with another in the place of replica k.
-fn with_replica(replicas: [Replica; 4], k: usize, one: Replica) -> [Replica; 4]
+fn with_replica(mut replicas: [Replica; 4], k: usize, one: Replica) -> [Replica; 4]
     ensures { (result ≡ set replicas k one) × (k < 4 → get_or result k no_replica ≡ one) }
 {
-    let mut after = replicas;
     if k < 4 {
-        after[k] = one;
+        replicas[k] = one;
     }
-    after
+    replicas
 }
 
 // What the line does.
 fn reply(week: Week, line: &[u8]) -> Replied
     ensures { Replies (line_of week.n line.now) week result }
 {
-    let Line::Asks(k, call) = line_of(line, week.n) else {
+    let Some((k, call)) = line_of(line, week.n) else {
         return Replied {
-            week: week,
+            week,
             number: WRONG,
         };
     };
-    let replicas = week.replicas;
-    let kept = week.kept;
-    let answered = answer(call, replica_at(replicas, k), kept);
-    let one = answered.replica;
-    let left = answered.kept;
-    let after = with_replica(replicas, k, one);
+    let answered = answer(call, replica_at(week.replicas, k), week.kept);
+    let replicas = with_replica(week.replicas, k, answered.replica);
     Replied {
         week: Week {
             n: week.n,
-            replicas: after,
-            kept: left,
+            replicas,
+            kept: answered.kept,
         },
         number: answered.number,
     }
@@ -98,29 +89,20 @@ fn put_number(output: Output, number: u8, out: &mut [u8]) -> Output
     requires { HasRoom output out.old }
     ensures { (result ≡ with_line output (length (number_text number))) × Prints (number_text number) output out.old result out.new }
 {
-    let end = output.held;
-    let none = [0u32; 0];
-    let values = [0i32; 0];
-    let length = replay_print::put_answer(&mut out[end..], number, &none, &values, b"");
+    let length = replay_print::put_answer(&mut out[output.held..], number, &[], &[], b"");
     with_line(output, length)
 }
 
 // A line for each replica, behind what is held.
-fn put_table(week: Week, output: Output, out: &mut [u8]) -> Output
+fn put_table(week: Week, mut output: Output, out: &mut [u8]) -> Output
     requires { HasRoom output out.old }
     ensures { (result ≡ with_text output (table_text week)) × Prints (table_text week) output out.old result out.new }
 {
-    let replicas = week.replicas;
-    let n = lesser(week.n, 4);
-    let mut after = output;
-    let mut k: usize = 0;
-    while k < n {
-        let end = after.held;
-        let length = put_row(replica_at(replicas, k), k as u8, &mut out[end..]);
-        after.held = end + length;
-        k += 1;
+    for k in 0..week.n.min(4) {
+        let replica = replica_at(week.replicas, k);
+        output.held += put_row(replica, k as u8, &mut out[output.held..]);
     }
-    after
+    output
 }
 
 // The input has ended: the replicas, unless it could not be read to its end.
@@ -129,9 +111,10 @@ fn end(week: Week, failed: bool, output: Output, out: &mut [u8]) -> Output
     ensures { (result ≡ with_text output (end_text failed week)) × Prints (end_text failed week) output out.old result out.new }
 {
     if failed {
-        return output;
+        output
+    } else {
+        put_table(week, output, out)
     }
-    put_table(week, output, &mut *out)
 }
 
 // The lines behind the first, in their order, and then the replicas.
@@ -148,36 +131,32 @@ fn play<R: Read, W: Write, E: Write>(
     let mut week = first;
     let mut source = from;
     let mut output = nothing();
-    let mut turns = u64::MAX;
-    while turns > 0 {
-        output = with_room(output, source, b"week", &out, &mut *to, &mut *errors);
+    for _turn in 0..u64::MAX {
+        output = with_room(output, source, b"week", &out, to, errors);
         if output.failed {
             return;
         }
-        let read = next_line(&mut *input, source, &mut *buffer, &mut line);
+        let read = next_line(input, source, buffer, &mut line);
         source = read.source;
         if read.ended {
             let last = end(week, source.failed, output, &mut out);
-            finish(last, source.failed, b"week", &out, &mut *to, &mut *errors);
+            finish(last, source.failed, b"week", &out, to, errors);
             return;
         }
-        let n = read.length;
-        let next = reply(week, &line[..n]);
+        let next = reply(week, &line[..read.length]);
         output = put_number(output, next.number, &mut out);
         week = next.week;
-        turns -= 1;
     }
 }
 
-// How many replicas the week has that the first line begins; 0 where it begins none, or there is no line.
-fn begins(read: text_lines::input::Line, line: &[u8]) -> u32
-    ensures { result ≡ cond read.ended 0 (group_of (take (min read.length (length line.now)) line.now)) }
+// How many replicas the week has that the first line begins, where there is one.
+fn begins(read: text_lines::input::Line, line: &[u8]) -> Option<u32>
+    ensures { result ≡ cond read.ended None (group_of (take (min read.length (length line.now)) line.now)) }
 {
     if read.ended {
-        return 0;
+        return None;
     }
-    let n = lesser(read.length, line.len());
-    group_of(&line[..n])
+    group_of(&line[..read.length.min(line.len())])
 }
 
 // The first line, and the week that it begins.
@@ -188,9 +167,8 @@ fn main(rt: HostRuntime) {
     let mut buffer = io::large_buffer();
     let mut line = [0u8; 64];
     let read = next_line(&mut input, start(), &mut buffer, &mut line);
-    let n = begins(read, &line);
     let source = read.source;
-    if n == 0 {
+    let Some(n) = begins(read, &line) else {
         let mut out = io::large_buffer();
         let mut output = put_number(nothing(), WRONG, &mut out);
         if read.ended {
@@ -199,7 +177,7 @@ fn main(rt: HostRuntime) {
         }
         finish(output, source.failed, b"week", &out, &mut to, &mut errors);
         return;
-    }
+    };
     play(
         begun(n),
         source,

@@ -1,14 +1,10 @@
 -- What the parts of a line's step give together, over plain values.
-use Prim.Native.Nat.{ℕ, ◌≤◌, ◌<◌}
-use mathlib.Core.Path.{◌≡◌, refl, ap, sym}
-use mathlib.Core.Bool.{Bool, true, false, not, ◌&&◌}
+use Prim.Native.Nat.{ℕ}
+use mathlib.Core.Path.{◌≡◌, refl, ap}
+use mathlib.Core.Bool.{true, false}
 use mathlib.Core.List.{List, [], ◌∷◌}
-use native.Mathlib.Omega.{arith}
-use borrow.Author.Tests.{eq-eqb, ne_eqb}
-use lib.Dec.{eqb}
 use lib.IntN.{pos}
-use lib.ListN.{length, take, get_or, length-take, get_or-eq_default}
-use lib.Seq.{get_or-take}
+use lib.ListN.{take, get_or}
 use Rattle.engine.specs.Calls.{step}
 use Rattle.engine.specs.Client.{report_step}
 use Rattle.replay_parse.specs.declared.Call.{Call}
@@ -20,7 +16,7 @@ use Rattle.replay_replica.specs.Effects.{places_size, no_replica, memory_of, num
 use Rattle.replay_calls.specs.Letters.{size_lent, played}
 use Rattle.week_kept.specs.declared.Sent.{Sent}
 use Rattle.week_kept.specs.declared.Kept.{Kept}
-use Rattle.week_kept.specs.Blocks.{blocks_of, kept_with}
+use Rattle.week_kept.specs.Blocks.{blocks_of}
 use Rattle.week_calls.specs.Steps.{is_missing, played_at, kept_after, week_step, Answers, start_of, row_text}
 
 -- ---- a line
@@ -36,27 +32,6 @@ module _ (size : ℕ) (c : Call) (replica : Replica) where
   unfolding week_step
   plays-told kept p block left e h k = record { is = rw (e, ← h.is, k); rest = h.rest }
 
--- ---- a block that is not kept
-
-module _ (letter : ℕ) (known : Bool) where
-  pub missing-other : (letter ≡ 68 → ⊥) → false ≡ eqb letter 68 && not known
-  missing-other e = rw (ne_eqb letter 68 e)
-
-  pub missing-deliver : letter ≡ 68 → not known ≡ eqb letter 68 && not known
-  missing-deliver e = rw (eq-eqb letter 68 e)
-
--- ---- the blocks kept after it
-
-module _ (letter number : ℕ) (one : Sent) (kept : List Sent) where
-  pub after-other : (letter ≡ 83 → ⊥) → kept ≡ kept_after letter number one kept
-  after-other e = rw (ne_eqb letter 83 e)
-
-  pub after-refused : letter ≡ 83 → (number ≡ 0 → ⊥) → kept ≡ kept_after letter number one kept
-  after-refused e f = rw (eq-eqb letter 83 e, ne_eqb number 0 f)
-
-  pub after-sent : letter ≡ 83 → number ≡ 0 → kept_with one kept ≡ kept_after letter number one kept
-  after-sent e f = rw (eq-eqb letter 83 e, eq-eqb number 0 f)
-
 -- ---- start and end
 
 pub made_is : (n k : ℕ) (p : Played) (block bytes lent : List ℕ)
@@ -64,17 +39,6 @@ pub made_is : (n k : ℕ) (p : Played) (block bytes lent : List ℕ)
     → memory_of (places_size n) p.replica ≡ start_of n k
 unfolding played
 made_is n k p block bytes lent h = ap (λ (e : Effect). e.memory) h.is
-
--- a number behind a call's own
-module _ (count at : ℕ) (numbers : List ℕ) where
-  pub number-none : count ≤ at → 0 ≡ get_or (take count numbers) at 0
-  number-none h = sym (get_or-eq_default (take count numbers) 0 (omega (arith, length-take count numbers)))
-
-  pub number_past : length numbers ≤ at → 0 ≡ get_or (take count numbers) at 0
-  number_past h = sym (get_or-eq_default (take count numbers) 0 (omega (arith, length-take count numbers)))
-
-  pub number_is : at < count → get_or numbers at 0 ≡ get_or (take count numbers) at 0
-  number_is h = sym (get_or-take count numbers at 0 h)
 
 pub report_numbers : (replica : Replica) (p : Played) (block bytes lent : List ℕ)
     → Plays (size_lent (call_with 81 0 0 (pos 0)) replica.group) replica p block (played (call_with 81 0 0 (pos 0)) bytes lent (memory_of (size_lent (call_with 81 0 0 (pos 0)) replica.group) replica))

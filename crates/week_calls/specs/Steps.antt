@@ -1,5 +1,5 @@
 -- What a line of a week does at its replica, with the blocks that are kept; and what a replica is at the week's start, and prints at its end.
-use Rattle.std.specs.Prelude.{ℕ, ◌≡◌, Bool, cond, not, ◌&&◌, List, [], ◌∷◌, eqb, pos, drop, get_or, replicate}
+use Rattle.std.specs.Prelude.{ℕ, ◌≡◌, Bool, cond, not, ◌&&◌, List, [], ◌∷◌, eqb, pos, drop, get_or, replicate, is_some, unwrap_or}
 use Rattle.memory.specs.Memory.{Memory}
 use Rattle.engine.specs.Answers.{Outcome}
 use Rattle.engine.specs.Make.{make_step}
@@ -22,11 +22,15 @@ pub record Told : Type 0 where
 
 -- D of a block that is not kept
 abbrev pub is_missing : Call → List Sent → Bool
-is_missing c kept = eqb c.letter 68 && not (found_in c.first kept).known
+is_missing c kept = eqb c.letter 68 && not (is_some (found_in c.first kept))
+
+-- the block of its slot, zeros where it is not kept
+abbrev pub block_for : Call → List Sent → List ℕ
+block_for c kept = unwrap_or (found_in c.first kept) (replicate 512 0)
 
 -- the call of the program `replay`, by the engine's step; D is given the block of its slot
 abbrev pub played_at : Call → Memory → List Sent → Effect
-played_at c m kept = played c (found_in c.first kept).bytes (replicate 512 0) m
+played_at c m kept = played c (block_for c kept) (replicate 512 0) m
 
 -- a block is kept where it was sent, and no other
 abbrev pub is_sent : ℕ → ℕ → Bool

@@ -31,9 +31,9 @@ fn call_with(letter: u8, first: u32, second: u32) -> Call
     ensures { result ≡ call_with letter first second (pos 0) }
 {
     Call {
-        letter: letter,
-        first: first,
-        second: second,
+        letter,
+        first,
+        second,
         value: 0,
         digits: 0,
     }
@@ -45,31 +45,18 @@ pub fn made(n: u32, k: u32) -> Replica
 {
     let mut block = [0u8; 512];
     let played = run(call_with(b'M', n, k), nobody(), b"", &mut block);
-    let replica = played.replica;
-    replica
+    played.replica
 }
 
 // The blocks kept after a call: a block that was sent is the latest.
 fn kept_after(letter: u8, number: u8, kept: Kept, one: Sent) -> Kept
     ensures { blocks_of result ≡ kept_after letter number one (blocks_of kept) }
 {
-    if letter != b'S' {
-        return kept;
+    if letter == b'S' && number == 0 {
+        with_block(kept, one)
+    } else {
+        kept
     }
-    if number != 0 {
-        return kept;
-    }
-    with_block(kept, one)
-}
-
-// Whether the call delivers a block that is not known.
-fn is_missing(letter: u8, known: bool) -> bool
-    ensures { result ≡ eqb letter 68 && not known }
-{
-    if letter != b'D' {
-        return false;
-    }
-    !known
 }
 
 // The call at the replica. A deliver is given the block of its slot.
@@ -77,31 +64,23 @@ pub fn answer(call: Call, replica: Replica, kept: Kept) -> Answered
     ensures { Answers (size_lent call replica.group) call replica (blocks_of kept) result }
 {
     let found = find(kept, call.first);
-    if is_missing(call.letter, found.known) {
+    if call.letter == b'D' && found.is_none() {
         return Answered {
             number: NOT_KEPT,
-            replica: replica,
-            kept: kept,
+            replica,
+            kept,
         };
     }
-    let turn = replica.turn;
-    let bytes = found.bytes;
+    let slot = replica.turn.slot;
+    let bytes = found.unwrap_or([0; 512]);
     let mut block = [0u8; 512];
     let played = run(call, replica, &bytes, &mut block);
-    let after = played.replica;
     let number = played.number;
+    let one = Sent { slot, bytes: block };
     Answered {
-        number: number,
-        replica: after,
-        kept: kept_after(
-            call.letter,
-            number,
-            kept,
-            Sent {
-                slot: turn.slot,
-                bytes: block,
-            },
-        ),
+        number,
+        replica: played.replica,
+        kept: kept_after(call.letter, number, kept, one),
     }
 }
 
@@ -109,13 +88,11 @@ pub fn answer(call: Call, replica: Replica, kept: Kept) -> Answered
 fn number_at(numbers: [u32; 10], count: usize, at: usize) -> u32
     ensures { result ≡ get_or (take count numbers) at 0 }
 {
-    if count <= at {
-        return 0;
+    if at < count && at < 10 {
+        numbers[at]
+    } else {
+        0
     }
-    if 10 <= at {
-        return 0;
-    }
-    numbers[at]
 }
 
 // The line of replica k at the end: turn, commit count and open transactions.
@@ -124,13 +101,10 @@ pub fn put_row(replica: Replica, k: u8, out: &mut [u8]) -> usize
 {
     let mut block = [0u8; 512];
     let played = run(call_with(b'Q', 0, 0), replica, b"", &mut block);
-    let numbers = played.numbers;
-    let count = played.count;
     let shown = [
-        number_at(numbers, count, 0),
-        number_at(numbers, count, 1),
-        number_at(numbers, count, 3),
+        number_at(played.numbers, played.count, 0),
+        number_at(played.numbers, played.count, 1),
+        number_at(played.numbers, played.count, 3),
     ];
-    let values = [0i32; 0];
-    replay_print::put_answer(&mut *out, k, &shown, &values, b"")
+    replay_print::put_answer(out, k, &shown, &[], b"")
 }

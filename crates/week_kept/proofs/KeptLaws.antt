@@ -1,25 +1,16 @@
--- Blocks moved on by one, and one looked for, place by place.
+-- The blocks that are kept, and one looked for, place by place.
 use Prim.Native.Nat.{ℕ, ◌+◌, ◌≤◌, ◌<◌, min}
 use mathlib.Core.Path.{◌≡◌, ap, sym, ◌∙◌}
-use mathlib.Core.Bool.{true}
-use mathlib.Core.List.{List, ◌∷◌, append-nil}
+use mathlib.Core.List.{List, ◌∷◌}
 use native.Mathlib.Decide.{dec_le}
 use native.Mathlib.Numerals.{add-one}
 use native.Mathlib.Omega.{arith}
 use borrow.Author.Tests.{eq-eqb, ne_eqb}
-use lib.ListN.{length, take, drop, get_or, set, replicate, length-take}
-use lib.Seq.{paste, paste-suc, take-take, take_all, length-take-le, drop-cons, get_or-take, drop-length}
+use lib.ListN.{length, take, drop, get_or, length-take, drop_of_length-le}
+use lib.Seq.{take-take, take_all, drop-cons}
 use Rattle.week_kept.specs.declared.Sent.{Sent}
-use Rattle.week_kept.specs.Blocks.{kept_with, no_block, found_in}
-
--- ---- moved on
-
-module _ (d s : List Sent) (after : List Sent) (i : ℕ) where
-  pub moved-next : (z : Sent) → length d ≡ 16 → length s ≡ 16 → i < 15 → after ≡ paste d 1 s i → set after (1 + i) (get_or s i z) ≡ paste d 1 s (i + 1)
-  moved-next z e f h a = rw (a, add-one i) (paste-suc d 1 s i z (omega arith) (omega arith))
-
-pub moved_all : (one : Sent) (s after : List Sent) (i : ℕ) → i ≡ 15 → after ≡ paste (replicate 16 one) 1 s i → after ≡ one ∷ take 15 s
-moved_all one s after i e a = rw e at a ∙ ap (λ (l : List Sent). one ∷ l) (append-nil (take 15 s))
+use Rattle.std.specs.Prelude.{Some, None}
+use Rattle.week_kept.specs.Blocks.{kept_with, found_in}
 
 -- ---- those that are kept
 
@@ -49,20 +40,15 @@ kept_with_lem one l after count n f e = rw (e, add-one n) (ap (λ (r : List Sent
 
 -- ---- looked for
 
-module _ (slot : ℕ) (blocks : List Sent) (n i : ℕ) (within : n ≤ length blocks) where
-  inside : i < n → i < length (take n blocks)
-  inside h = omega (arith, length-take-le n blocks within)
-
-  pub found_here : (z : Sent) → i < n → (get_or blocks i z).slot ≡ slot → found_in slot (drop i (take n blocks)) ≡ record { known = true; bytes = (get_or blocks i z).bytes }
+module _ (slot : ℕ) (l : List Sent) (i : ℕ) where
+  pub found_here : (z : Sent) → i < length l → (get_or l i z).slot ≡ slot → found_in slot (drop i l) ≡ Some (get_or l i z).bytes
   unfolding found_in
-  found_here z h e = rw (drop-cons (take n blocks) i z (inside h), get_or-take n blocks i z h, eq-eqb (get_or blocks i z).slot slot e)
+  found_here z h e = rw (drop-cons l i z h, eq-eqb (get_or l i z).slot slot e)
 
-  pub found-later : (z : Sent) → i < n → ((get_or blocks i z).slot ≡ slot → ⊥) → found_in slot (drop i (take n blocks)) ≡ found_in slot (drop (i + 1) (take n blocks))
+  pub found_later : (z : Sent) → i < length l → ((get_or l i z).slot ≡ slot → ⊥) → found_in slot (drop i l) ≡ found_in slot (drop (i + 1) l)
   unfolding found_in
-  found-later z h e = rw (drop-cons (take n blocks) i z (inside h), get_or-take n blocks i z h, ne_eqb (get_or blocks i z).slot slot e, add-one i)
+  found_later z h e = rw (drop-cons l i z h, ne_eqb (get_or l i z).slot slot e, add-one i)
 
-  pub found-end : i ≡ n → found_in slot (drop i (take n blocks)) ≡ no_block
+  pub found_end : length l ≤ i → found_in slot (drop i l) ≡ None
   unfolding found_in
-  found-end e =
-      let g : i ≡ length (take n blocks) = omega (arith, length-take-le n blocks within) in
-      rw (g, drop-length (take n blocks))
+  found_end h = rw (drop_of_length-le l h)

@@ -1,4 +1,3 @@
 -- The lines worked out, the laws that the functions' proofs cite, and how long a line may be.
 pub mod Worked
-pub mod WeekLaws
 pub mod LongLaws

@@ -1,7 +1,7 @@
 -- How long a line may be: its numbers have at most ten digits each. Assumes nothing.
 use Prim.Native.Nat.{ℕ, zero, suc, ◌+◌, ◌*◌, ◌≤◌, ◌<◌}
 use mathlib.Core.Path.{◌≡◌, refl}
-use mathlib.Core.Bool.{Bool, true, false, cond, ◌||◌, true≢false, false≢true}
+use mathlib.Core.Bool.{Bool, true, false, cond, ◌||◌, true≢false}
 use mathlib.Core.List.{List, [], ◌∷◌}
 use native.Mathlib.Omega.{arith}
 use borrow.Author.Tests.{leb-true, eqb-true, eqb-false}
@@ -9,10 +9,9 @@ use lib.Dec.{eqb, ltb, leb}
 use lib.IntN.{ℤ}
 use lib.ListN.{length, get_or, drop, length-drop}
 use Rattle.replay_parse.specs.declared.Call.{Call}
-use Rattle.replay_parse.specs.Lines.{Field, none, found, digit_number, up_to, digits_from, read_digits, read_number, positive, negative, read_signed, read_value, call_with, no_call, at_end, number_if, value_if, shape_of, then, call_as, call_of, place_named}
-use Rattle.week_lines.specs.declared.Line.{Line}
-use Rattle.week_lines.specs.declared.Line.TheVariants.{Wrong}
-use Rattle.week_lines.specs.Weeks.{is_weekly, line_of, LongWrong}
+use Rattle.replay_parse.specs.Lines.{Form, Field, none, found, digit_number, up_to, digits_from, read_digits, read_number, positive, negative, read_signed, read_value, call_with, at_end, number_if, value_if, shape_of, then, call_as, call_behind, call_of, place_named}
+use Rattle.std.specs.Prelude.{Option, Some, None}
+use Rattle.week_lines.specs.Weeks.{is_weekly, asked, line_of, LongWrong}
 
 by : {A : Type 0} (P : A → Type 0) (b : Bool) {x y : A} → (b ≡ true → P x) → (b ≡ false → P y) → P (cond b x y)
 by P true f g = f refl
@@ -112,15 +111,16 @@ near_value_if false text = omega arith
 -- ---- calls
 
 -- a call of a week's letter has at most so many bytes
-abbrev Short : ℕ → ℕ → Call → Type 0
-Short l most c = is_weekly c.letter ≡ true → l ≤ most
+abbrev Short : ℕ → ℕ → Option Call → Type 0
+Short l most None = Unit {0}
+Short l most (Some c) = is_weekly c.letter ≡ true → l ≤ most
 
-short_none : (l most : ℕ) → Short l most no_call
-unfolding is_weekly
-short_none l most e = absurd (false≢true e)
+short_more : (l l' most more : ℕ) (c : Option Call) → (l ≤ most → l' ≤ more) → Short l most c → Short l' more c
+short_more l l' most more None f h = tt
+short_more l l' most more (Some c) f h = λ w. f (h w)
 
-short-then : {A : Type 0} (l k most : ℕ) (f : Field A) (g : A → List ℕ → Call) → Near l k f → ((x : A) (rest : List ℕ) → l ≤ length rest + k → Short l most (g x rest)) → Short l most (then f g)
-short-then l k most none g h s = short_none l most
+short-then : {A : Type 0} (l k most : ℕ) (f : Field A) (g : A → List ℕ → Option Call) → Near l k f → ((x : A) (rest : List ℕ) → l ≤ length rest + k → Short l most (g x rest)) → Short l most (then f g)
+short-then l k most none g h s = tt
 short-then l k most (found x rest) g h s = s x rest h
 
 -- a week's call has no bytes behind
@@ -128,7 +128,11 @@ or_by : {P : Type 0} (a b : Bool) → (a ≡ true → P) → (b ≡ true → P) 
 or_by true b f g e = f refl
 or_by false b f g e = g e
 
-weekly_plain : (letter : ℕ) → is_weekly letter ≡ true → (shape_of letter).bytes ≡ false
+abbrev has_bytes : Option Form → Bool
+has_bytes None = false
+has_bytes (Some s) = s.bytes
+
+weekly_plain : (letter : ℕ) → is_weekly letter ≡ true → has_bytes (shape_of letter) ≡ false
 unfolding is_weekly shape_of
 weekly_plain letter e =
     or_by (eqb letter 66) _ (λ t. rw (eqb-true letter 66 t) refl)
@@ -139,31 +143,38 @@ weekly_plain letter e =
 
 short_end : (l most : ℕ) (bytes : Bool) (c : Call) (text : List ℕ) → (is_weekly c.letter ≡ true → bytes ≡ false) → l ≤ length text + most → Short l most (at_end bytes c text)
 unfolding at_end
-short_end l most true c [] p h = short_none l most
-short_end l most true c (b ∷ text) p h = by (Short l most) (eqb b 32) (λ e w. absurd (true≢false (p w))) (λ e. short_none l most)
+short_end l most true c [] p h = tt
+short_end l most true c (b ∷ text) p h = by (Short l most) (eqb b 32) (λ e w. absurd (true≢false (p w))) (λ e. tt)
 short_end l most false c [] p h = λ w. omega (arith, h)
-short_end l most false c (b ∷ text) p h = short_none l most
+short_end l most false c (b ∷ text) p h = tt
 
-short_as : (letter : ℕ) (text : List ℕ) → Short (length text) 34 (call_as (shape_of letter) letter text)
+short_as : (letter : ℕ) (s : Form) (text : List ℕ) → (is_weekly letter ≡ true → s.bytes ≡ false) → Short (length text) 34 (call_as s letter text)
 unfolding call_as
-short_as letter text =
-    short-then (length text) 11 34 (number_if (ltb 0 (shape_of letter).numbers) text) _ (near_number_if (ltb 0 (shape_of letter).numbers) text) (λ (a : ℕ) (rest : List ℕ) h.
-    short-then (length text) 22 34 (number_if (ltb 1 (shape_of letter).numbers) rest) _ (near_more (length rest) (length text) 11 11 (number_if (ltb 1 (shape_of letter).numbers) rest) h (near_number_if (ltb 1 (shape_of letter).numbers) rest)) (λ (b : ℕ) (more : List ℕ) i.
-    short-then (length text) 34 34 (value_if (shape_of letter).value more) _ (near_more (length more) (length text) 12 22 (value_if (shape_of letter).value more) i (near_value_if (shape_of letter).value more)) (λ (v : ℤ) (end : List ℕ) j.
-    short_end (length text) 34 (shape_of letter).bytes (call_with letter a b v) end (weekly_plain letter) j)))
+short_as letter s text plain =
+    short-then (length text) 11 34 (number_if (ltb 0 s.numbers) text) _ (near_number_if (ltb 0 s.numbers) text) (λ (a : ℕ) (rest : List ℕ) h.
+    short-then (length text) 22 34 (number_if (ltb 1 s.numbers) rest) _ (near_more (length rest) (length text) 11 11 (number_if (ltb 1 s.numbers) rest) h (near_number_if (ltb 1 s.numbers) rest)) (λ (b : ℕ) (more : List ℕ) i.
+    short-then (length text) 34 34 (value_if s.value more) _ (near_more (length more) (length text) 12 22 (value_if s.value more) i (near_value_if s.value more)) (λ (v : ℤ) (end : List ℕ) j.
+    short_end (length text) 34 s.bytes (call_with letter a b v) end plain j)))
+
+short_behind : (letter : ℕ) (s : Option Form) (text : List ℕ) → (is_weekly letter ≡ true → has_bytes s ≡ false) → Short (length text) 34 (call_behind s letter text)
+short_behind letter None text plain = tt
+short_behind letter (Some s) text plain = short_as letter s text plain
 
 short_call : (line : List ℕ) → Short (length line) 37 (call_of line)
 unfolding call_of
 short_call line =
     let letter = get_or line 0 0 in
-    by (Short (length line) 37) (ltb (length line) 3) (λ e. short_none (length line) 37)
-    (λ e. by (Short (length line) 37) (shape_of letter).known (λ i w. omega (arith, short_as letter (drop 3 line) w, length-drop 3 line)) (λ i. short_none (length line) 37))
+    by (Short (length line) 37) (ltb (length line) 3) (λ e. tt)
+    (λ e. short_more (length (drop 3 line)) (length line) 34 37 (call_behind (shape_of letter) letter (drop 3 line)) (λ h. omega (arith, h, length-drop 3 line)) (short_behind letter (shape_of letter) (drop 3 line) (weekly_plain letter)))
+
+none_asked : (n l : ℕ) (k : Option ℕ) (c : Option Call) → 37 < l → Short l 37 c → asked n k c ≡ None
+none_asked n l None c h s = refl
+none_asked n l (Some k) None h s = refl
+none_asked n l (Some k) (Some c) h s =
+    by (λ (r : Option (ℕ × Call)). r ≡ None) (ltb k n)
+    (λ e. by (λ (r : Option (ℕ × Call)). r ≡ None) (ltb k 4) (λ i. by (λ (r : Option (ℕ × Call)). r ≡ None) (is_weekly c.letter) (λ w. absurd (omega (arith, s w, h))) (λ w. refl)) (λ i. refl))
+    (λ e. refl)
 
 pub long_wrong : LongWrong
 unfolding line_of
-long_wrong n line h =
-    let k = place_named line in
-    let c = call_of line in
-    by (λ (r : Line). r ≡ Wrong) (ltb k n)
-    (λ e. by (λ (r : Line). r ≡ Wrong) (ltb k 4) (λ i. by (λ (r : Line). r ≡ Wrong) (is_weekly c.letter) (λ w. absurd (omega (arith, short_call line w, h))) (λ w. refl)) (λ i. refl))
-    (λ e. refl)
+long_wrong n line h = none_asked n (length line) (place_named line) (call_of line) h (short_call line)

@@ -6,61 +6,35 @@ ghost use Rattle.week_lines.specs.Weeks.{group_of, is_weekly, line_of, replica_o
 
 use replay_parse::Call;
 
-// What a line asks: a call at a replica; or it is no line of the week.
-#[derive(Clone, Copy)]
-pub enum Line {
-    Asks(usize, Call),
-    Wrong,
-}
-
-// How many replicas the week has that the line begins, 0 where it begins none.
-pub fn group_of(line: &[u8]) -> u32
+// How many replicas the week has that the line begins.
+#[tactic(auto, unfolding(crate::specs::Weeks::group_of, block::specs::Message::within))]
+pub fn group_of(line: &[u8]) -> Option<u32>
     ensures { result ≡ group_of line.now }
 {
-    if line.len() != 3 {
-        return 0;
+    match line {
+        [b'N', b' ', digit @ b'2'..=b'4'] => Some((digit - b'0') as u32),
+        _ => None,
     }
-    if line[0] != b'N' {
-        return 0;
-    }
-    if line[1] != b' ' {
-        return 0;
-    }
-    let digit = line[2];
-    if digit < 50 {
-        return 0;
-    }
-    if 52 < digit {
-        return 0;
-    }
-    (digit - 48) as u32
 }
 
 // Whether the letter is one of the six.
+#[tactic(auto, unfolding(crate::specs::Weeks::is_weekly))]
 fn is_weekly(letter: u8) -> bool
     ensures { result ≡ is_weekly letter }
 {
-    match letter {
-        b'B' | b'D' | b'K' => true,
-        b'C' | b'S' | b'W' => true,
-        _ => false,
-    }
+    matches!(letter, b'B' | b'C' | b'D' | b'K' | b'S' | b'W')
 }
 
-// What the line asks of a week of n replicas.
-pub fn line_of(line: &[u8], n: usize) -> Line
+// What the line asks of a week of n replicas: a call at one of them.
+#[tactic(auto, unfolding(crate::specs::Weeks::line_of))]
+pub fn line_of(line: &[u8], n: usize) -> Option<(usize, Call)>
     ensures { (result ≡ line_of n line.now) × (replica_of result < 4) }
 {
-    let k = replay_parse::place_named(line);
-    let call = replay_parse::call_of(line);
-    if n <= k {
-        return Line::Wrong;
+    let k = replay_parse::place_named(line)?;
+    let call = replay_parse::call_of(line)?;
+    if k < n && k < 4 && is_weekly(call.letter) {
+        Some((k, call))
+    } else {
+        None
     }
-    if 4 <= k {
-        return Line::Wrong;
-    }
-    if !is_weekly(call.letter) {
-        return Line::Wrong;
-    }
-    Line::Asks(k, call)
 }

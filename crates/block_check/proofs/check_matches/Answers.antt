@@ -1,21 +1,23 @@
--- `check_matches` meets its contract.
+use mathlib.Core.Path.{◌≡◌, ◌∙◌, ap}
+use borrow.Author.Rules.{rules}
+use lib.ListN.{length}
+use Rattle.block.specs.Check.{check_matches}
 use Rattle.block.proofs.CheckLaws.{matches-short, matches-first, matches-second}
 use Rattle.block_check.proofs.check_matches.Goals as goal
 
-pub returns-then-block-ne512 : goal.returns-then-block-ne512
-returns-then-block-ne512 c = matches-short _ c.if-block-ne512.true
+pub returns-in_default : goal.returns-in_default
+returns-in_default c = matches-short _ (search rules)
 
-pub returns-then-s-number : goal.returns-then-s-number
-returns-then-s-number c =
-    let n = c in
-    let s = n in
-    matches-first _ s.if-block-ne512.false s.sums-s.result.first s.sums-s.ensures.0 n.number.result n.number.ensures c.if-s-number.true
+pub returns-else-s-number_at : goal.returns-else-s-number_at
+returns-else-s-number_at c =
+    let whole : c.in-Some.block.now ≡ c.args.block.now = search rules in
+    let long : length c.in-Some.block.now ≡ 512 = search rules in
+    matches-first c.in-Some.block.now long c.sums-s.result.first c.sums-s.ensures.0 c.number_at.result c.number_at.ensures c.if-s-number_at.false ∙ ap check_matches whole
 
-pub returns : goal.returns
-returns c =
-    let m = c in
-    let i = m in
-    let n = i in
-    let s = n in
-    matches-second _ s.if-block-ne512.false s.sums-s.result.first s.sums-s.ensures.0 n.number.result n.number.ensures i.if-s-number.false
-    s.sums-s.result.second s.sums-s.ensures.1 m.number-2.result m.number-2.ensures
+pub returns-then-s-number_at : goal.returns-then-s-number_at
+returns-then-s-number_at c =
+    let whole : c.in-Some.block.now ≡ c.args.block.now = search rules in
+    let long : length c.in-Some.block.now ≡ 512 = search rules in
+    matches-second c.in-Some.block.now long c.sums-s.result.first c.sums-s.ensures.0 c.number_at.result c.number_at.ensures c.if-s-number_at.true
+    c.sums-s.result.second c.sums-s.ensures.1 c.number_at-then-s-number_at.result c.number_at-then-s-number_at.ensures
+    ∙ ap check_matches whole

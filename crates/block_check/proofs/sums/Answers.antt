@@ -3,62 +3,44 @@ use mathlib.Core.Path.{◌≡◌, refl}
 use native.Mathlib.Omega.{arith}
 use Rattle.block.specs.Check.{sum_to, weighted_to, first_check, second_check}
 use Rattle.block.proofs.CheckLaws.{sum-next, weighted-turn, weighted_last, zeros-second}
+use Rattle.block_check.proofs.sums.Goals.{After-loop-turn}
 use Rattle.block_check.proofs.sums.Goals as goal
 
-pub loop-i-init : goal.loop-i-init
+pub loop-turn-init : goal.loop-turn-init
 unfolding sum_to weighted_to
-loop-i-init c = (omega arith, omega arith, omega arith, omega arith, omega arith, omega arith, omega arith, omega arith, omega arith, omega arith, refl, refl)
+loop-turn-init c = (omega arith, omega arith, omega arith, omega arith, omega arith, omega arith, omega arith, omega arith, refl, refl)
 
-pub loop-i-preserved : goal.loop-i-preserved
-loop-i-preserved c =
-    let w = c in
-    let l = w in
-    let b = l.args.bytes.now in
-    let i = l.loop-i.i in
-    let more = sum-next b i (omega arith) _ _ _ _ w.word.ensures c.word-in-loop-i.ensures c.word-in-loop-i-2.ensures c.word-in-loop-i-3.ensures in
+pub loop-turn-preserved : goal.loop-turn-preserved
+loop-turn-preserved c =
+    let b = c.args.bytes.now in
+    let l = c.loop-turn in
+    let v = l.invariant in
+    let i = 4 * l.turn in
+    let next : 4 * (l.turn + 1) ≡ i + 4 = omega arith in
+    let more = sum-next b i (omega arith) _ _ _ _ c.word.ensures c.word-in-loop-turn.ensures c.word-in-loop-turn-2.ensures c.word-in-loop-turn-3.ensures in
     let turn =
-    weighted-turn b i (omega arith) _ _ _ _ w.word.ensures c.word-in-loop-i.ensures c.word-in-loop-i-2.ensures c.word-in-loop-i-3.ensures
-    l.loop-i.a l.loop-i.b l.loop-i.c l.loop-i.d l.loop-i.e l.loop-i.f l.loop-i.g l.loop-i.h l.loop-i.invariant.11 in (
-      omega arith,
-      omega arith,
-      omega arith,
-      omega arith,
-      omega arith,
-      omega arith,
-      omega arith,
-      omega arith,
-      omega arith,
-      omega arith,
-      omega arith,
-      turn,
-    )
+    weighted-turn b i (omega arith) _ _ _ _ c.word.ensures c.word-in-loop-turn.ensures c.word-in-loop-turn-2.ensures c.word-in-loop-turn-3.ensures
+    l.a l.b l.c l.d l.e l.f l.g l.h v.9 in
+    rw next (omega arith, omega arith, omega arith, omega arith, omega arith, omega arith, omega arith, omega arith, omega arith, turn)
 
 -- the first sum is whole
--- four times the sums of sums have what b, c and d have too much
-pub returns-then-first-eq0 : goal.returns-then-first-eq0
+first : (c : After-loop-turn) → c.loop-turn.a + c.loop-turn.b + c.loop-turn.c + c.loop-turn.d ≡ first_check c.args.bytes.now
 unfolding first_check
+first c = let e : c.loop-turn.turn ≡ 63 = omega arith in rw e at c.loop-turn.invariant.8
+
+-- four times the sums of sums have what b, c and d have too much
+last : (c : After-loop-turn) → 4 * (c.loop-turn.e + c.loop-turn.f + c.loop-turn.g + c.loop-turn.h) ≡ second_check c.args.bytes.now + (c.loop-turn.b + 2 * c.loop-turn.c + 3 * c.loop-turn.d)
+last c = let e : c.loop-turn.turn ≡ 63 = omega arith in weighted_last c.args.bytes.now c.loop-turn.a _ _ _ _ _ _ _ (rw e at c.loop-turn.invariant.9)
+
+pub returns-then-first-eq0 : goal.returns-then-first-eq0
 returns-then-first-eq0 c =
-    let first : c.loop-i.i ≡ 252
-    → c.loop-i.a + c.loop-i.b + c.loop-i.c + c.loop-i.d ≡ first_check c.args.bytes.now = λ e. rw e at c.loop-i.invariant.10 in
-    let l = c in
-    let e = first (omega arith) in
-    (e, zeros-second l.args.bytes.now (omega arith))
+    let e = first (goal.at.returns-then-first-eq0 c).After-loop-turn in
+    (e, zeros-second c.args.bytes.now (omega arith))
 
 pub overflow_sub-second : goal.overflow_sub-second
-overflow_sub-second c =
-    let last : c.loop-i.i ≡ 252
-    → 4 * (c.loop-i.e + c.loop-i.f + c.loop-i.g + c.loop-i.h)
-    ≡ second_check c.args.bytes.now + (c.loop-i.b + 2 * c.loop-i.c + 3 * c.loop-i.d) = λ e. weighted_last c.args.bytes.now c.loop-i.a _ _ _ _ _ _ _ (rw e at c.loop-i.invariant.11) in
-    omega (arith, last (omega arith))
+overflow_sub-second c = omega (arith, last (goal.at.overflow_sub-second c).After-loop-turn)
 
 pub returns : goal.returns
-unfolding first_check
 returns c =
-    let first : c.loop-i.i ≡ 252
-    → c.loop-i.a + c.loop-i.b + c.loop-i.c + c.loop-i.d ≡ first_check c.args.bytes.now = λ e. rw e at c.loop-i.invariant.10 in
-    let last : c.loop-i.i ≡ 252
-    → 4 * (c.loop-i.e + c.loop-i.f + c.loop-i.g + c.loop-i.h)
-    ≡ second_check c.args.bytes.now + (c.loop-i.b + 2 * c.loop-i.c + 3 * c.loop-i.d) = λ e. weighted_last c.args.bytes.now c.loop-i.a _ _ _ _ _ _ _ (rw e at c.loop-i.invariant.11) in
-    let l = c in
-    let e : l.loop-i.i ≡ 252 = omega arith in
-    (first e, omega (arith, last e))
+    let x = (goal.at.returns c).After-loop-turn in
+    (first x, omega (arith, last x))

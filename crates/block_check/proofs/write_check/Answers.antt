@@ -1,40 +1,21 @@
--- `write_check` meets its contract: eight stores behind the 504 bytes. Assumes nothing.
-use native.Mathlib.Omega.{arith}
+-- Two parts behind the 504 bytes. Assumes nothing.
+use mathlib.Core.Path.{◌≡◌, ◌∙◌}
+use borrow.Author.Rules.{rules}
 use borrow.Author.Tests.{eq-eqb, ne_eqb}
-use lib.ListN.{length-set}
+use lib.ListN.{length}
 use Rattle.block.specs.Writing.{checked_step}
 use Rattle.block.proofs.WriteLaws.{check_put}
 use Rattle.block_check.proofs.write_check.Goals as goal
 
-pub returns-then-block-ne512 : goal.returns-then-block-ne512
+pub returns-in_default : goal.returns-in_default
 unfolding checked_step
-returns-then-block-ne512 c = rw (ne_eqb _ 512 c.if-block-ne512.true)
-
-pub bounds-block-505 : goal.bounds-block-505
-bounds-block-505 c = simp length-set (omega arith)
-
-pub bounds-block-506 : goal.bounds-block-506
-bounds-block-506 c = simp length-set (omega arith)
-
-pub bounds-block-507 : goal.bounds-block-507
-bounds-block-507 c = simp length-set (omega arith)
-
-pub bounds-block-508 : goal.bounds-block-508
-bounds-block-508 c = simp length-set (omega arith)
-
-pub bounds-block-509 : goal.bounds-block-509
-bounds-block-509 c = simp length-set (omega arith)
-
-pub bounds-block-510 : goal.bounds-block-510
-bounds-block-510 c = simp length-set (omega arith)
-
-pub bounds-block-511 : goal.bounds-block-511
-bounds-block-511 c = simp length-set (omega arith)
+returns-in_default c = rw (ne_eqb (length c.args.block.now) 512 (search rules))
 
 pub returns : goal.returns
 unfolding checked_step
 returns c =
-    let s = c in
-    let b = s in
-    let h = b.if-block-ne512.false in
-    rw (eq-eqb _ 512 h, ← check_put b.args.block.now _ _ h s.sums-s.ensures.0 s.sums-s.ensures.1)
+    let whole : c.in-Some.block.now ≡ c.args.block.now = search rules in
+    let h : length c.args.block.now ≡ 512 = search rules in
+    let e = check_put c.args.block.now c.copy_from_slice.new.self c.copy_from_slice-2.new.self _ _ h (rw whole at c.sums-s.ensures.0) (rw whole at c.sums-s.ensures.1)
+    (c.copy_from_slice.ensures.after ∙ c.to_le_bytes.ensures) (c.copy_from_slice-2.ensures.after ∙ c.to_le_bytes-2.ensures) in
+    rw (whole, eq-eqb _ 512 h, ← e)

@@ -1,5 +1,5 @@
--- `entries_fit_lem` meets its contract. The loop's invariant: all of the entries fit just if the last one read is at most 127 and those from `e` on, above it, fit.
-use Prim.Native.Nat.{◌+◌, ◌-◌, ◌≤◌}
+-- All of the entries fit just if the last one read is at most 127 and those from e on, above it, fit.
+use Prim.Native.Nat.{◌+◌}
 use mathlib.Core.Bool.{◌&&◌}
 use mathlib.Core.Path.{◌≡◌}
 use lib.Dec.{leb}
@@ -7,7 +7,4 @@ use Rattle.block.proofs.FormLaws.{entries_good, entries_rest}
 use Rattle.block_form.proofs.entries_fit.Given as goal
 
 abbrev pub invariant-loop-e : goal.invariant-loop-e
-invariant-loop-e l = (l.e ≤ l.n) × (1 ≤ l.e) × (entries_good 0 l.n l.part ≡ (leb l.last 127 && entries_rest (l.last + 1) l.n l.e l.part))
-
-abbrev pub decreases-loop-e : goal.decreases-loop-e
-decreases-loop-e l = l.n - l.e
+invariant-loop-e l = entries_good 0 l.n l.part ≡ (leb l.last 127 && entries_rest (l.last + 1) l.n l.e l.part)

@@ -1,41 +1,39 @@
--- `record_fits` meets its contract: each test that fails makes the record unfit, and past them it is what `entries_fit_lem` answers.
--- Assumes nothing.
-use mathlib.Core.Path.{sym, ◌∙◌}
+-- Each test that fails makes the record unfit, and past them its entries decide.
+use mathlib.Core.Path.{◌≡◌, sym, ◌∙◌}
 use native.Mathlib.Omega.{arith}
-use Rattle.block.specs.Message.{max_ticket}
-use Rattle.block.proofs.FormLaws.{within_in, within-below, within-above, record-ticket, record-writes, record-entries}
+use borrow.Author.Rules.{rules}
+use Rattle.block.specs.Message.{within, max_ticket}
+use Rattle.block.proofs.FormLaws.{record-ticket, record-writes, record-entries}
+use Rattle.block_form.proofs.record_fits.Goals.{then-contains, else-contains}
 use Rattle.block_form.proofs.record_fits.Goals as goal
 
-pub returns-then-ticket-lt1 : goal.returns-then-ticket-lt1
-returns-then-ticket-lt1 c =
-    let n = c in
-    sym (record-ticket n.args.part.now n.number_at-ticket.result n.number_at-ticket.ensures (within-below 1 max_ticket _ c.if-ticket-lt1.true))
+pub returns-then-contains-2 : goal.returns-then-contains-2
+unfolding within
+returns-then-contains-2 c =
+    let l = c.args.part.now in
+    let t = c.number_at-ticket in
+    let w = c.number_at-writes in
+    let ticket : c.contains.result ≡ within 1 max_ticket t.result = search rules in
+    elim c.if-contains.branch [
+      | then-contains v ↦
+          let writes : v.contains-then-contains.result ≡ within 1 8 w.result = search rules in
+          c.entries_fit.ensures
+          ∙ sym (record-entries l t.result t.ensures w.result (omega arith) w.ensures (sym ticket ∙ v.if-contains.true) (sym writes ∙ sym v.value-is ∙ c.if-contains-2.true))
+      | else-contains v ↦ absurd (search rules)
+    ]
 
-pub returns-then-ticket-gt100000000 : goal.returns-then-ticket-gt100000000
-returns-then-ticket-gt100000000 c =
-    let n = c in
-    sym (record-ticket n.args.part.now n.number_at-ticket.result n.number_at-ticket.ensures (within-above 1 max_ticket _ c.if-ticket-gt100000000.true))
-
-pub returns-then-writes-lt1 : goal.returns-then-writes-lt1
-returns-then-writes-lt1 c =
-    let w = c in
-    let n = w in
-    let l = n.args.part.now in
-    sym (record-writes l n.number_at-ticket.result n.number_at-ticket.ensures w.number_at-writes.result (omega arith) w.number_at-writes.ensures (within-below 1 8 _ c.if-writes-lt1.true))
-
-pub returns-then-writes-gt8 : goal.returns-then-writes-gt8
-returns-then-writes-gt8 c =
-    let w = c in
-    let n = w in
-    let l = n.args.part.now in
-    sym (record-writes l n.number_at-ticket.result n.number_at-ticket.ensures w.number_at-writes.result (omega arith) w.number_at-writes.ensures (within-above 1 8 _ c.if-writes-gt8.true))
-
-pub returns : goal.returns
-returns c =
-    let w = c in
-    let n = w in
-    let l = n.args.part.now in
-    c.entries_fit.ensures
+pub returns-else-contains-2 : goal.returns-else-contains-2
+unfolding within
+returns-else-contains-2 c =
+    let l = c.args.part.now in
+    let t = c.number_at-ticket in
+    let w = c.number_at-writes in
+    let ticket : c.contains.result ≡ within 1 max_ticket t.result = search rules in
+    c.if-contains-2.false
     ∙ sym
-    (record-entries l n.number_at-ticket.result n.number_at-ticket.ensures w.number_at-writes.result (omega arith) w.number_at-writes.ensures
-    (within_in 1 max_ticket _ (omega arith) (omega arith)) (within_in 1 8 _ (omega arith) (omega arith)))
+    (elim c.if-contains.branch [
+      | then-contains v ↦
+          let writes : v.contains-then-contains.result ≡ within 1 8 w.result = search rules in
+          record-writes l t.result t.ensures w.result (omega arith) w.ensures (sym writes ∙ sym v.value-is ∙ c.if-contains-2.false)
+      | else-contains v ↦ record-ticket l t.result t.ensures (sym ticket ∙ v.if-contains.false)
+    ])

@@ -1,25 +1,22 @@
--- `read_block` meets its contract: each answer by its law.
-use mathlib.Core.Path.{sym, ◌∙◌}
+-- Each answer by its law.
+use mathlib.Core.Path.{◌≡◌, sym, ◌∙◌, ap}
+use borrow.Author.Rules.{rules}
+use Rattle.block.specs.Answers.{header_of}
 use Rattle.block.proofs.ReaderLaws.{read_short, read-damaged, read-malformed, read_taken}
 use Rattle.block_reader.proofs.read_block.Goals as goal
 
-pub returns-then-block-ne512 : goal.returns-then-block-ne512
-returns-then-block-ne512 c = read_short _ c.if-block-ne512.true
+pub returns-in_default : goal.returns-in_default
+returns-in_default c = read_short _ (search rules)
 
 pub returns-then-not-check_matches : goal.returns-then-not-check_matches
-returns-then-not-check_matches c =
-    let m = c in
-    read-damaged _ m.if-block-ne512.false (sym m.check_matches.ensures ∙ c.if-not-check_matches.true)
+returns-then-not-check_matches c = read-damaged _ (search rules) (sym c.check_matches.ensures ∙ c.if-not-check_matches.true)
 
 pub returns-then-not-well_formed : goal.returns-then-not-well_formed
 returns-then-not-well_formed c =
-    let w = c in
-    let m = w in
-    read-malformed _ m.if-block-ne512.false (sym m.check_matches.ensures ∙ w.if-not-check_matches.false) (sym w.well_formed-2.ensures ∙ c.if-not-well_formed.true)
+    read-malformed _ (search rules) (sym c.check_matches.ensures ∙ c.if-not-check_matches.false) (sym c.well_formed-2.ensures ∙ c.if-not-well_formed.true)
 
 pub returns : goal.returns
 returns c =
-    let w = c in
-    let m = w in
-    read_taken _ m.if-block-ne512.false (sym m.check_matches.ensures ∙ w.if-not-check_matches.false) (sym w.well_formed-2.ensures ∙ c.if-not-well_formed.false)
-    c.header.result c.header.ensures
+    let whole : c.in-Some.whole.now ≡ c.args.block.now = search rules in
+    read_taken _ (search rules) (sym c.check_matches.ensures ∙ c.if-not-check_matches.false) (sym c.well_formed-2.ensures ∙ c.if-not-well_formed.false)
+    c.header.result (c.header.ensures ∙ ap header_of whole)

@@ -1,21 +1,17 @@
--- `record_at` meets its contract.
-use Prim.Native.Nat.{◌+◌, ◌*◌}
-use mathlib.Core.Path.{◌∙◌}
-use native.Mathlib.Omega.{arith}
-use Rattle.block.proofs.NumberLaws.{number-four}
+use mathlib.Core.Path.{◌≡◌}
+use borrow.Author.Rules.{rules}
 use Rattle.block.proofs.ReaderLaws.{record-short, record-past, record-some}
+use Rattle.block_reader.proofs.record_at.Goals.{then-block-ne512-via-then-block-ne512, then-block-ne512-via-else-block-ne512+then-j-ge6}
 use Rattle.block_reader.proofs.record_at.Goals as goal
 
 pub returns-then-block-ne512 : goal.returns-then-block-ne512
-returns-then-block-ne512 c = record-short _ _ c.if-block-ne512.true
-
-pub returns-then-j-ge6 : goal.returns-then-j-ge6
-returns-then-j-ge6 c = record-past _ _ c.if-j-ge6.true
+returns-then-block-ne512 c =
+    let zeros : c.default.result ≡ record { ticket = 0; writes = 0 } = search rules in
+    rw zeros
+    (elim c.then-block-ne512.branch [
+      | then-block-ne512-via-then-block-ne512 w ↦ record-short _ _ w.if-block-ne512.true
+      | then-block-ne512-via-else-block-ne512+then-j-ge6 w ↦ record-past _ _ w.if-j-ge6.true
+    ])
 
 pub returns : goal.returns
-returns c =
-    let n = c in
-    let k = n in
-    let a = k.args in
-    record-some _ _ k.if-block-ne512.false k.if-j-ge6.false n.number.result
-    (n.number.ensures ∙ number-four a.block.now (16 + 72 * a.j) (omega arith))
+returns c = record-some _ _ c.if-block-ne512.false c.if-j-ge6.false c.number_at.result c.number_at.ensures

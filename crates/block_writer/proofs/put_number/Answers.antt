@@ -1,6 +1,6 @@
--- `put_number` meets its contract: four stores are all of the part. Assumes nothing.
-use Rattle.block.proofs.WriteLaws.{number_put}
+use mathlib.Core.Path.{◌∙◌}
+use Rattle.block.proofs.WriteLaws.{le_bytes}
 use Rattle.block_writer.proofs.put_number.Goals as goal
 
 pub returns : goal.returns
-returns c = number_put c.args.part.now c.args.x c.requires
+returns c = c.copy_from_slice.ensures.after ∙ c.to_le_bytes.ensures ∙ le_bytes _

@@ -1,23 +1,25 @@
--- `withdraw` meets its contract: each answer by its law.
-use Rattle.engine.specs.Client.{withdraw_at}
+use Rattle.std.proofs.lemmas.Result.{err_from_is_err_and}
+use Rattle.engine.specs.Client.{withdraw_refusal, withdraw_at, withdraw_row}
+use Rattle.call_reply.specs.Parts.{withdraw_parts}
 use Rattle.call_reply.specs.Replies.{number}
 use Rattle.call_reply.proofs.ReplyLaws.{gives}
+use Rattle.call_reply.proofs.FaultLaws.{refused_by, accepted_by}
 use Rattle.memory.proofs.RowLaws.{same_row}
-use Rattle.call_client.proofs.AskLaws.{withdraw-absent, withdraw-asked, withdraw-taken}
 use Rattle.call_client.proofs.withdraw.Goals as goal
 
-pub returns-then-at-ge6 : goal.returns-then-at-ge6
-returns-then-at-ge6 c = λ m table here.
+pub returns-in_err-check_active : goal.returns-in_err-check_active
+unfolding withdraw_row withdraw_refusal
+returns-in_err-check_active c = λ m table here.
     let a = c.args in
-    rw (same_row table a.at a.t here) (gives number (withdraw-absent _ a.at c.if-at-ge6.true))
-
-pub returns-then-t-ne0 : goal.returns-then-t-ne0
-returns-then-t-ne0 c = λ m table here.
-    let a = c.args in
-    rw (same_row table a.at a.t here) (gives number (withdraw-asked _ a.at c.if-at-ge6.false a.t here c.if-t-ne0.true))
+    let o = withdraw_parts m a.counts table in
+    let p = err_from_is_err_and c.from_residual.result c.from_residual.ensures.1 in
+    rw (p.1, p.2, same_row table a.at a.t here)
+    (gives number (refused_by _ (withdraw_refusal o a.at) o (withdraw_at o a.at) (rw here at c.in_err-check_active.ensures.number)))
 
 pub returns : goal.returns
-unfolding withdraw_at
+unfolding withdraw_row withdraw_refusal withdraw_at
 returns c = λ m table here.
     let a = c.args in
-    rw (c.free.ensures, c.bump.ensures) (gives number (withdraw-taken _ a.at c.if-at-ge6.false a.t here c.if-t-ne0.false))
+    let o = withdraw_parts m a.counts table in
+    rw c.bump.ensures
+    (gives number (accepted_by (withdraw_refusal o a.at) o (withdraw_at o a.at) (rw here at c.in_ok-check_active.ensures.number)))

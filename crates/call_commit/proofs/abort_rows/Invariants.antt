@@ -5,6 +5,3 @@ use Rattle.call_commit.proofs.abort_rows.Given as goal
 
 abbrev pub invariant-loop-r : goal.invariant-loop-r
 invariant-loop-r l = Aborting (writeset_at l.block l.j).entries l.items l.table l.marks l.tickets l.count l.r
-
-abbrev pub decreases-loop-r : goal.decreases-loop-r
-decreases-loop-r l = l.r

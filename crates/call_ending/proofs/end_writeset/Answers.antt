@@ -6,6 +6,4 @@ end_transactions-ended-requires c = rw c.record_at-ticket.ensures
 
 pub returns : goal.returns
 returns c =
-    let p = c in
-    let e = p in
-    rw (← e.byte_at-sender.ensures) (e.end_transactions-ended.ensures.0, e.end_transactions-ended.ensures.1, p.apply.ensures.0, p.apply.ensures.1)
+    rw (← c.byte_at.ensures) (c.end_transactions-ended.ensures.0, c.end_transactions-ended.ensures.1, c.apply.ensures.0, c.apply.ensures.1)

@@ -1,16 +1,9 @@
 -- `commit_block` meets its contract. The loop's invariant: all writesets leave what those from the j-th on leave of what is there now. Assumes nothing.
-use Prim.Native.Nat.{◌-◌, ◌≤◌}
-use mathlib.Core.Path.{◌≡◌}
-use lib.ListN.{length}
+use Rattle.std.proofs.Common.{◌≡◌}
 use Rattle.engine.specs.Restart.{writesets_in, commit_all}
 use Rattle.call_journal.specs.Replays.{replayed}
 use Rattle.call_journal.proofs.WritesetLaws.{rest}
 use Rattle.call_journal.proofs.commit_block.Given as goal
 
 abbrev pub invariant-loop-j : goal.invariant-loop-j
-invariant-loop-j l =
-    (l.j ≤ l.count) × (length l.values ≡ length l.initial.values) × (length l.stamps ≡ length l.initial.stamps)
-    × (commit_all (replayed l.commits l.initial.values l.initial.stamps) (writesets_in l.block) ≡ commit_all (replayed l.after l.values l.stamps) (rest l.block l.count l.j))
-
-abbrev pub decreases-loop-j : goal.decreases-loop-j
-decreases-loop-j l = l.count - l.j
+invariant-loop-j l = commit_all (replayed l.commits l.initial.values l.initial.stamps) (writesets_in l.block) ≡ commit_all (replayed l.after l.values l.stamps) (rest l.block l.j-end l.j)

@@ -10,14 +10,8 @@ returns-then-block-own c = rw (ne_eqb _ c.args.own c.if-block-own.true)
 
 pub returns-then-puts_out : goal.returns-then-puts_out
 unfolding tallied
-returns-then-puts_out c =
-    let p = c in
-    let h = p in
-    rw (eq-eqb _ h.args.own h.if-block-own.false, h.highest_ticket.ensures, sym p.puts_out.ensures ∙ c.if-puts_out.true)
+returns-then-puts_out c = rw (eq-eqb _ c.args.own c.if-block-own.false, c.highest_ticket.ensures, sym c.puts_out.ensures ∙ c.if-puts_out.true)
 
-pub returns : goal.returns
+pub returns-else-puts_out : goal.returns-else-puts_out
 unfolding tallied
-returns c =
-    let p = c in
-    let h = p in
-    rw (eq-eqb _ h.args.own h.if-block-own.false, h.highest_ticket.ensures, sym p.puts_out.ensures ∙ c.if-puts_out.false)
+returns-else-puts_out c = rw (eq-eqb _ c.args.own c.if-block-own.false, c.highest_ticket.ensures, sym c.puts_out.ensures ∙ c.if-puts_out.false)

@@ -1,12 +1,8 @@
 -- `highest_ticket` meets its contract. The loop's invariant: the highest of all is the highest of the one found and those from the j-th on. Assumes nothing.
-use Prim.Native.Nat.{◌-◌, ◌≤◌, max}
-use mathlib.Core.Path.{◌≡◌}
+use Rattle.std.proofs.Common.{◌≡◌, max}
 use Rattle.engine.specs.Restart.{writesets_in, highest_ticket}
 use Rattle.call_journal.proofs.WritesetLaws.{rest}
 use Rattle.call_journal.proofs.highest_ticket.Given as goal
 
 abbrev pub invariant-loop-j : goal.invariant-loop-j
-invariant-loop-j l = (l.j ≤ l.count) × (max l.ticket (highest_ticket (writesets_in l.block)) ≡ max l.highest (highest_ticket (rest l.block l.count l.j)))
-
-abbrev pub decreases-loop-j : goal.decreases-loop-j
-decreases-loop-j l = l.count - l.j
+invariant-loop-j l = max l.ticket (highest_ticket (writesets_in l.block)) ≡ max l.highest (highest_ticket (rest l.block l.j-end l.j))

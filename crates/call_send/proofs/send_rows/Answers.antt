@@ -1,27 +1,14 @@
-use Prim.Native.Nat.{◌-◌}
-use mathlib.Core.Path.{◌≡◌, refl, ◌∙◌}
-use native.Mathlib.Omega.{arith}
-use lib.ListN.{length}
-use Rattle.memory.specs.Rows.{closed}
+-- The array's `map` says what it gives place by place.
+use Rattle.std.proofs.Common.{rules, arith, ◌≡◌, map, length, sym, ◌∙◌}
+use Rattle.std.proofs.lemmas.List.{get_or-map, same_lists}
+use lib.ListN.{length-map}
 use Rattle.engine.specs.Moves.{send_row}
-use Rattle.call_send.proofs.BlockLaws.{map-turn, map-end}
-use borrow.Author.Rules.{rules}
 use Rattle.call_send.proofs.send_rows.Goals as goal
-
-pub loop-i-init : goal.loop-i-init
-loop-i-init c = (omega arith, refl)
-
-pub loop-i-preserved : goal.loop-i-preserved
-loop-i-preserved c =
-    let b = c in
-    let t = b.args.rows in
-    let six : length t ≡ 6 = search rules in
-    (omega arith, rw (c.send_row.ensures, b.loop-i.invariant.1) (map-turn closed t b.loop-i.i (omega arith) send_row))
 
 pub returns : goal.returns
 returns c =
-    let b = c in
-    let t = b.args.rows in
-    let six : length t ≡ 6 = search rules in
-    let e : b.loop-i.i ≡ 6 = omega arith in
-    b.loop-i.invariant.1 ∙ rw e (map-end 6 t six send_row)
+    let rows = c.args.rows in
+    let six : length rows ≡ 6 = search rules in
+    let sent = c.map.ensures.items in
+    same_lists c.map.result (map send_row rows) (sent.long ∙ sym six ∙ sym (length-map rows send_row))
+    (λ k d h. (sent.at k d d (omega (arith, sent.long))).2.met ∙ sym (get_or-map send_row rows k d d (omega (arith, sent.long))))

@@ -9,11 +9,8 @@ use Rattle.call_work.proofs.pass_next.Goals as goal
 
 pub returns : goal.returns
 returns c =
-    let k = c in
-    let s = k in
-    let a = s.args in
-    let part = lent_slice a.at (a.at + 512) a.places.now (omega arith) in (
-      λ m. next-passed (turn_parts m a.group a.turn a.counts m.txns.table a.places.now a.window.now) a.at s.requires.0 s.requires.1 c.advance.result c.advance.ensures
-          _ (rw part at k.keep.ensures),
+    let part = lent_slice c.args.at (c.args.at + 512) c.args.places.now (omega arith) in (
+      λ m. next-passed (turn_parts m c.args.group c.args.turn c.args.counts m.txns.table c.args.places.now c.args.window.now) c.args.at c.requires.0 c.requires.1 c.advance.result c.advance.ensures
+          _ (rw part at c.keep.ensures),
       refl,
     )

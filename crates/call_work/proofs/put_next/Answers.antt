@@ -1,6 +1,5 @@
 -- `put_next` meets its contract: zeros, the header, the check (`next-put`).
-use mathlib.Core.Path.{◌≡◌, refl, ap, ◌∙◌}
-use Prim.Native.Nat.{ℕ}
+use mathlib.Core.Path.{◌≡◌, refl}
 use lib.ListN.{replicate}
 use Rattle.call_work.proofs.OutLaws.{next-put}
 use borrow.Author.Rules.{rules}
@@ -8,13 +7,7 @@ use Rattle.call_work.proofs.put_next.Goals as goal
 
 pub returns : goal.returns
 returns c =
-    let w = c in
-    let b = w in
-    let h = b in
-    let z = h in
-    let s = z in
-    let a = s.args in
-    let zeros : z.clear_bytes.new.part ≡ replicate 512 0 = z.clear_bytes.ensures ∙ ap (λ (n : ℕ). replicate n 0) s.requires in
-    next-put a.sender a.replicas a.slot 512 h.write_header.result w.write_check.result
-    z.clear_bytes.new.part h.write_header.new.part w.write_check.new.block
-    refl zeros h.write_header.ensures (search rules) w.write_check.ensures
+    let zeros : c.fill.new.self ≡ replicate 512 0 = rw (c.fill.ensures.after (search rules), c.requires) in
+    next-put c.args.sender c.args.replicas c.args.slot 512 c.write_header.result c.write_check.result
+    c.fill.new.self c.write_header.new.part c.write_check.new.block
+    refl zeros c.write_header.ensures (search rules) c.write_check.ensures

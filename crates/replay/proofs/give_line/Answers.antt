@@ -1,5 +1,5 @@
 -- `give_line` meets its contract.
-use Rattle.std.proofs.Common.{[], take, refl}
+use Rattle.std.proofs.Common.{[], refl}
 use Rattle.replay.proofs.AnswerLaws.{gives_line}
 use Rattle.replay.proofs.give_line.Goals as goal
 
@@ -11,4 +11,4 @@ put_answer-requires c =
 pub returns : goal.returns
 returns c =
     let a = c.args in
-    gives_line (take a.told.count a.told.turns) a.lender.replica.window a.place a.page.now c.run-placed.ensures c.put_answer.ensures
+    gives_line a.told.now a.lent.now a.place a.page.now c.run-placed.ensures c.put_answer.ensures

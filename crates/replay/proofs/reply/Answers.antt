@@ -6,5 +6,5 @@ pub returns : goal.returns
 returns c =
     let room : c.args.output.held + c.answer-next.result.said.length ≤ 65536 = let s = c in
     let held = s.args.output.held in
-    omega (arith, s.requires.3, c.answer-next.ensures.within, c.answer-next.auto.out, length-take (length s.args.out.now - held) (drop held s.args.out.now), s.requires.6) in
+    omega (arith, s.requires.0, c.answer-next.ensures.within, c.answer-next.auto.out, length-take (length s.args.out.now - held) (drop held s.args.out.now), s.requires.3) in
     rw c.with_line.ensures (omega (arith, room))

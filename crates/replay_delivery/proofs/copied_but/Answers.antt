@@ -1,22 +1,15 @@
--- `copied_but` meets its contract.
-use Prim.Native.Nat.{◌/◌, ◌%◌, ◌≤◌}
-use native.Mathlib.Omega.{arith}
-use lib.ListN.{take, length-take}
-use Rattle.replay_delivery.proofs.DeliveryLaws.{flipped-in, flipped-out}
+use Rattle.std.proofs.Common.{arith, ◌/◌, ◌%◌, take}
+use Rattle.replay_delivery.proofs.DeliveryLaws.{filled-short, flipped-in, flipped-out}
 use Rattle.replay_delivery.proofs.copied_but.Goals as goal
 
-pub bounds-bytes-at : goal.bounds-bytes-at
-bounds-bytes-at c =
-    let short : c.copied-whole.result.count ≤ 2100 = rw c.copied-whole.ensures (omega (arith, length-take 2100 c.args.block.now)) in
-    omega (arith, short)
+pub bounds-whole-at : goal.bounds-whole-at
+bounds-whole-at c = omega (arith, filled-short c.copied-whole.result c.args.block.now c.copied-whole.ensures, c.if-at-whole.true)
 
-pub bounds-bytes-at-then-at-n : goal.bounds-bytes-at-then-at-n
-bounds-bytes-at-then-at-n c =
-    let short : c.copied-whole.result.count ≤ 2100 = rw c.copied-whole.ensures (omega (arith, length-take 2100 c.args.block.now)) in
-    omega (arith, short)
+pub bounds-whole-at-then-at-whole : goal.bounds-whole-at-then-at-whole
+bounds-whole-at-then-at-whole c = omega (arith, filled-short c.copied-whole.result c.args.block.now c.copied-whole.ensures, c.if-at-whole.true)
 
-pub returns-then-at-n : goal.returns-then-at-n
-returns-then-at-n c = rw c.flipped.ensures (flipped-in (take 2100 c.args.block.now) c.copied-whole.result (c.args.bit / 8) (c.args.bit % 8) c.copied-whole.ensures c.if-at-n.true)
+pub returns-then-at-whole : goal.returns-then-at-whole
+returns-then-at-whole c = rw c.flipped.ensures (flipped-in (take 2100 c.args.block.now) c.copied-whole.result (c.args.bit / 8) (c.args.bit % 8) c.copied-whole.ensures c.if-at-whole.true)
 
-pub returns-else-at-n : goal.returns-else-at-n
-returns-else-at-n c = flipped-out (take 2100 c.args.block.now) c.copied-whole.result (c.args.bit / 8) (c.args.bit % 8) c.copied-whole.ensures c.if-at-n.false
+pub returns-else-at-whole : goal.returns-else-at-whole
+returns-else-at-whole c = flipped-out (take 2100 c.args.block.now) c.copied-whole.result (c.args.bit / 8) (c.args.bit % 8) c.copied-whole.ensures c.if-at-whole.false

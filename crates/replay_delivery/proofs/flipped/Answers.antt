@@ -1,4 +1,3 @@
--- `flipped` meets its contract.
 use Rattle.replay_delivery.proofs.DeliveryLaws.{flip_is}
 use Rattle.replay_delivery.proofs.flipped.Goals as goal
 

@@ -1,6 +1,6 @@
 -- `give` meets its contract.
 use Prim.Native.Nat.{◌≤◌}
-use mathlib.Core.Path.{◌≡◌, sym, ap, ◌∙◌}
+use mathlib.Core.Path.{◌≡◌, ap, ◌∙◌}
 use mathlib.Core.List.{[], ◌∷◌}
 use native.Mathlib.Omega.{arith}
 use borrow.Author.Rules.{rules}
@@ -11,33 +11,6 @@ use Rattle.replay_replica.specs.declared.Played.{Played}
 use Rattle.replay_replica.proofs.EffectLaws.{plays-numbers}
 use Rattle.replay_give.proofs.GiveLaws.{give_effect_lem, give_few}
 use Rattle.replay_give.proofs.give.Goals as goal
-
-pub slice_bounds-give-end-2 : goal.slice_bounds-give-end-2
-slice_bounds-give-end-2 c =
-    let items-long : length c.args.replica.items ≡ 48 = search rules in
-    sym (items-long)
-
-pub slice_bounds-give-end-3 : goal.slice_bounds-give-end-3
-slice_bounds-give-end-3 c =
-    let values-long : length c.args.replica.values ≡ 128 = search rules in
-    sym (values-long)
-
-pub slice_bounds-give-end-4 : goal.slice_bounds-give-end-4
-slice_bounds-give-end-4 c =
-    let stamps-long : length c.args.replica.stamps ≡ 128 = search rules in
-    sym (stamps-long)
-
-pub slice_bounds-places-end : goal.slice_bounds-places-end
-slice_bounds-places-end c =
-    let places-long : length c.args.replica.places ≡ 3072 = search rules in
-    omega (arith, c.places_size-size.ensures.1, places-long)
-
-pub slice_bounds-give-end-5 : goal.slice_bounds-give-end-5
-slice_bounds-give-end-5 c =
-    let places-long : length c.args.replica.places ≡ 3072 = search rules in
-    let z = c in
-    let s = z in
-    sym (length-take-le z.places_size-size.result s.args.replica.places (omega (arith, z.places_size-size.ensures.1, places-long)))
 
 pub returns : goal.returns
 returns c =
@@ -60,6 +33,6 @@ returns c =
     (λ block.
     plays-numbers
     c.answer.ensures.0
-    (rw (take_at left (drop size s.places) size l) (give_effect_lem block (memory_of size s) a.turns.now a.lent.now (0 ∷ (0 ∷ [])) g.0 (rw x.end_rows-table.ensures g.1)))
+    (rw (take_at left (drop size s.places) size l) (give_effect_lem block (memory_of size s) a.turns.now a.lent.now (0 ∷ (0 ∷ [])) g.0 (rw x.end_rows.ensures g.1)))
     (drop_at left (drop size s.places) size l)
     (rw (ap (λ (p : Played). p.count) c.answer.ensures.0) at short))

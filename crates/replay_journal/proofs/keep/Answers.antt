@@ -5,4 +5,4 @@ use lib.Seq.{length-take-le}
 use Rattle.replay_journal.proofs.keep.Goals as goal
 
 pub slice_bounds-append-end : goal.slice_bounds-append-end
-slice_bounds-append-end c = sym (length-take-le c.lesser-n.result c.args.given.now (omega (arith, c.lesser-n.ensures)))
+slice_bounds-append-end c = sym (length-take-le c.min-n.result c.args.given.now (omega (arith, c.min-n.ensures)))

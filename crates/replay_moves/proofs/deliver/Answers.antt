@@ -1,5 +1,5 @@
 -- `deliver` meets its contract.
-use mathlib.Core.Path.{◌≡◌, sym, ◌∙◌}
+use mathlib.Core.Path.{◌≡◌, ◌∙◌}
 use native.Mathlib.Omega.{arith}
 use borrow.Author.Rules.{rules}
 use lib.ListN.{length, drop}
@@ -9,31 +9,16 @@ use Rattle.replay_replica.proofs.EffectLaws.{plays-bare, bare-effect}
 use Rattle.replay_moves.proofs.MoveLaws.{bare-deliver}
 use Rattle.replay_moves.proofs.deliver.Goals as goal
 
-pub slice_bounds-places-end : goal.slice_bounds-places-end
-slice_bounds-places-end c =
-    let places-long : length c.args.replica.places ≡ 3072 = search rules in
-    omega (arith, c.places_size-size.ensures.1, places-long)
-
-pub slice_bounds-deliver-end : goal.slice_bounds-deliver-end
-slice_bounds-deliver-end c =
-    let places-long : length c.args.replica.places ≡ 3072 = search rules in
-    sym (length-take-le c.places_size-size.result c.args.replica.places (omega (arith, c.places_size-size.ensures.1, places-long)))
-
-pub slice_bounds-deliver-end-2 : goal.slice_bounds-deliver-end-2
-slice_bounds-deliver-end-2 c =
-    let outbox-long : length c.args.replica.outbox ≡ 512 = search rules in
-    sym (outbox-long)
-
 pub returns : goal.returns
 returns c =
     let places-long : length c.args.replica.places ≡ 3072 = search rules in
     let s = c.args.replica in
     let size = c.places_size-size.result in
-    let left = c.deliver-number.new.places in
-    let l : length left ≡ size = c.deliver-number.auto.places ∙ length-take-le size s.places (omega (arith, c.places_size-size.ensures.1, places-long)) in
+    let left = c.deliver-delivered.new.places in
+    let l : length left ≡ size = c.deliver-delivered.auto.places ∙ length-take-le size s.places (omega (arith, c.places_size-size.ensures.1, places-long)) in
     rw (← c.places_size-size.ensures.0)
     (λ lent.
     plays-bare
     c.bare.ensures
-    (rw (take_at left (drop size s.places) size l) (bare-effect lent (bare-deliver lent (memory_of size s) c.args.bytes.now) (c.deliver-number.ensures (memory_of size s))))
+    (rw (c.number_of.ensures, take_at left (drop size s.places) size l) (bare-effect lent (bare-deliver lent (memory_of size s) c.args.bytes.now) (c.deliver-delivered.ensures (memory_of size s))))
     (drop_at left (drop size s.places) size l))

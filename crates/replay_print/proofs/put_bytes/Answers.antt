@@ -1,25 +1,9 @@
-use Prim.Native.Nat.{◌<◌}
-use mathlib.Core.Path.{◌≡◌, refl}
-use native.Mathlib.Numerals.{add-one}
-use native.Mathlib.Omega.{arith}
-use lib.ListN.{length}
-use lib.Seq.{take-suc, take-length}
-use Rattle.replay_print.proofs.TextLaws.{appends_none, appends-then}
+use Rattle.std.proofs.Common.{add-one, arith}
+use lib.Seq.{take-suc}
+use Rattle.replay_print.proofs.TextLaws.{appends_then}
 use Rattle.replay_print.proofs.put_bytes.Goals as goal
 
-pub loop-i-init : goal.loop-i-init
-loop-i-init c = (omega arith, refl, appends_none c.args.out.now c.args.at)
-
-pub returns : goal.returns
-returns c =
-    let b = c in
-    let l = b.args.bytes.now in
-    let e : b.loop-i.i ≡ length l = omega arith in
-    rw (e, take-length l) at b.loop-i.invariant.2
-
-pub loop-i-preserved : goal.loop-i-preserved
-loop-i-preserved c =
-    let b = c in
-    let l = b.args.bytes.now in
-    let h : b.loop-i.i < length l = omega arith in
-    (omega arith, omega (arith, c.put-end.auto.out, b.loop-i.invariant.1), rw (add-one, take-suc l b.loop-i.i 0 h) (appends-then b.loop-i.invariant.2 c.put-end.ensures))
+pub loop-byte-preserved : goal.loop-byte-preserved
+loop-byte-preserved c =
+    let l = c.loop-byte in
+    (omega (arith, l.invariant.0, c.put-end.auto.out), rw (add-one, take-suc c.args.bytes.now l.byte-index 0 c.loop-byte-test.true) (appends_then l.invariant.1 c.put-end.ensures))

@@ -1,23 +1,30 @@
-use Rattle.replica_client.proofs.Facts.{ask_not}
-use Rattle.replica_client.proofs.Ways.{ask-kept, ask-ended, ask-queued}
+use Rattle.std.proofs.Common.{refl}
+use Rattle.memory.specs.Memory.{Memory}
+use Rattle.engine.specs.Client.{ask_step}
+use Rattle.call_reply.specs.Parts.{ask_parts}
+use Rattle.call_reply.proofs.CalledLaws.{called-six, called-other}
+use Rattle.memory.proofs.RowLaws.{same_row}
 use Rattle.replica_client.proofs.stemline_ask.Goals as goal
 
 pub returns-then-table-ne6 : goal.returns-then-table-ne6
-returns-then-table-ne6 c = rw c.no_ask.ensures (ask_not _ _ _ _ c.if-table-ne6.true)
+returns-then-table-ne6 c = λ m.
+    let a = c.args in
+    rw (c.into.ensures, called-other (λ (x : Memory). ask_step x a.ticket) (ask_parts m a.counts.now a.table.now a.queue.now) c.if-table-ne6.true) (refl, refl)
 
-pub returns-then-reply-ne0 : goal.returns-then-reply-ne0
-returns-then-reply-ne0 c =
-    let said = simp (c.find-at.ensures, c.row-t.ensures, c.copy_counts-before.ensures) at c.ask-done.ensures in
-    ask-kept _ _ _ _ c.ask-done.result _ c.if-table-ne6.false said c.if-reply-ne0.true
+pub returns-in-Ok-ReadOnly : goal.returns-in-Ok-ReadOnly
+returns-in-Ok-ReadOnly c = λ m.
+    let a = c.args in
+    rw (c.end.ensures, called-six (λ (x : Memory). ask_step x a.ticket) (ask_parts m a.counts.now a.table.now a.queue.now) c.if-table-ne6.false, ← c.find-at.ensures)
+    (rw c.in-Ok-ReadOnly.field-0-is at (c.in-Ok-ReadOnly.ensures m a.table.now c.row.ensures))
 
-pub returns-then-reply : goal.returns-then-reply
-returns-then-reply c =
-    let said = simp (c.find-at.ensures, c.row-t.ensures, c.copy_counts-before.ensures) at c.ask-done.ensures in
-    rw (c.end.ensures, c.set_read_only.ensures, c.find-at.ensures)
-    (ask-ended _ _ _ _ c.ask-done.result _ c.if-table-ne6.false said c.if-reply-ne0.false c.if-reply.true)
+pub returns-in-Ok-Queued : goal.returns-in-Ok-Queued
+returns-in-Ok-Queued c = λ m.
+    let a = c.args in
+    rw (c.put.ensures, called-six (λ (x : Memory). ask_step x a.ticket) (ask_parts m a.counts.now a.table.now a.queue.now) c.if-table-ne6.false, ← c.find-at.ensures)
+    (rw c.in-Ok-Queued.field-0-is at (c.in-Ok-Queued.ensures m a.table.now c.row.ensures))
 
-pub returns : goal.returns
-returns c =
-    let said = simp (c.find-at.ensures, c.row-t.ensures, c.copy_counts-before.ensures) at c.ask-done.ensures in
-    rw (c.set_stage.ensures, c.find-at.ensures)
-    (ask-queued _ _ _ _ c.ask-done.result _ c.if-table-ne6.false said c.if-reply-ne0.false c.if-reply.false)
+pub returns-in-Err : goal.returns-in-Err
+returns-in-Err c = λ m.
+    let a = c.args in
+    rw (c.into-in-Err.ensures, called-six (λ (x : Memory). ask_step x a.ticket) (ask_parts m a.counts.now a.table.now a.queue.now) c.if-table-ne6.false, ← c.find-at.ensures)
+    (rw (same_row a.table.now c.find-at.result c.row.result c.row.ensures) at (c.in-Err.ensures m a.table.now c.row.ensures))

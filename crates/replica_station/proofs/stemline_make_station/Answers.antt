@@ -1,17 +1,25 @@
-use Rattle.replica_station.proofs.Facts.{station_not}
-use Rattle.replica_station.proofs.Ways.{station-kept, station-did}
+-- `stemline_make_station` meets its contract: what `make_station` gave, put where it lies. Assumes nothing.
+use Rattle.std.proofs.Common.{rules, refl}
+use Rattle.memory.specs.Memory.{Memory}
+use Rattle.engine.specs.Station.{station_step}
+use Rattle.call_reply.specs.Parts.{all_parts}
+use Rattle.call_reply.proofs.CalledLaws.{called-six, called-other}
 use Rattle.replica_station.proofs.stemline_make_station.Goals as goal
 
 pub returns-then-table-ne6 : goal.returns-then-table-ne6
-returns-then-table-ne6 c = station_not _ _ _ _ _ _ _ _ _ _ _ _ _ _ _ _ c.if-table-ne6.true
+returns-then-table-ne6 c =
+    let a = c.args in
+    let m = all_parts a.group.now a.turn.now a.counts.now a.table.now a.queue.now a.items.now a.writes.now a.snapshots.now a.values.now a.stamps.now a.classes.now a.places.now a.outbox.now a.window.now in
+    rw (c.number.ensures, called-other (λ (x : Memory). station_step x a.n a.start.now) m c.if-table-ne6.true) (refl, refl {a = m})
 
-pub returns-then-done-ne0 : goal.returns-then-done-ne0
-returns-then-done-ne0 c =
-    station-kept _ _ _ _ _ _ _ _ _ _ _ _ _ _ _ _
-    c.make_station-done.result _ _ _ _ _ _ _ _ _ _ c.if-table-ne6.false c.make_station-done.ensures c.if-done-ne0.true
+pub returns-in-Err : goal.returns-in-Err
+returns-in-Err c =
+    let a = c.args in
+    let m = all_parts a.group.now a.turn.now a.counts.now a.table.now a.queue.now a.items.now a.writes.now a.snapshots.now a.values.now a.stamps.now a.classes.now a.places.now a.outbox.now a.window.now in
+    rw (c.number-in-Err.ensures, called-six (λ (x : Memory). station_step x a.n a.start.now) m c.if-table-ne6.false) (c.in-Err.ensures.gives a.group.now a.turn.now a.counts.now a.table.now)
 
-pub returns : goal.returns
-returns c =
-    rw (c.end_rows.ensures, c.set_group.ensures, c.replace_turn.ensures, c.set_counts.ensures)
-    (station-did _ _ _ _ _ _ _ _ _ _ _ _ _ _ _ _
-    c.make_station-done.result _ _ _ _ _ _ _ _ _ _ c.if-table-ne6.false c.make_station-done.ensures c.if-done-ne0.false)
+pub returns-in-Ok : goal.returns-in-Ok
+returns-in-Ok c =
+    let a = c.args in
+    let m = all_parts a.group.now a.turn.now a.counts.now a.table.now a.queue.now a.items.now a.writes.now a.snapshots.now a.values.now a.stamps.now a.classes.now a.places.now a.outbox.now a.window.now in
+    rw (c.fill.ensures.after (search rules), c.if-table-ne6.false, c.free.ensures, called-six (λ (x : Memory). station_step x a.n a.start.now) m c.if-table-ne6.false) (c.in-Ok.ensures.gives a.group.now a.turn.now a.counts.now a.table.now)

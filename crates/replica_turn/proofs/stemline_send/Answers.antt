@@ -1,24 +1,26 @@
-use Rattle.replica_turn.proofs.Facts.{send_not, send_station}
-use Rattle.replica_turn.proofs.Ways.{send-kept, send-did}
+use Rattle.std.proofs.Common.{◌∙◌}
+use Rattle.engine.specs.Moves.{send_step}
+use Rattle.call_reply.specs.Parts.{send_parts}
+use Rattle.host_table.proofs.TableLaws.{loaded-six}
+use Rattle.replica_turn.proofs.Facts.{length_refused, sent_on_six}
 use Rattle.replica_turn.proofs.stemline_send.Goals as goal
 
-pub returns-then-known : goal.returns-then-known
-returns-then-known c = send_station _ _ _ _ _ _ _ _ (rw c.copy_group-known.ensures at c.if-known.true)
-
 pub returns-then-table-ne6 : goal.returns-then-table-ne6
-returns-then-table-ne6 c =
-    let ours = rw c.copy_group-known.ensures at c.if-known.false in
-    send_not _ _ _ _ _ _ _ _ ours c.if-table-ne6.true
+returns-then-table-ne6 c = λ m.
+    let a = c.args in
+    let before = send_parts m a.group.now a.turn.now a.table.now a.queue.now a.items.now a.writes.now a.outbox.now in
+    rw c.number-then-table-ne6.ensures (length_refused (λ x. send_step x a.block.now) before c.if-group.false a.block.now c.if-table-ne6.true)
 
-pub returns-then-done-ne0 : goal.returns-then-done-ne0
-returns-then-done-ne0 c =
-    let ours = rw c.copy_group-known.ensures at c.if-known.false in
-    let said = simp (c.load-rows.ensures, c.copy_group-known.ensures, c.copy_turn-cursor.ensures) at c.send-done.ensures in
-    send-kept _ _ _ _ _ _ _ _ c.send-done.result _ _ _ ours c.if-table-ne6.false said c.if-done-ne0.true
+pub returns-in-Ok : goal.returns-in-Ok
+returns-in-Ok c = λ m.
+    let a = c.args in
+    let before = send_parts m a.group.now a.turn.now a.table.now a.queue.now a.items.now a.writes.now a.outbox.now in
+    let same = c.load-rows.ensures ∙ loaded-six a.table.now c.if-table-ne6.false in
+    rw c.copy_from_slice.ensures.after (sent_on_six (λ x. send_step x a.block.now) before c.if-group.false a.block.now c.if-table-ne6.false (rw same at (c.in-Ok.ensures m)))
 
-pub returns : goal.returns
-returns c =
-    let ours = rw c.copy_group-known.ensures at c.if-known.false in
-    let said = simp (c.load-rows.ensures, c.copy_group-known.ensures, c.copy_turn-cursor.ensures) at c.send-done.ensures in
-    rw (c.mark_rows.ensures, c.mark_sent.ensures)
-    (send-did _ _ _ _ _ _ _ _ c.send-done.result _ _ _ ours c.if-table-ne6.false said c.if-done-ne0.false)
+pub returns-in-Err : goal.returns-in-Err
+returns-in-Err c = λ m.
+    let a = c.args in
+    let before = send_parts m a.group.now a.turn.now a.table.now a.queue.now a.items.now a.writes.now a.outbox.now in
+    let same = c.load-rows.ensures ∙ loaded-six a.table.now c.if-table-ne6.false in
+    rw c.number-in-Err.ensures (sent_on_six (λ x. send_step x a.block.now) before c.if-group.false a.block.now c.if-table-ne6.false (rw same at (c.in-Err.ensures m)))

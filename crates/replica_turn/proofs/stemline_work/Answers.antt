@@ -1,19 +1,30 @@
-use Rattle.replica_turn.proofs.Facts.{work_not}
-use Rattle.replica_turn.proofs.Ways.{work-kept, work-did}
+use Rattle.std.proofs.Common.{◌∙◌}
+use Rattle.engine.specs.Moves.{work_step}
+use Rattle.call_commit.proofs.EndLaws.{end_none}
+use Rattle.call_reply.specs.Parts.{work_parts}
+use Rattle.call_reply.proofs.CalledLaws.{called-six}
+use Rattle.host_table.proofs.TableLaws.{loaded-six}
+use Rattle.replica_turn.proofs.Facts.{work_refused}
 use Rattle.replica_turn.proofs.stemline_work.Goals as goal
 
 pub returns-then-table-ne6 : goal.returns-then-table-ne6
-returns-then-table-ne6 c = rw c.no_work.ensures (work_not _ _ _ _ _ _ _ _ _ _ c.if-table-ne6.true)
+returns-then-table-ne6 c = λ m.
+    let a = c.args in
+    let before = work_parts m a.group.now a.turn.now a.counts.now a.table.now a.queue.now a.items.now a.values.now a.stamps.now a.places.now a.window.now in
+    rw c.into.ensures (work_refused work_step before c.if-table-ne6.true)
 
-pub returns-then-reply-ne0 : goal.returns-then-reply-ne0
-returns-then-reply-ne0 c =
-    let said = simp (c.load-rows.ensures, c.copy_group-known.ensures, c.copy_turn-cursor.ensures, c.copy_counts-before.ensures) at c.work-done.ensures in
-    work-kept _ _ _ _ _ _ _ _ _ _
-    c.work-done.result _ _ _ _ _ c.if-table-ne6.false said c.if-reply-ne0.true
+pub returns-in-Ok : goal.returns-in-Ok
+returns-in-Ok c = λ m.
+    let a = c.args in
+    let before = work_parts m a.group.now a.turn.now a.counts.now a.table.now a.queue.now a.items.now a.values.now a.stamps.now a.places.now a.window.now in
+    let same = c.load-rows.ensures ∙ loaded-six a.table.now c.if-table-ne6.false in
+    let said = rw same at (c.in-Ok.ensures m) in
+    rw (c.into-in-Ok.ensures, c.end_rows.ensures, called-six work_step before c.if-table-ne6.false) said.0
 
-pub returns : goal.returns
-returns c =
-    let said = simp (c.load-rows.ensures, c.copy_group-known.ensures, c.copy_turn-cursor.ensures, c.copy_counts-before.ensures) at c.work-done.ensures in
-    rw (c.end_rows.ensures, c.step_turn.ensures, c.set_counts.ensures, c.copy_group-known.ensures)
-    (work-did _ _ _ _ _ _ _ _ _ _
-    c.work-done.result _ _ _ _ _ c.if-table-ne6.false said c.if-reply-ne0.false)
+pub returns-in-Err : goal.returns-in-Err
+returns-in-Err c = λ m.
+    let a = c.args in
+    let before = work_parts m a.group.now a.turn.now a.counts.now a.table.now a.queue.now a.items.now a.values.now a.stamps.now a.places.now a.window.now in
+    let same = c.load-rows.ensures ∙ loaded-six a.table.now c.if-table-ne6.false in
+    let said = rw (same, end_none 6 a.table.now) at (c.in-Err.ensures m) in
+    rw (c.into-in-Err.ensures, called-six work_step before c.if-table-ne6.false) said.0

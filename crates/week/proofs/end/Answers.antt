@@ -7,5 +7,5 @@ returns-then-failed c =
     let a = c.args in
     rw c.if-failed.true (puts_none a.output a.out.now)
 
-pub returns : goal.returns
-returns c = rw c.if-failed.false c.put_table.ensures
+pub returns-else-failed : goal.returns-else-failed
+returns-else-failed c = rw c.if-failed.false c.put_table.ensures

@@ -1,23 +1,25 @@
--- `answer` meets its contract.
-use mathlib.Core.Path.{sym, ◌∙◌}
+use Rattle.std.proofs.Common.{◌≡◌, false}
+use borrow.Author.Tests.{eq-eqb, ne_eqb}
 use Rattle.replay_calls.specs.Letters.{size_lent}
 use Rattle.week_kept.specs.Blocks.{blocks_of}
+use Rattle.week_calls.specs.Steps.{is_missing}
 use Rattle.week_calls.proofs.StepLaws.{missing-told, plays-told}
+use Rattle.week_calls.proofs.answer.Goals.{else-call-eq68-via-then-call-eq68+else-is_none, else-call-eq68-via-else-call-eq68}
 use Rattle.week_calls.proofs.answer.Goals as goal
 
-pub returns-then-is_missing : goal.returns-then-is_missing
-returns-then-is_missing c =
-    let m = c in
-    let f = m in
-    let a = f.args in
-    missing-told (size_lent a.call a.replica.group) a.call a.replica a.kept (rw f.find-found.ensures at (sym m.is_missing.ensures ∙ c.if-is_missing.true))
+pub returns-then-is_none : goal.returns-then-is_none
+returns-then-is_none c =
+    let a = c.args in
+    missing-told (size_lent a.call a.replica.group) a.call a.replica a.kept (rw (eq-eqb a.call.letter 68 c.if-call-eq68.true, ← c.find-found.ensures) (rw (c.is_none.ensures, c.if-is_none.true)))
 
 pub returns : goal.returns
 returns c =
-    let r = c in
-    let e = r in
-    let m = e in
-    let f = m in
-    let a = f.args in
-    plays-told (size_lent a.call a.replica.group) a.call a.replica (blocks_of a.kept) r.run-played.result _ c.kept_after.result
-    (rw f.find-found.ensures at (sym m.is_missing.ensures ∙ e.if-is_missing.false)) (rw f.find-found.ensures at r.run-played.ensures) c.kept_after.ensures
+    let a = c.args in
+    let there : is_missing a.call (blocks_of a.kept) ≡ false =
+    elim c.else-call-eq68.branch [
+      | else-call-eq68-via-then-call-eq68+else-is_none w ↦ rw (eq-eqb a.call.letter 68 w.if-call-eq68.true, ← c.find-found.ensures) (rw (w.is_none.ensures, w.if-is_none.false))
+      | else-call-eq68-via-else-call-eq68 w ↦ rw (ne_eqb a.call.letter 68 w.if-call-eq68.false)
+    ]
+    in
+    plays-told (size_lent a.call a.replica.group) a.call a.replica (blocks_of a.kept) c.run-played.result _ c.kept_after.result there
+    (rw (c.unwrap_or-bytes.ensures, c.find-found.ensures) at c.run-played.ensures) c.kept_after.ensures

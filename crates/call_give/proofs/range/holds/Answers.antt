@@ -6,15 +6,14 @@ use Rattle.block.proofs.ListLaws.{lent, lent_slice}
 use Rattle.call_give.proofs.RangeLaws.{kept_fits, holds_for}
 use Rattle.call_give.proofs.range.holds.Goals as goal
 
-pub overflow_add-end : goal.overflow_add-end
-overflow_add-end c = omega (arith, c.place_start-at.ensures, kept_fits c.args.slot)
+pub overflow_add-at : goal.overflow_add-at
+overflow_add-at c = omega (arith, c.place_start-at.ensures, kept_fits c.args.slot)
 
 pub slice_bounds-is_for-end : goal.slice_bounds-is_for-end
 slice_bounds-is_for-end c = omega (arith, c.place_start-at.ensures, kept_fits c.args.slot, c.requires)
 
 pub returns : goal.returns
 returns c =
-    let p = c in
-    let a = p.args in
-    let at = p.place_start-at.result in
-    holds_for a.window.now a.slot (lent at (at + 512) a.window.now) (lent_slice at (at + 512) a.window.now (omega arith) ∙ rw p.place_start-at.ensures) c.is_for.result c.is_for.ensures
+    let a = c.args in
+    let at = c.place_start-at.result in
+    holds_for a.window.now a.slot (lent at (at + 512) a.window.now) (lent_slice at (at + 512) a.window.now (omega arith) ∙ rw c.place_start-at.ensures) c.is_for.result c.is_for.ensures

@@ -1,33 +1,38 @@
 -- `do_work` meets its contract: the work's own contract, and what it leaves by value.
-use mathlib.Core.List.{[]}
+use Rattle.std.proofs.Common.{[]}
 use Rattle.memory.specs.Memory.{Memory}
 use Rattle.engine.specs.Make.{made_memory}
+use Rattle.call_commit.proofs.EndLaws.{end_none}
+use Rattle.call_reply.specs.Replies.{worked_reply}
 use Rattle.call_give.specs.Gifts.{give_parts}
-use Rattle.call_give.proofs.StandLaws.{room_for, room-left, stands_worked}
+use Rattle.call_give.proofs.StandLaws.{room_for, room-left, stands_worked, stands_unworked}
 use Rattle.call_give.proofs.slots.do_work.Goals as goal
 
--- the memory lent
--- from the work back to the entry
 pub after_work-requires : goal.after_work-requires
 after_work-requires c =
-    let before : Memory → Memory = λ m. let a = c.args in
-    give_parts m a.group a.before.turn a.before.counts a.before.rows a.queue.now a.items.now a.values.now a.stamps.now a.places.now m.blocks.outbox a.window.now in
-    let w = c in
-    let s = w in
+    let a = c.args in
     let m = made_memory 0 0 [] in
-    room_for (before m) w.work-worked.result.reply (w.work-worked.ensures m).0.0 s.args.before.count s.requires
+    let before = give_parts m a.group a.before.turn a.before.counts a.before.rows a.queue.now a.items.now a.values.now a.stamps.now a.places.now m.blocks.outbox a.window.now in
+    room_for before (worked_reply 0 c.in-Ok.worked) (c.in-Ok.ensures m).0.0 a.before.count c.requires
 
-pub returns : goal.returns
-returns c =
-    let before : Memory → Memory = λ m. let a = c.args in
-    give_parts m a.group a.before.turn a.before.counts a.before.rows a.queue.now a.items.now a.values.now a.stamps.now a.places.now m.blocks.outbox a.window.now in
-    let w = c in
-    let s = w in
-    let a = s.args in
-    let r = w.work-worked.result.reply in
+pub returns-in-Ok : goal.returns-in-Ok
+returns-in-Ok c =
+    let a = c.args in
+    let before = λ (m : Memory). give_parts m a.group a.before.turn a.before.counts a.before.rows a.queue.now a.items.now a.values.now a.stamps.now a.places.now m.blocks.outbox a.window.now in
+    let w = c.in-Ok.worked in
     let F = c.after_work.ensures in
     let d = made_memory 0 0 [] in
-    let few = room_for (before d) r (w.work-worked.ensures d).0.0 a.before.count s.requires in (
-      rw (F.count, F.rows) (room-left (before d) r (w.work-worked.ensures d).0.0 a.before.count s.requires _ (w.work-worked.ensures d).0.1),
-      λ m g S. stands_worked g a.before c.after_work.result w.work-worked.result (before m) S (w.work-worked.ensures m).0.0 m a.group _ _ _ _ _ _ _ (w.work-worked.ensures m).0.1 few F,
+    let few = room_for (before d) (worked_reply 0 w) (c.in-Ok.ensures d).0.0 a.before.count c.requires in (
+      rw (F.count, F.rows) (room-left (before d) (worked_reply 0 w) (c.in-Ok.ensures d).0.0 a.before.count c.requires _ (c.in-Ok.ensures d).0.1),
+      λ m g S. stands_worked g a.before c.after_work.result w (before m) S (c.in-Ok.ensures m).0.0 m a.group _ _ _ _ _ _ _ (c.in-Ok.ensures m).0.1 few F,
+    )
+
+pub returns-in-Err : goal.returns-in-Err
+returns-in-Err c =
+    let a = c.args in
+    let before = λ (m : Memory). give_parts m a.group a.before.turn a.before.counts a.before.rows a.queue.now a.items.now a.values.now a.stamps.now a.places.now m.blocks.outbox a.window.now in (
+      c.requires,
+      λ m g S.
+          let said = rw (end_none 6 a.before.rows) at (c.in-Err.ensures m) in
+          rw c.number.ensures (stands_unworked g a.before _ (before m) S said.0.0 m a.group _ _ _ _ _ _ _ said.0.1),
     )

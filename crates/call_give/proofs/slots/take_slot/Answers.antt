@@ -10,14 +10,11 @@ pub returns : goal.returns
 returns c =
     let lent : Memory → Memory = λ m. let a = c.args in
     give_parts m a.group a.before.turn a.before.counts a.before.rows a.queue.now a.items.now a.values.now a.stamps.now a.places.now a.outbox.now a.window.now in
-    let w = c in
-    let d = w in
-    let s = d in
-    let a = s.args in (
-      w.work_out.ensures.0,
+    let a = c.args in (
+      c.work_out.ensures.0,
       λ m g S.
           let M = lent m in
-          let D = d.deliver_wanted-number.ensures M g S.memory S.number in
-          stands-taken g a.block.now M S.memory w.work_out.result _
-          (w.work_out.ensures.1 M _ (stands-placed g a.block.now a.before M S _ D.1 D.2 _ D.0 refl refl)),
+          let D = c.deliver_wanted-number.ensures M g S.memory S.number in
+          stands-taken g a.block.now M S.memory c.work_out.result _
+          (c.work_out.ensures.1 M _ (stands-placed g a.block.now a.before M S _ D.1 D.2 _ D.0 refl refl)),
     )

@@ -1,23 +1,11 @@
-use Prim.Native.Nat.{◌-◌, ◌+◌}
-use mathlib.Core.Path.{sym, ap, ◌∙◌}
-use native.Mathlib.Omega.{arith}
-use Rattle.memory.specs.declared.Group.{Group}
-use Rattle.memory.specs.Notices.{with_notices}
-use Rattle.call_journal.proofs.NoticeLaws.{notices_from, group-turn, group-end}
+use Rattle.std.proofs.Common.{sym, ◌∙◌, arith}
+use Rattle.call_journal.proofs.NoticeLaws.{group-turn, group-end}
 use Rattle.call_journal.proofs.notices.with_notices.Goals as goal
 
-pub loop-i-preserved : goal.loop-i-preserved
-loop-i-preserved c =
-    let l = c in
-    let a = l.args in (
-      omega arith,
-      l.loop-i.invariant.1
-          ∙ group-turn a.notices.now l.loop-i.i l.loop-i.after (omega arith)
-          ∙ ap (λ (g : Group). with_notices g (notices_from a.notices.now (l.loop-i.i + 1))) (sym c.with_notice-after.ensures),
-    )
+pub loop-about-preserved : goal.loop-about-preserved
+loop-about-preserved c =
+    c.loop-about.invariant
+    ∙ group-turn c.args.notices.now c.loop-about.about-index c.as_chunks.result.0.now c.as_chunks.ensures.front (omega arith) c.loop-about.after c.with_notice-after.result c.with_notice-after.ensures
 
 pub returns : goal.returns
-returns c =
-    let l = c in
-    let a = l.args in
-    sym (l.loop-i.invariant.1 ∙ group-end a.notices.now l.loop-i.i l.loop-i.after (omega arith))
+returns c = sym (c.loop-about.invariant ∙ group-end c.args.notices.now c.loop-about.about-index c.loop-about.after (omega arith))

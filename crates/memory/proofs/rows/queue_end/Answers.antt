@@ -1,25 +1,13 @@
-use mathlib.Core.Path.{◌≡◌, refl, sym, ◌∙◌}
-use native.Mathlib.Omega.{arith}
-use lib.ListN.{length}
-use Rattle.memory.proofs.RowLaws.{index-found, index-next, index-end}
+use native.Mathlib.Nat.{zero-add}
+use Rattle.std.proofs.Common.{◌∙◌, sym, rules, tests, ◌≡◌, eqb}
+use Rattle.std.specs.Prelude.{position}
+use Rattle.std.proofs.lemmas.Iterator.{YieldsList-from_slice}
+use Rattle.std.proofs.lemmas.Iterator.Search.{position_from_yields_List}
+use Rattle.memory.proofs.SearchLaws.{index_is, place_or_end}
 use Rattle.memory.proofs.rows.queue_end.Goals as goal
-
-pub loop-j-init : goal.loop-j-init
-loop-j-init c = (omega arith, refl)
-
-pub returns-then-queue-j-eq0 : goal.returns-then-queue-j-eq0
-returns-then-queue-j-eq0 c =
-    let b = c in
-    sym (b.loop-j.invariant.1 ∙ index-found b.args.queue.now b.loop-j.j (omega arith) 0 _ c.if-queue-j-eq0.true)
-
-pub loop-j-preserved : goal.loop-j-preserved
-loop-j-preserved c =
-    let b = c in
-    (omega arith, b.loop-j.invariant.1 ∙ index-next b.args.queue.now b.loop-j.j (omega arith) 0 _ c.if-queue-j-eq0.false)
 
 pub returns : goal.returns
 returns c =
-    let b = c in
-    let l = b.args.queue.now in
-    let e : b.loop-j.j ≡ length l = omega arith in
-    sym (b.loop-j.invariant.1 ∙ rw e (index-end l 0 (length l)))
+    let a = c.args in
+    let found : c.position.result ≡ position (λ y. eqb y 0) a.queue.now = position_from_yields_List (λ y. eqb y 0) _ _ c.position.result c.position.ensures.ran (YieldsList-from_slice _ c.iter.ensures.rest) (λ x b q k. search (rules, tests)) in
+    c.unwrap_or.ensures ∙ rw (found) (place_or_end (λ y. eqb y 0) a.queue.now) ∙ sym (index_is 0 a.queue.now 0 ∙ zero-add _)

@@ -15,5 +15,5 @@ returns-then-call-ne90 c =
 pub returns : goal.returns
 returns c =
     let a = c.args in
-    plays-again a.call a.replica a.bytes.now a.block.now (taken_of a.taken) c.if-call-ne90.false c.lent-n.ensures.0
+    plays-again a.call a.replica a.bytes.now a.block.now (taken_of a.taken) c.if-call-ne90.false c.lent.ensures
     (rw (to_z-of_z {w = w32} {z = a.call.value} (search rules)) at c.restart.ensures)

@@ -1,1 +1,0 @@
--- `row_at` meets its contract.

@@ -1,1 +1,0 @@
--- `next_request` meets its contract.

@@ -1,1 +1,0 @@
--- `most_bytes` meets its contract.

@@ -1,1 +1,0 @@
--- `append` meets its contract.

@@ -1,1 +1,0 @@
--- `is_part` meets its contract.

@@ -1,1 +1,0 @@
--- `notices::has_taken` meets its contract. Assumes nothing.

@@ -1,1 +1,0 @@
--- `notices::with` meets its contract. Assumes nothing.

@@ -1,3 +1,0 @@
--- From the calls by value to the calls on lent parts.
-pub mod Facts
-pub mod Ways
