@@ -1,7 +1,7 @@
 /* The replica engine for C99 and later, and for C++.
  *
  * Link target/staticlib/libreplica.a, which `scripts/library` writes. It
- * allocates nothing, keeps nothing and calls nothing but memset and memmove.
+ * allocates nothing, keeps nothing and calls nothing but memset.
  *
  * A group has n replicas, 2 to 6, numbered 0 to n - 1. Each holds a value for
  * each of 128 items, numbered 0 to 127. A stemline_replica is all that one of

@@ -15,7 +15,7 @@ ghost use Rattle.call_reply.specs.Replies.{Gives, number};
 use block_reader::entry_at;
 use call_commit::entry_count;
 use call_reply::faults::Fault;
-use memory::bytes::byte_at;
+use memory::bytes::{byte_at, copy_all};
 use memory::cursor::place_start;
 use memory::{Counts, Group, Turn};
 
@@ -109,6 +109,6 @@ pub fn load_classes(turn: Turn, classes: &mut [u8], given: &[u8]) -> Result<(), 
         (load_parts m turn classes.new) }
 {
     check_load(turn, classes.len(), given)?;
-    classes.copy_from_slice(given);
+    copy_all(given, classes);
     Ok(())
 }

@@ -3,12 +3,13 @@
 // record are those of some table (`specs/Tables.antt`).
 #![tactic(auto)]
 
-ghost use Rattle.std.specs.Prelude.{◌<◌, ◌≡◌, ◌∷◌, [], ◌&&◌, not, eqb, leb, IfOk, List, length, set};
+ghost use Rattle.std.specs.Prelude.{◌<◌, ◌≡◌, ◌∷◌, [], ◌&&◌, not, eqb, leb, IfOk, List, Ok, length, set};
 ghost use Rattle.block.specs.Answers.{first_of, refuse};
 ghost use Rattle.memory.specs.declared.Txn.{Txn};
 ghost use Rattle.memory.specs.Memory.{Memory};
 ghost use Rattle.memory.specs.Rows.{row_at};
 ghost use Rattle.engine.specs.Client.{begin_row, value_for, read_row, ask_row, withdraw_row, report_step};
+ghost use Rattle.call_reply.specs.declared.Asked.TheVariants.{Queued};
 ghost use Rattle.call_reply.specs.Clients.{begin_said, counts_begun, read_said, ask_said, counts_asked, row_asked, counts_withdrawn, row_withdrawn};
 ghost use Rattle.call_reply.specs.Faults.{number_in, left_by};
 ghost use Rattle.call_reply.specs.Parts.{begin_parts, read_parts, ask_parts, withdraw_parts, report_parts};
@@ -18,6 +19,7 @@ use call_reply::Asked;
 use call_reply::checks::{check_active, check_item};
 use call_reply::faults::Fault;
 use engine::Report;
+use memory::bytes::copy_all;
 use memory::rows::{bump, index_of, open_count, queue_end, write_count};
 use memory::{Counts, Turn, Txn};
 
@@ -54,7 +56,7 @@ pub fn begin(
 {
     check_begin(values.len(), snapshots.len(), at, counts.tickets)?;
     let from = 128 * at;
-    snapshots[from..from + 128].copy_from_slice(values);
+    copy_all(values, &mut snapshots[from..from + 128]);
     Ok(Txn {
         ticket: counts.tickets + 1,
         stage: 0,
@@ -105,11 +107,12 @@ pub fn read(
 
 // Requests commit: an empty writeset ends on the spot, any other joins the queue.
 pub fn ask(at: usize, t: Txn, counts: Counts, queue: &mut [u32]) -> Result<Asked, Fault>
-    ensures { (m : Memory) (table : List Txn) → t ≡ row_at table at →
+    ensures gives { (m : Memory) (table : List Txn) → t ≡ row_at table at →
         Gives ask_reply
         (ask_row (ask_parts m counts table queue.old) at)
         (ask_said result)
         (ask_parts m (counts_asked result counts) (set table at (row_asked result t)) queue.new) }
+    ensures queued { (u : Txn) → result ≡ Ok (Queued u) → u ≡ record { ticket = t.ticket; stage = 1; snapshot = t.snapshot; writes = t.writes } }
 {
     if queue.len() != 6 {
         return Err(Fault::WrongLength);

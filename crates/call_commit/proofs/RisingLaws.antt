@@ -1,18 +1,19 @@
 -- A number among the first of a list, before the first above it: those not above it, the number, and the others. Assumes nothing.
 use Prim.Native.Nat.{ℕ, suc, ◌+◌, ◌-◌, ◌≤◌, ◌<◌}
-use mathlib.Core.Path.{◌≡◌, refl, ap, ◌∙◌}
+use mathlib.Core.Path.{◌≡◌, refl, ◌∙◌}
 use mathlib.Core.List.{List, [], ◌∷◌, ◌++◌, append-nil}
 use native.Mathlib.Omega.{arith}
 use borrow.Author.Tests.{lt-ltb, le-ltb, le-leb, lt-leb}
 use borrow.Rule.Slice.PartMut.{put_mid}
 use lib.Dec.{leb}
-use lib.ListN.{length, get_or, set, take, drop, length-drop, length-take, drop_of_length-le}
-use lib.Seq.{drop-cons, take-take, take_all, length-take-le}
+use lib.ListN.{length, take, drop, length-drop, length-take, drop_of_length-le}
+use lib.Seq.{take-take, take_all}
 use Rattle.std.specs.List.{prefix_len, take_while}
-use Rattle.std.proofs.lemmas.List.{set_at, take_at, drop_at}
+use Rattle.std.proofs.lemmas.List.{take_at, drop_at}
 use Rattle.std.proofs.lemmas.List.Folds.{length-prefix_len}
 use Rattle.std.proofs.lemmas.List.Sums.{prefix_len-le-length}
 use Rattle.std.proofs.lemmas.Slice.{between_is}
+use Rattle.memory.specs.Rows.{shift_in}
 use Rattle.engine.specs.Moves.{insert_rising}
 use Rattle.engine.proofs.Tests.{less_by}
 
@@ -35,21 +36,15 @@ module _ (x at n : ℕ) (l : List ℕ) (some : 0 < length l) (e : n ≡ length l
   pub within : at < length l
   within = let k : before x (take n l) ≤ length (take n l) = prefix_len-le-length (λ (t : ℕ). leb t x) (take n l) in omega (arith, here, length-take n l)
 
-  -- the last of the rest in front of it, and x over it
-  pub rising-turned : (mid part : List ℕ) → mid ≡ take (length l - at) (drop at l) → part ≡ drop (length mid - 1) mid ++ take (length mid - 1) mid
-      → set (put_mid at (length l - at) l part) at x ≡ insert_rising x (take n l)
-  rising-turned mid part m p =
+  -- x in front of the rest
+  pub rising-put : (part : List ℕ) → part ≡ shift_in x (take (length l - at) (drop at l)) → put_mid at (length l - at) l part ≡ insert_rising x (take n l)
+  rising-put part p =
       let q = drop at l in
-      let long : length q ≡ length l - at = length-drop at l in
-      let all : mid ≡ q = m ∙ take_all (length l - at) q (omega arith) in
-      let k : length q - 1 ≡ n - at = omega (arith, within) in
-      let last : drop (n - at) q ≡ get_or q (n - at) 0 ∷ [] =
-      drop-cons q (n - at) 0 (omega (arith, within)) ∙ ap (λ (t : List ℕ). get_or q (n - at) 0 ∷ t) (drop_of_length-le q {i = suc (n - at)} (omega (arith, within))) in
-      let none : drop (length l - at) q ≡ [] = drop_of_length-le q {i = length l - at} (omega arith) in
+      let long : length q ≡ suc (n - at) = omega (arith, within, length-drop at l) in
+      let all : take (length l - at) q ≡ q = take_all (length l - at) q (omega (arith, length-drop at l)) in
+      let none : drop (length l - at) q ≡ [] = drop_of_length-le q {i = length l - at} (omega (arith, length-drop at l)) in
       let front : take at (take n l) ≡ take at l = take-take at n l (omega (arith, within)) in
-      let there : length (take at l) ≡ at = length-take-le at l (omega (arith, within)) in
-      rw (p, all, k, last, none, append-nil (take (n - at) q), rising_by x (take n l), ← here, front, ← between_is l at n)
-      (set_at (take at l) (get_or q (n - at) 0) (take (n - at) q) x at there)
+      rw (p, all, long, none, append-nil (take (n - at) q), rising_by x (take n l), ← here, front, ← between_is l at n)
 
 -- the same of the first n of a longer list, which keeps what is behind them
 module _ (x n : ℕ) (l part : List ℕ) (fits : n < length l) (long : length part ≡ n + 1)

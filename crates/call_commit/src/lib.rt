@@ -10,7 +10,7 @@ ghost use Rattle.call_commit.specs.Marks.{hit_marks};
 
 use block_reader::{entry_at, record_at};
 use memory::Txn;
-use memory::rows::{holds, write_count};
+use memory::rows::{holds, insert_first, write_count};
 
 // The marks of the rows aborted, and their tickets: the first `count`, rising, with zeros behind. Six places and a count, as the reply has them in C.
 #[derive(Clone, Copy)]
@@ -79,8 +79,7 @@ pub fn insert_rising(list: &mut [u32], ticket: u32)
     ensures { list.new ≡ insert_rising ticket (take (length list.old - 1) list.old) }
 {
     let at = count_before(&list[..list.len() - 1], ticket);
-    list[at..].rotate_right(1);
-    list[at] = ticket;
+    insert_first(&mut list[at..], ticket);
 }
 
 // The rows that record j hits; from the last row to the first, as their tickets are listed.

@@ -14,6 +14,7 @@ ghost use Rattle.call_deliver.specs.Lengths.{lengths_fit};
 use block::Header;
 use block_reader::read_block;
 use call_reply::faults::Fault;
+use memory::bytes::copy_all;
 use memory::cursor::place_start;
 use memory::notices::is_out;
 use memory::{Group, Turn};
@@ -87,9 +88,12 @@ pub fn deliver(
     if !lengths_fit(group.replicas, places.len(), outbox.len(), bytes.len()) {
         return Err(Fault::WrongLength);
     }
-    let header = read_block(bytes)?;
+    let read = read_block(bytes);
+    let Ok(header) = read else {
+        return Err(read.unwrap_err().into());
+    };
     check(group, turn, header, places, outbox, bytes)?;
     let at = place_start(group.replicas, header.slot);
-    places[at..at + 512].copy_from_slice(bytes);
+    copy_all(bytes, &mut places[at..at + 512]);
     Ok(())
 }

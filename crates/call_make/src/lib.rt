@@ -18,6 +18,7 @@ ghost use Rattle.call_make.specs.Made.{if_made, made_of, refusal_of};
 
 use call_reply::Made;
 use call_reply::faults::Fault;
+use memory::bytes::copy_all;
 use memory::{Counts, Group, NO_NUMBER, Turn, WINDOW_BYTES};
 
 // With nobody out, and no call behind it.
@@ -158,7 +159,7 @@ pub fn make(
     items.fill(0);
     writes.fill(0);
     snapshots.fill(0);
-    values.copy_from_slice(start);
+    copy_all(start, values);
     stamps.fill(0);
     classes.fill(0);
     places.fill(0);

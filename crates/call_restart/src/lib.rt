@@ -23,6 +23,7 @@ use call_journal::{JournalTally, read_journal};
 use call_make::make;
 use call_reply::Restarted;
 use call_reply::faults::Fault;
+use memory::bytes::copy_all;
 use memory::{Counts, Group, Turn};
 
 // The k-th block of the journal, counted from 1; zeros for the 0-th.
@@ -35,7 +36,7 @@ fn give_back(journal: &[u8], k: u32, block: &mut [u8])
         return;
     }
     let at = 512 * (k as usize - 1);
-    block.copy_from_slice(&journal[at..at + 512]);
+    copy_all(&journal[at..at + 512], block);
 }
 
 // The group, the turn behind the blocks committed, and the counts by them. The own blocks of an altered journal may have more writesets than their highest ticket says.

@@ -1,9 +1,10 @@
 // What a replica sends for its turn.
 #![tactic(auto)]
 
-ghost use Rattle.std.specs.Prelude.{◌≡◌, ◌&&◌, List, ◌++◌, map, ℕ, ◌+◌, ◌*◌, ◌≤◌, eqb, length, take, drop, replicate};
+ghost use Rattle.std.specs.Prelude.{◌≡◌, ◌&&◌, IfOk, List, ◌++◌, map, ℕ, ◌+◌, ◌*◌, ◌≤◌, eqb, length, take, drop, replicate};
 ghost use Rattle.block.specs.Bytes.{record_bytes, records_bytes, block_of};
 ghost use Rattle.memory.specs.Memory.{Memory};
+ghost use Rattle.memory.specs.Turns.{mark_sent};
 ghost use Rattle.engine.specs.Moves.{send_row, message_for, send_lent, send_refusal, send_step};
 ghost use Rattle.call_reply.specs.Faults.{number_in, left_by};
 ghost use Rattle.call_reply.specs.Parts.{send_parts};
@@ -15,6 +16,7 @@ use block_check::write_check;
 use block_writer::{write_header, write_record};
 use call_reply::Sent;
 use call_reply::faults::Fault;
+use memory::bytes::copy_all;
 use memory::notices::is_out;
 use memory::rows::{queue_end, row_at, row_of, write_count};
 use memory::{Group, SLOT_LIMIT, Turn, Txn};
@@ -122,7 +124,8 @@ fn put_block(
         ≡ block_of (message_for (send_parts m group turn rows queue.now items.now writes.now m.blocks.outbox)) }
 {
     let count = queue_end(queue);
-    block.fill(0);
+    let zeros = [0u8; 512];
+    copy_all(&zeros, block);
     // The lengths are right.
     let _ = write_header(&mut block[0..16], header_for(group, turn, count as u8));
     put_writesets(block, count, rows, queue, items, writes);
@@ -157,7 +160,7 @@ pub fn send(
     outbox: &mut [u8],
     block: &mut [u8],
 ) -> Result<Sent, Fault>
-    ensures { (m : Memory) →
+    ensures gives { (m : Memory) →
         let after = left_by result (record { turn = turn; rows = rows }) in
         GivesBlock
         (send_step
@@ -167,6 +170,7 @@ pub fn send(
         (number_in result)
         (send_parts m group after.turn after.rows queue.new items.now writes.now outbox.new)
         block.new }
+    ensures sent { IfOk result (λ s. (s.turn ≡ mark_sent turn) × (s.rows ≡ map send_row rows)) }
 {
     let fits = lengths_fit(
         queue.len(),
@@ -177,7 +181,7 @@ pub fn send(
     );
     check(fits, group, turn)?;
     put_block(block, group, turn, rows, queue, items, writes);
-    outbox.copy_from_slice(block);
+    copy_all(block, outbox);
     queue.fill(0);
     Ok(Sent {
         turn: turn.mark_sent(),

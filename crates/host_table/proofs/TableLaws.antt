@@ -1,12 +1,12 @@
--- Six rows loaded are the table itself; a row found by its position; and one turn of the loop that ends rows. Assumes nothing.
-use mathlib.Core.Path.{◌≡◌, refl, ap}
+-- Six rows loaded are the table itself; a row found by its position; and one turn of each loop that writes to the table: the table so far, and with one more row done. Assumes nothing.
+use mathlib.Core.Path.{◌≡◌, refl, sym, ap}
 use mathlib.Core.Bool.{Bool, true, false, cond, not}
-use mathlib.Core.List.{List, [], ◌∷◌}
+use mathlib.Core.List.{List, [], ◌∷◌, map}
 use Prim.Native.Nat.{ℕ, zero, suc, ◌+◌, ◌≤◌, ◌<◌}
 use native.Mathlib.Nat.{not-suc-le-zero, le_of_suc-le-suc}
 use native.Mathlib.Numerals.{add-one}
 use native.Mathlib.Omega.{arith}
-use borrow.Author.Tests.{eq-eqb, lt-ltb, le-ltb}
+use borrow.Author.Tests.{eq-eqb, ne_eqb, lt-ltb, le-ltb}
 use native.Mathlib.Nat.{add-zero}
 use lib.Dec.{T, eqb}
 use Rattle.std.specs.Prelude.{Option, position, unwrap_or}
@@ -16,8 +16,9 @@ use Rattle.memory.specs.Rows.{row_from}
 use Rattle.engine.proofs.Tests.{bool_by, less_by}
 use lib.ListN.{length, get_or, set, take}
 use Rattle.memory.specs.declared.Txn.{Txn}
-use Rattle.memory.specs.Rows.{closed, end_rows}
-use Rattle.host_table.specs.Table.{loaded}
+use Rattle.memory.specs.Rows.{closed, end_rows, row_at}
+use Rattle.engine.specs.Moves.{send_row}
+use Rattle.host_table.specs.Table.{with_stage, loaded}
 
 -- what a position found, or the length where none was, is the row
 row_by : (k i : ℕ) (ys : List Txn) → row_from k i ys ≡ i + position_or_len (λ (t : Txn). eqb t.ticket k) ys
@@ -72,3 +73,41 @@ module _ (es : List Bool) (i : ℕ) (ys : List Txn) (h : i < length es) where
 
   pub ended-miss : get_or es i false ≡ false → end_rows (take i es) ys ≡ end_rows (take (i + 1) es) ys
   ended-miss z = rw (add-one i) (miss es i ys h (rw z tt))
+
+-- ---- the first i rows sent, the others as they were
+abbrev pub sent_upto : ℕ → List Txn → List Txn
+sent_upto zero ys = ys
+sent_upto (suc i) [] = []
+sent_upto (suc i) (y ∷ ys) = send_row y ∷ sent_upto i ys
+
+-- a row that is sent, where its test came out as c
+abbrev sent_by : Txn → Bool → Txn
+sent_by t c = record { ticket = t.ticket; stage = cond c 2 t.stage; snapshot = t.snapshot; writes = t.writes }
+
+pub sent-length : (i : ℕ) (ys : List Txn) → length (sent_upto i ys) ≡ length ys
+sent-length zero ys = refl
+sent-length (suc i) [] = refl
+sent-length (suc i) (y ∷ ys) = ap suc (sent-length i ys)
+
+asked : (i : ℕ) (ys : List Txn) → i < length ys → (row_at (sent_upto i ys) i).stage ≡ 1 → set (sent_upto i ys) i (with_stage (row_at (sent_upto i ys) i) 2) ≡ sent_upto (suc i) ys
+asked i [] h e = absurd (not-suc-le-zero h)
+asked zero (y ∷ ys) h e = ap (λ (c : Bool). sent_by y c ∷ ys) (sym (eq-eqb y.stage 1 e))
+asked (suc i) (y ∷ ys) h e = ap (λ (l : List Txn). send_row y ∷ l) (asked i ys (le_of_suc-le-suc h) e)
+
+other : (i : ℕ) (ys : List Txn) → i < length ys → ((row_at (sent_upto i ys) i).stage ≡ 1 → ⊥) → sent_upto i ys ≡ sent_upto (suc i) ys
+other i [] h d = absurd (not-suc-le-zero h)
+other zero (y ∷ ys) h d = ap (λ (c : Bool). sent_by y c ∷ ys) (sym (ne_eqb y.stage 1 d))
+other (suc i) (y ∷ ys) h d = ap (λ (l : List Txn). send_row y ∷ l) (other i ys (le_of_suc-le-suc h) d)
+
+module _ (i : ℕ) (ys t : List Txn) (so : t ≡ sent_upto i ys) (h : i < length ys) where
+  pub sent-asked : (row_at t i).stage ≡ 1 → set t i (with_stage (row_at t i) 2) ≡ sent_upto (i + 1) ys
+  sent-asked e = rw (add-one i, so) (asked i ys h (rw so at e))
+
+  pub sent-other : ((row_at t i).stage ≡ 1 → ⊥) → t ≡ sent_upto (i + 1) ys
+  sent-other d = rw (add-one i, so) (other i ys h (rw so at d))
+
+pub sent-all : (i : ℕ) (ys : List Txn) → length ys ≤ i → sent_upto i ys ≡ map send_row ys
+sent-all zero [] h = refl
+sent-all (suc i) [] h = refl
+sent-all zero (y ∷ ys) h = absurd (not-suc-le-zero h)
+sent-all (suc i) (y ∷ ys) h = ap (λ (l : List Txn). send_row y ∷ l) (sent-all i ys (le_of_suc-le-suc h))

@@ -1,7 +1,11 @@
--- A row with another number of written items, and a lent table as six rows.
+-- A row with another stage, or another number of written items, and a lent table as six rows.
 use Rattle.std.specs.Prelude.{ℕ, cond, List, eqb, length, replicate}
 use Rattle.memory.specs.declared.Txn.{Txn}
 use Rattle.memory.specs.Rows.{closed}
+
+-- a row with another stage
+abbrev pub with_stage : Txn → ℕ → Txn
+with_stage t s = record { ticket = t.ticket; stage = s; snapshot = t.snapshot; writes = t.writes }
 
 -- a row with another number of written items
 abbrev pub with_writes : Txn → ℕ → Txn

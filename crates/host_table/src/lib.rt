@@ -1,12 +1,14 @@
-// The table as a host lends it, a slice of small records. Each function is thin, and defined on a table of any length; what is decided is decided by value elsewhere.
+// The table as a host lends it, a slice of small records, and the turn, a record behind a reference. Each function is thin, and defined on a table of any length; what is decided is decided by value elsewhere.
 #![tactic(auto)]
 
-ghost use Rattle.std.specs.Prelude.{◌≡◌, eqb, set, position};
+ghost use Rattle.std.specs.Prelude.{◌≡◌, eqb, map, set, position};
 ghost use Rattle.memory.specs.Rows.{closed, end_rows, row_at, row_from, row_of};
-ghost use Rattle.host_table.specs.Table.{with_writes, loaded};
+ghost use Rattle.memory.specs.Turns.{mark_sent, mark_applying, advance, step_turn};
+ghost use Rattle.engine.specs.Moves.{send_row};
+ghost use Rattle.host_table.specs.Table.{with_stage, with_writes, loaded};
 
-use memory::Txn;
 use memory::rows::free;
+use memory::{Turn, Txn};
 
 // The first row with the ticket, of those that there are.
 fn first(table: &[Txn], ticket: u32) -> Option<usize>
@@ -47,6 +49,15 @@ pub fn put(table: &mut [Txn], at: usize, t: Txn)
     }
 }
 
+// One row's stage, and nothing else of it; a row past the last is none.
+pub fn set_stage(table: &mut [Txn], at: usize, stage: u32)
+    ensures { table.new ≡ set table.old at (with_stage (row_at table.old at) stage) }
+{
+    if at < table.len() {
+        table[at].stage = stage;
+    }
+}
+
 // How many items one row has written, and nothing else of it; a row past the last is none.
 pub fn set_writes(table: &mut [Txn], at: usize, writes: u32)
     ensures { table.new ≡ set table.old at (with_writes (row_at table.old at) writes) }
@@ -76,6 +87,17 @@ pub fn end_rows(table: &mut [Txn], ended: [bool; 6])
     }
 }
 
+// Each asked transaction becomes sent, in its row.
+pub fn mark_rows(table: &mut [Txn])
+    ensures { table.new ≡ map send_row table.old }
+{
+    for i in 0..table.len() {
+        if table[i].stage == 1 {
+            table[i].stage = 2;
+        }
+    }
+}
+
 // The six rows, by value; of a table of another length, free rows.
 #[tactic(auto, using(std::proofs::lemmas::Bool::Decides::nat_tests), unfolding(crate::specs::Table::loaded))]
 pub fn load(table: &[Txn]) -> [Txn; 6]
@@ -85,4 +107,50 @@ pub fn load(table: &[Txn]) -> [Txn; 6]
         Some(rows) => *rows,
         None => [free(); 6],
     }
+}
+
+// The turn where it lies: read whole, and changed by these alone.
+pub fn copy_turn(turn: &Turn) -> Turn
+    ensures { result ≡ turn.now }
+{
+    *turn
+}
+
+// The turn goes up by one, and both marks go off.
+pub fn advance_turn(turn: &mut Turn)
+    ensures { turn.new ≡ advance turn.old }
+{
+    *turn = turn.advance();
+}
+
+// The sent mark goes on: nothing else is written.
+pub fn mark_sent(turn: &mut Turn)
+    ensures { turn.new ≡ mark_sent turn.old }
+{
+    turn.sent = 1;
+}
+
+// The applying mark goes on: nothing else is written.
+pub fn mark_applying(turn: &mut Turn)
+    ensures { turn.new ≡ mark_applying turn.old }
+{
+    turn.applying = 1;
+}
+
+// What a work that is not refused does to the turn, by what it replies: whether the turn moves, and who sent what it processed.
+pub fn step_turn(turn: &mut Turn, moved: bool, sender: u8, own: u8)
+    ensures { turn.new ≡ step_turn moved (eqb sender own) turn.old }
+{
+    if moved {
+        advance_turn(turn);
+    } else if sender != own {
+        mark_applying(turn);
+    }
+}
+
+// The whole record anew, where a replica or a station is made or restarted.
+pub fn replace_turn(turn: &mut Turn, to: Turn)
+    ensures { turn.new ≡ to }
+{
+    *turn = to;
 }

@@ -1,4 +1,4 @@
--- One step of the search for a holder, over the rows and their writes; how far a search goes; a part put back in its list. Assumes nothing.
+-- One step of the count of open rows and of the search for a holder, over the rows and their writes; how far a search goes; a part put back in its list. Assumes nothing.
 use Prim.Native.Nat.{ℕ, zero, suc, ◌+◌, ◌*◌, ◌≤◌, ◌<◌, min}
 use mathlib.Core.Path.{◌≡◌, ap, ◌∙◌}
 use mathlib.Core.Bool.{Bool, true, false, cond}
@@ -14,7 +14,7 @@ use lib.Seq.{set-get_or, slice, slice-cons, drop-cons, drop-length, drop-drop, t
 use Rattle.block.proofs.ListLaws.{take-drop}
 use Rattle.std.specs.Prelude.{Option, Some, None}
 use Rattle.memory.specs.declared.Txn.{Txn}
-use Rattle.memory.specs.Rows.{closed, row_at, row_from, index_from, has, holder_from, count_below, shift_in, insert_at}
+use Rattle.memory.specs.Rows.{closed, open_count, row_at, row_from, index_from, has, holder_from, count_below, shift_in, insert_at}
 
 -- ---- the part of a list from place k up to place t
 
@@ -54,6 +54,14 @@ take_within (suc t) (x ∷ l) = rw (suc-min-suc t (length l), take_within t l)
 -- ---- the rows from row i on
 
 module _ (d : Txn) (rows : List Txn) (i : ℕ) (h : i < length rows) where
+  pub count-open : ((get_or rows i d).ticket ≡ 0 → ⊥) → open_count (drop i rows) ≡ open_count (drop (i + 1) rows) + 1
+  unfolding open_count
+  count-open e = rw (drop-cons rows i d h, ne_eqb (get_or rows i d).ticket 0 e, add-one i, add-one (open_count (drop (suc i) rows)))
+
+  pub count-closed : (get_or rows i d).ticket ≡ 0 → open_count (drop i rows) ≡ open_count (drop (i + 1) rows)
+  unfolding open_count
+  count-closed e = rw (drop-cons rows i d h, eq-eqb (get_or rows i d).ticket 0 e, add-one i)
+
   module _ (items : List ℕ) (me item : ℕ) where
     pub holder-me : i ≡ me → holder_from items me item i (drop i rows) ≡ holder_from items me item (i + 1) (drop (i + 1) rows)
     unfolding holder_from
@@ -72,6 +80,10 @@ module _ (d : Txn) (rows : List Txn) (i : ℕ) (h : i < length rows) where
         rw (drop-cons rows i d h, ne_eqb i me e, ne_eqb (get_or rows i d).ticket 0 z, r, take_within (8 * i + n) items, q, add-one i)
 
 module _ (rows : List Txn) (i : ℕ) (e : length rows ≡ i) where
+  pub count-end : open_count (drop i rows) ≡ 0
+  unfolding open_count
+  count-end = rw (← e, drop-length rows)
+
   pub holder-end : (items : List ℕ) (me item : ℕ) → holder_from items me item i (drop i rows) ≡ None
   unfolding holder_from
   holder-end items me item = rw (← e, drop-length rows)

@@ -1,15 +1,18 @@
 -- The recursions over rows and items as what the library's searches say. Assumes nothing.
-use Rattle.std.specs.Prelude.{ℕ, zero, suc, ◌%◌, ◌-◌, ◌+◌, ◌<◌, ◌≡◌, Bool, true, false, cond, not, ◌||◌, List, [], ◌∷◌, ◌++◌, eqb, ltb, leb, length, set, take, drop, position, count_by, Option, Some, None}
+use Rattle.std.specs.Prelude.{ℕ, zero, suc, ◌%◌, ◌+◌, ◌<◌, ◌≡◌, Bool, true, false, cond, not, ◌||◌, List, [], ◌∷◌, ◌++◌, eqb, ltb, leb, length, set, take, drop, position, Option, Some, None}
 use Rattle.std.specs.List.{position_or_len, list_any}
 use Rattle.std.specs.Option.{unwrap_or, SomeIff}
-use Rattle.std.proofs.lemmas.List.Sums.{prefix_len-le-length, sum_by-cons}
+use Rattle.std.proofs.lemmas.List.Sums.{prefix_len-le-length}
 use borrow.Author.Tests.{ltb-false, lt-ltb, le-ltb, leb-true, leb-false}
 use native.Mathlib.Nat.{mod-zero}
-use lib.ListN.{drop_of_length-le}
-use lib.Seq.{drop-cons}
-use Rattle.std.proofs.Common.{arith, sym, ◌∙◌, refl}
+use lib.ListN.{get_or}
+use lib.Seq.{drop-cons, take-append_seam}
+use mathlib.Core.List.{append_assoc}
+use native.Mathlib.Numerals.{add-one}
+use Rattle.std.proofs.lemmas.List.{take_more_set, drop-set-lt, take_all}
+use Rattle.std.proofs.Common.{arith, sym, ap, ◌∙◌, refl}
 use Rattle.memory.specs.declared.Txn.{Txn}
-use Rattle.memory.specs.Rows.{open_count, row_from, index_from, has, count_below, shift_in}
+use Rattle.memory.specs.Rows.{row_from, index_from, has, count_below, shift_in}
 
 -- where a search ends: at what it finds, or at the end
 pub place_or_end : {A : Type 0} (p : A → Bool) (l : List A) → unwrap_or (position p l) (length l) ≡ position_or_len p l
@@ -49,15 +52,6 @@ below_is x (y ∷ l) i = go (leb x y) refl (below_is x l (suc i))
     go true e h = rw (le-ltb y x (leb-true x y e)) (omega arith)
     go false e h = rw (lt-ltb y x (leb-false x y e)) (omega (arith, h))
 
-count_next : (b : Bool) (m n : ℕ) → m ≡ n → cond b (suc m) m ≡ cond b 1 0 + n
-count_next true m n h = omega arith
-count_next false m n h = omega arith
-
-pub count_is : (l : List Txn) → open_count l ≡ count_by (λ (t : Txn). not (eqb t.ticket 0)) l
-unfolding open_count
-count_is [] = refl
-count_is (t ∷ l) = count_next (not (eqb t.ticket 0)) _ _ (count_is l) ∙ sym (sum_by-cons _ t l)
-
 has_next : (b : Bool) {m n : Bool} → m ≡ n → cond b true m ≡ (b || n)
 has_next true h = refl
 has_next false h = h
@@ -67,9 +61,17 @@ unfolding has
 has_is x [] = refl
 has_is x (y ∷ l) = has_next (eqb y x) (has_is x l)
 
--- the last to the front, and another in its place
-pub rotated : {A : Type 0} (l : List A) (x : A) → (length l ≡ 0 → ⊥) → set (drop (length l - 1) l ++ take (length l - 1) l) 0 x ≡ shift_in x l
-rotated [] x h = absurd (h refl)
-rotated (y ∷ l) x h =
-    let e : suc (length l) - 1 ≡ length l = omega arith in
-    rw (e, drop-cons (y ∷ l) (length l) y (omega arith), drop_of_length-le (y ∷ l) {i = suc (length l)} (omega arith))
+-- one turn of the loop that moves each up by one: what is in hand is put down, and what stood there taken up
+pub shift-next : {A : Type 0} (l all : List A) (j : ℕ) (next moved : A) → j < length l → moved ≡ get_or l j moved → take j l ++ (next ∷ drop j l) ≡ all
+    → take (j + 1) (set l j next) ++ (moved ∷ drop (j + 1) (set l j next)) ≡ all
+shift-next l all j next moved h e s =
+    let q : moved ∷ drop (j + 1) l ≡ drop j l = rw (add-one j) (ap (λ y. y ∷ drop (suc j) l) e ∙ sym (drop-cons l j moved h)) in
+    rw (take_more_set l j next h, drop-set-lt (j + 1) l j next (omega arith), append_assoc (take j l) (next ∷ []) (moved ∷ drop (j + 1) l))
+    (ap (λ t. take j l ++ (next ∷ t)) q ∙ s)
+
+-- after the last turn
+pub shift-end : {A : Type 0} (l before : List A) (x next : A) (j : ℕ) → length l ≡ length before → length l ≡ j → take j l ++ (next ∷ drop j l) ≡ x ∷ before → l ≡ shift_in x before
+shift-end l before x next j n h s =
+    let all : take j l ≡ l = take_all j l (omega arith) in
+    let front : take (length before) (take j l ++ (next ∷ drop j l)) ≡ l = rw (all, ← n) (take-append_seam l (next ∷ drop j l)) in
+    sym front ∙ ap (take (length before)) s

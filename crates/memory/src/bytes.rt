@@ -14,5 +14,15 @@ pub fn copy_over<T: Copy>(from: &[T], to: &mut [T])
     ensures { to.new ≡ paste to.old 0 from.now (min (length from.now) (length to.old)) }
 {
     let n = from.len().min(to.len());
-    to[..n].copy_from_slice(&from[..n]);
+    copy_all(&from[..n], &mut to[..n]);
+}
+
+// The elements over as many others, one by one: a move of memory is a function that a host without a C library would have to give.
+pub fn copy_all<T: Copy>(from: &[T], to: &mut [T])
+    requires { length from.now ≡ length to.old }
+    ensures { to.new ≡ from.now }
+{
+    for k in 0..to.len() {
+        to[k] = from[k];
+    }
 }

@@ -32,7 +32,13 @@ pub fn free_row(table: [Txn; 6]) -> usize
 pub fn open_count(table: [Txn; 6]) -> u32
     ensures { result ≡ open_count table }
 {
-    table.iter().filter(|t| t.ticket != 0).count() as u32
+    let mut n = 0;
+    for t in table {
+        if t.ticket != 0 {
+            n += 1;
+        }
+    }
+    n
 }
 
 // How many writes a row has: a row that claims more than 8 has 8.
@@ -93,9 +99,11 @@ pub fn holder(table: [Txn; 6], items: &[u8], me: usize, item: u8) -> Option<usiz
 pub fn insert_first<T: Copy>(items: &mut [T], item: T)
     ensures { items.new ≡ shift_in item items.old }
 {
-    if !items.is_empty() {
-        items.rotate_right(1);
-        items[0] = item;
+    let mut next = item;
+    for j in 0..items.len() {
+        let moved = items[j];
+        items[j] = next;
+        next = moved;
     }
 }
 

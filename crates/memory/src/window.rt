@@ -4,6 +4,7 @@ ghost use Rattle.memory.specs.Memory.{window_bytes};
 ghost use Rattle.memory.specs.Window.{keeping};
 
 use super::WINDOW_SLOTS;
+use super::bytes::copy_all;
 use super::cursor::place_start;
 
 // The block of a slot that the turn leaves, over that of 64 slots before.
@@ -12,5 +13,5 @@ pub fn keep(window: &mut [u8], slot: u32, block: &[u8])
     ensures { window.new ≡ keeping window.old slot block.now }
 {
     let at = place_start(WINDOW_SLOTS, slot);
-    window[at..at + 512].copy_from_slice(block);
+    copy_all(block, &mut window[at..at + 512]);
 }

@@ -2,3 +2,4 @@
 pub mod AnswerLaws
 pub mod GivingLaws
 pub mod PlaceLaws
+pub mod RequestLaws

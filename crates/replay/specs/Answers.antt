@@ -1,9 +1,11 @@
 -- What is said of a call, and which blocks are kept of those sent.
-use Rattle.std.specs.Prelude.{◌≡◌, ℕ, ◌≤◌, min, Bool, true, false, cond, ◌&&◌, ◌||◌, ◌⊎◌, List, [], length, take, drop, replicate, ℤ, ◌==◌, ◌≢◌, Some}
+use Rattle.std.specs.Prelude.{◌≡◌, ℕ, ◌+◌, ◌≤◌, min, Bool, true, false, cond, ◌&&◌, ◌||◌, ◌⊎◌, List, [], length, take, drop, replicate, ℤ, ◌==◌, ◌≢◌, pos, Some, is_some, unwrap_or, slice_range}
 use Rattle.std.proofs.Math.Seq.{paste}
 use Rattle.replay_journal.specs.Journals.{journal_of, Keeps}
 use Rattle.replay_journal.specs.Taken.{none_taken, taken_of, KeepsTaken}
 use Rattle.replay_parse.specs.declared.Call.{Call}
+use Rattle.replay_parse.specs.Lines.{call_with, call_of, place_named}
+use Rattle.replay_delivery.specs.Deliveries.{kept_start, names_bytes, bytes_named}
 use Rattle.replay_replica.specs.declared.Replica.{Replica}
 use Rattle.replay_replica.specs.Effects.{places_size, no_replica, memory_of, Effect}
 use Rattle.replay_give.specs.Kept.{CatchesUp}
@@ -15,6 +17,33 @@ use Rattle.replay.specs.declared.Place.{Place}
 -- where nothing was made
 abbrev pub no_place : Place
 no_place = record { replica = no_replica; held = Some 0; taken = Some none_taken }
+
+-- ---- what a line asks
+
+-- what stands for no call, so for a giving too: no call is of letter 0, and with no digits its bytes are known, none
+abbrev pub no_call : Call
+no_call = call_with 0 0 0 (pos 0)
+
+abbrev pub call_asked : List ℕ → Call
+call_asked line = unwrap_or (call_of line) no_call
+
+-- the last, where the line names none
+abbrev pub place_asked : List ℕ → ℕ
+place_asked line = unwrap_or (place_named line) 7
+
+-- whether the line names a place, and bytes
+abbrev pub is_known : List ℕ → ℕ → Bool
+is_known line sent = is_some (place_named line) && names_bytes (call_asked line) line sent
+
+-- what is kept where block i stands
+abbrev pub block_at : ℕ → List ℕ → List ℕ
+block_at i kept = slice_range kept (kept_start i) (kept_start i + 512)
+
+-- the bytes that the line names, else none
+abbrev pub bytes_asked : List ℕ → ℕ → List ℕ → List ℕ
+bytes_asked line sent kept =
+    let c = call_asked line in
+    cond (names_bytes c line sent) (bytes_named c line (block_at c.first kept)) []
 
 -- ---- what is said
 

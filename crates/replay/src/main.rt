@@ -1,9 +1,10 @@
 // Plays a list of calls at eight places for replicas and stations, one call to a line, and prints each answer.
 #![tactic(auto)]
 
-ghost use Rattle.std.specs.Prelude.{◌≡◌, ◌+◌, ◌%◌, ◌^◌, ◌<◌, ◌≤◌, length, take, if◌then◌else◌};
+ghost use Rattle.std.specs.Prelude.{◌≡◌, ℕ, ◌+◌, ◌%◌, ◌^◌, ◌<◌, ◌≤◌, List, length, take, if◌then◌else◌};
+ghost use Rattle.replay_give.specs.Told.{told_in};
 ghost use Rattle.replay_print.specs.Text.{answer_text, Holds};
-ghost use Rattle.replay.specs.Answers.{no_place, shown_if, block_shown, is_sent, kept_after, Says, AnswersAt, GivesLine, Replies};
+ghost use Rattle.replay.specs.Answers.{no_place, call_asked, place_asked, is_known, bytes_asked, shown_if, block_shown, is_sent, kept_after, Says, AnswersAt, GivesLine, Replies};
 
 use memory::bytes::copy_over;
 use replay_delivery::Delivery;
@@ -105,8 +106,14 @@ const NO_BYTES: Delivery = Delivery {
 };
 
 // What the line asks. `kept` are the blocks sent last.
+#[tactic(auto, using(crate::proofs::RequestLaws::some_delivered))]
 fn request_of(line: &[u8], sent: u64, kept: &[u8]) -> Request
     requires { length kept.now ≡ 32768 }
+    ensures call { result.call ≡ call_asked line.now }
+    ensures place { result.place ≡ place_asked line.now }
+    ensures known { result.known ≡ is_known line.now sent }
+    ensures bytes { take result.count result.bytes ≡ bytes_asked line.now sent kept.now }
+    ensures told { take result.told.count result.told.turns ≡ told_in line.now }
 {
     let place = replay_parse::place_named(line);
     let call = replay_parse::call_of(line).unwrap_or(NO_CALL);
@@ -124,7 +131,7 @@ fn request_of(line: &[u8], sent: u64, kept: &[u8]) -> Request
     }
 }
 
-// What the next line of the input asks.
+// What the next line of the input asks. Which bytes it has `next_line` doesn't say, so the clause speaks of some line.
 fn next_request<R: Read>(
     input: &mut R,
     source: Source,
@@ -133,6 +140,12 @@ fn next_request<R: Read>(
     kept: &[u8],
 ) -> Asked
     requires { length kept.now ≡ 32768 }
+    ensures { (line : List ℕ)
+        × (result.request.call ≡ call_asked line)
+        × (result.request.place ≡ place_asked line)
+        × (result.request.known ≡ is_known line sent)
+        × (take result.request.count result.request.bytes ≡ bytes_asked line sent kept.now)
+        × (take result.request.told.count result.request.told.turns ≡ told_in line) }
 {
     // One byte more than the longest call has, `Y k `, three numbers and 2,100 bytes: a longer line is no call.
     let mut line = [0u8; 4239];

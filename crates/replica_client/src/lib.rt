@@ -12,7 +12,7 @@ ghost use Rattle.call_reply.specs.Called.{called};
 use call_client::{ask, begin, read, report, withdraw};
 use call_reply::faults::Fault;
 use call_reply::{AskReply, Asked, BeginReply, ReadReply, ReportReply};
-use host_table::{end, find, load, put, row, scan};
+use host_table::{end, find, load, put, row, scan, set_stage};
 use memory::{Counts, Turn, Txn};
 
 #[unsafe(no_mangle)]
@@ -96,8 +96,8 @@ pub extern "C" fn stemline_ask(
                 read_only: true,
             }
         }
-        Ok(Asked::Queued(asked)) => {
-            put(table, at, asked);
+        Ok(Asked::Queued(_)) => {
+            set_stage(table, at, 1);
             AskReply {
                 number: 0,
                 read_only: false,

@@ -11,7 +11,7 @@ ghost use Rattle.call_give.specs.Gifts.{give_parts, gift_called, GivesGift};
 use call_give::{GiveReply, give};
 use call_giver::{GiverReply, ask_giver};
 use call_reply::faults::Fault;
-use host_table::end_rows;
+use host_table::{end_rows, replace_turn};
 use memory::{Counts, Group, Turn, Txn};
 
 // Whose window the giving is to be lent, by the turns told.
@@ -57,7 +57,7 @@ pub extern "C" fn stemline_give(
         lent,
     );
     end_rows(table, done.ended);
-    *turn = done.turn;
+    replace_turn(turn, done.turn);
     *counts = done.counts;
     done.reply
 }

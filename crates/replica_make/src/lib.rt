@@ -13,6 +13,7 @@ use call_make::make;
 use call_reply::RestartReply;
 use call_reply::faults::Fault;
 use call_restart::restart;
+use host_table::replace_turn;
 use memory::rows::free;
 use memory::{Counts, Group, Turn, Txn};
 
@@ -52,7 +53,7 @@ pub extern "C" fn stemline_make(
         Ok(made) => {
             table.fill(free());
             *group = made.group;
-            *turn = made.turn;
+            replace_turn(turn, made.turn);
             *counts = made.counts;
             0
         }
@@ -101,7 +102,7 @@ pub extern "C" fn stemline_restart(
         Ok(made) => {
             table.fill(free());
             *group = made.group;
-            *turn = made.turn;
+            replace_turn(turn, made.turn);
             *counts = made.counts;
             RestartReply {
                 number: 0,

@@ -9,6 +9,7 @@ ghost use Rattle.call_reply.specs.Called.{called};
 
 use call_make::make_station;
 use call_reply::faults::Fault;
+use host_table::replace_turn;
 use memory::rows::free;
 use memory::{Counts, Group, Turn, Txn};
 
@@ -46,7 +47,7 @@ pub extern "C" fn stemline_make_station(
         Ok(made) => {
             table.fill(free());
             *group = made.group;
-            *turn = made.turn;
+            replace_turn(turn, made.turn);
             *counts = made.counts;
             0
         }

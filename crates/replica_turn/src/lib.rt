@@ -15,7 +15,7 @@ use call_reply::WorkReply;
 use call_reply::faults::{Fault, number_of};
 use call_send::send;
 use call_work::work;
-use host_table::{end_rows, load};
+use host_table::{copy_turn, end_rows, load, mark_rows, mark_sent, step_turn};
 use memory::{Counts, Group, NO_NUMBER, Turn, Txn};
 
 #[unsafe(no_mangle)]
@@ -46,11 +46,11 @@ pub extern "C" fn stemline_send(
         return Fault::WrongLength.number();
     }
     let rows = load(table);
-    match send(rows, *group, *turn, queue, items, writes, outbox, block) {
-        Ok(sent) => {
-            *turn = sent.turn;
-            let after = sent.rows;
-            table.copy_from_slice(&after);
+    let cursor = copy_turn(turn);
+    match send(rows, *group, cursor, queue, items, writes, outbox, block) {
+        Ok(_) => {
+            mark_rows(table);
+            mark_sent(turn);
             0
         }
         Err(fault) => fault.number(),
@@ -98,13 +98,14 @@ pub extern "C" fn stemline_work(
         return Fault::WrongLength.into();
     }
     let rows = load(table);
+    let cursor = copy_turn(turn);
     match work(
-        rows, *group, *turn, *counts, queue, items, values, stamps, places, window,
+        rows, *group, cursor, *counts, queue, items, values, stamps, places, window,
     ) {
         Ok(worked) => {
-            *turn = worked.turn;
-            *counts = worked.counts;
             end_rows(table, worked.ended);
+            step_turn(turn, worked.moved, worked.sender, group.own);
+            *counts = worked.counts;
             worked.into()
         }
         Err(fault) => fault.into(),

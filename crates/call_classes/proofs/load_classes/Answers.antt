@@ -22,4 +22,4 @@ unfolding load_step load_refusal
 returns c = λ m.
     let a = c.args in
     let o = load_parts m a.turn a.classes.now in
-    rw c.copy_from_slice.ensures.after (gives number (accepted_by (load_refusal o a.given.now) o (outcome loaded (with_classes o a.given.now)) c.in_ok-check_load.ensures.number))
+    rw c.copy_all.ensures (gives number (accepted_by (load_refusal o a.given.now) o (outcome loaded (with_classes o a.given.now)) c.in_ok-check_load.ensures.number))

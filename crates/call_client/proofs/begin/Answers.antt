@@ -24,5 +24,5 @@ returns c = λ m table here.
     let a = c.args in
     let o = begin_parts m table a.counts a.values.now a.snapshots.now in
     let long : 128 ≡ length a.values.now = sym c.in_ok-check_begin.ensures.passed.0 in
-    rw (put_mid-paste (128 * a.at) (128 * a.at + 128 - 128 * a.at) a.snapshots.now c.copy_from_slice.new.self a.values.now 128 c.copy_from_slice.ensures.after (omega arith) long)
+    rw (put_mid-paste (128 * a.at) (128 * a.at + 128 - 128 * a.at) a.snapshots.now c.copy_all.new.to a.values.now 128 c.copy_all.ensures (omega arith) long)
     (gives begin_reply (accepted_by (begin_refusal o a.at) o (begin_at o a.at) c.in_ok-check_begin.ensures.number))

@@ -24,12 +24,12 @@ returns-in_err-check-clause-gives c =
     let m = before group turn counts rows in
     gives number (make-refused m a.n a.own a.start.now c.in_err-check.field-0.0 (rw (c.parts_fit-parts.ensures, c.places_fit.ensures) at c.in_err-check.ensures ∙ sym (refusal_is m a.n a.own a.start.now))))
 
-pub copy_from_slice-requires : goal.copy_from_slice-requires
-copy_from_slice-requires c =
+pub copy_all-requires : goal.copy_all-requires
+copy_all-requires c =
     let a = c.args in
     let m = all_parts (group_of 0 0) turn_zero counts_zero [] a.queue.now a.items.now a.writes.now a.snapshots.now a.values.now a.stamps.now a.classes.now a.places.now a.outbox.now a.window.now in
     let g = given m a.n a.own a.start.now (refusal_is m a.n a.own a.start.now ∙ sym (rw (c.parts_fit-parts.ensures, c.places_fit.ensures) at c.in_ok-check.ensures)) in
-    g.long.values ∙ sym g.start
+    g.start ∙ sym g.long.values
 
 pub overflow_cast-n : goal.overflow_cast-n
 overflow_cast-n c =
@@ -55,6 +55,6 @@ returns-clause-gives c =
     let m = before group turn counts rows in
     gives number
     (make-taken m a.n a.own a.start.now (rw (c.parts_fit-parts.ensures, c.places_fit.ensures) at c.in_ok-check.ensures ∙ sym (refusal_is m a.n a.own a.start.now))
-    c.fill.new.self c.fill-2.new.self c.fill-3.new.self c.fill-4.new.self c.copy_from_slice.new.self c.fill-5.new.self c.fill-6.new.self c.fill-7.new.self c.fill-8.new.self c.fill-9.new.self
-    (c.fill.ensures.after (λ y h. h)) (c.fill-2.ensures.after (λ y h. h)) (c.fill-3.ensures.after (λ y h. h)) (c.fill-4.ensures.after (λ y h. h)) c.copy_from_slice.ensures.after (c.fill-5.ensures.after (λ y h. h))
+    c.fill.new.self c.fill-2.new.self c.fill-3.new.self c.fill-4.new.self c.copy_all.new.to c.fill-5.new.self c.fill-6.new.self c.fill-7.new.self c.fill-8.new.self c.fill-9.new.self
+    (c.fill.ensures.after (λ y h. h)) (c.fill-2.ensures.after (λ y h. h)) (c.fill-3.ensures.after (λ y h. h)) (c.fill-4.ensures.after (λ y h. h)) c.copy_all.ensures (c.fill-5.ensures.after (λ y h. h))
     (c.fill-6.ensures.after (λ y h. h)) (c.fill-7.ensures.after (λ y h. h)) (c.fill-8.ensures.after (λ y h. h)) (c.fill-9.ensures.after (λ y h. h))))

@@ -7,4 +7,4 @@ pub returns-then-k-eq0 : goal.returns-then-k-eq0
 returns-then-k-eq0 c = c.fill.ensures.after (λ y h. h) ∙ ap (λ (n : ℕ). replicate {A = ℕ} n 0) c.requires.0 ∙ back_none c.args.k c.args.journal.now c.if-k-eq0.true
 
 pub returns : goal.returns
-returns c = c.copy_from_slice.ensures.after ∙ back_block c.args.k c.args.journal.now (512 * (c.args.k - 1)) (omega arith) refl
+returns c = c.copy_all.ensures ∙ back_block c.args.k c.args.journal.now (512 * (c.args.k - 1)) (omega arith) refl

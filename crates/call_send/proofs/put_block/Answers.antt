@@ -13,9 +13,9 @@ overflow_cast-count c = omega (arith, c.queue_end-count.ensures, c.requires.1, i
 pub put_writesets-requires : goal.put_writesets-requires
 put_writesets-requires c =
     let few : c.queue_end-count.result ≤ 6 = omega (arith, c.queue_end-count.ensures, c.requires.1, index_within 0 c.args.queue.now 0) in
-    let zeros : c.fill.new.self ≡ replicate 512 0 = rw (c.fill.ensures.after (search rules), c.requires.0) in (
+    let zeros : c.copy_all.new.to ≡ replicate 512 0 = c.copy_all.ensures in (
       search rules,
-      zeros-behind 512 c.fill.new.self c.write_header.new.part refl zeros (search rules),
+      zeros-behind 512 c.copy_all.new.to c.write_header.new.part refl zeros (search rules),
       few,
       c.requires.1,
       c.requires.2,
@@ -26,9 +26,9 @@ pub returns : goal.returns
 returns c = λ m.
     let a = c.args in
     let few : c.queue_end-count.result ≤ 6 = omega (arith, c.queue_end-count.ensures, c.requires.1, index_within 0 a.queue.now 0) in
-    let zeros : c.fill.new.self ≡ replicate 512 0 = rw (c.fill.ensures.after (search rules), c.requires.0) in
+    let zeros : c.copy_all.new.to ≡ replicate 512 0 = c.copy_all.ensures in
     message-put (send_parts m a.group a.turn a.rows a.queue.now a.items.now a.writes.now m.blocks.outbox)
     c.queue_end-count.result c.queue_end-count.ensures few 512 c.write_check.result
-    c.fill.new.self c.write_header.new.part c.put_writesets.new.block c.write_check.new.block
-    refl zeros (header-written 512 c.fill.new.self c.write_header.new.part refl zeros c.write_header.result _ (rw c.header_for.ensures at c.write_header.ensures))
+    c.copy_all.new.to c.write_header.new.part c.put_writesets.new.block c.write_check.new.block
+    refl zeros (header-written 512 c.copy_all.new.to c.write_header.new.part refl zeros c.write_header.result _ (rw c.header_for.ensures at c.write_header.ensures))
     c.put_writesets.ensures (c.put_writesets.auto.block ∙ search rules) c.write_check.ensures

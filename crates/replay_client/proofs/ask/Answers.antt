@@ -11,7 +11,7 @@ pub returns-in-Ok-ReadOnly : goal.returns-in-Ok-ReadOnly
 returns-in-Ok-ReadOnly c =
     λ size lent.
     let s = c.args.replica in
-    let g = rw c.in-Ok-ReadOnly.field-0-is at (c.in-Ok-ReadOnly.ensures (memory_of size s) s.rows c.row_at-row.ensures) in
+    let g = rw c.in-Ok-ReadOnly.field-0-is at (c.in-Ok-ReadOnly.ensures.gives (memory_of size s) s.rows c.row_at-row.ensures) in
     plays-numbers
     (rw c.flag.ensures at c.with_number.ensures)
     (rw (c.with_row-after.ensures, c.free.ensures, ← c.row_of-at.ensures) (ask-effect (memory_of size s) lent (drop 1 c.with_number.result.numbers) c.row_of-at.result g))
@@ -22,7 +22,7 @@ pub returns-in-Ok-Queued : goal.returns-in-Ok-Queued
 returns-in-Ok-Queued c =
     λ size lent.
     let s = c.args.replica in
-    let g = rw c.in-Ok-Queued.field-0-is at (c.in-Ok-Queued.ensures (memory_of size s) s.rows c.row_at-row.ensures) in
+    let g = rw c.in-Ok-Queued.field-0-is at (c.in-Ok-Queued.ensures.gives (memory_of size s) s.rows c.row_at-row.ensures) in
     plays-numbers
     (rw c.flag-in-Ok-Queued.ensures at c.with_number-in-Ok-Queued.ensures)
     (rw (c.with_row-after-in-Ok-Queued.ensures, ← c.row_of-at.ensures) (ask-effect (memory_of size s) lent (drop 1 c.with_number-in-Ok-Queued.result.numbers) c.row_of-at.result g))
@@ -33,7 +33,7 @@ pub returns-in-Err : goal.returns-in-Err
 returns-in-Err c =
     λ size lent.
     let s = c.args.replica in
-    let g = rw (same_row s.rows c.row_of-at.result c.row_at-row.result c.row_at-row.ensures) at (c.in-Err.ensures (memory_of size s) s.rows c.row_at-row.ensures) in
+    let g = rw (same_row s.rows c.row_of-at.result c.row_at-row.result c.row_at-row.ensures) at (c.in-Err.ensures.gives (memory_of size s) s.rows c.row_at-row.ensures) in
     plays-numbers
     (rw (c.number.ensures, c.flag-in-Err.ensures) at c.with_number-in-Err.ensures)
     (rw (← c.row_of-at.ensures) (ask-effect (memory_of size s) lent (drop 1 c.with_number-in-Err.result.numbers) c.row_of-at.result g))

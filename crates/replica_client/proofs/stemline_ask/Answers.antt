@@ -1,4 +1,5 @@
-use Rattle.std.proofs.Common.{refl}
+use Rattle.std.proofs.Common.{refl, ap}
+use Rattle.std.specs.Prelude.{Ok}
 use Rattle.memory.specs.Memory.{Memory}
 use Rattle.engine.specs.Client.{ask_step}
 use Rattle.call_reply.specs.Parts.{ask_parts}
@@ -15,16 +16,17 @@ pub returns-in-Ok-ReadOnly : goal.returns-in-Ok-ReadOnly
 returns-in-Ok-ReadOnly c = λ m.
     let a = c.args in
     rw (c.end.ensures, called-six (λ (x : Memory). ask_step x a.ticket) (ask_parts m a.counts.now a.table.now a.queue.now) c.if-table-ne6.false, ← c.find-at.ensures)
-    (rw c.in-Ok-ReadOnly.field-0-is at (c.in-Ok-ReadOnly.ensures m a.table.now c.row.ensures))
+    (rw c.in-Ok-ReadOnly.field-0-is at (c.in-Ok-ReadOnly.ensures.gives m a.table.now c.row.ensures))
 
 pub returns-in-Ok-Queued : goal.returns-in-Ok-Queued
 returns-in-Ok-Queued c = λ m.
     let a = c.args in
-    rw (c.put.ensures, called-six (λ (x : Memory). ask_step x a.ticket) (ask_parts m a.counts.now a.table.now a.queue.now) c.if-table-ne6.false, ← c.find-at.ensures)
-    (rw c.in-Ok-Queued.field-0-is at (c.in-Ok-Queued.ensures m a.table.now c.row.ensures))
+    let asked = c.in-Ok-Queued.ensures.queued _ (ap Ok c.in-Ok-Queued.field-0-is) in
+    rw (c.set_stage.ensures, ← c.row.ensures, ← asked, called-six (λ (x : Memory). ask_step x a.ticket) (ask_parts m a.counts.now a.table.now a.queue.now) c.if-table-ne6.false, ← c.find-at.ensures)
+    (rw c.in-Ok-Queued.field-0-is at (c.in-Ok-Queued.ensures.gives m a.table.now c.row.ensures))
 
 pub returns-in-Err : goal.returns-in-Err
 returns-in-Err c = λ m.
     let a = c.args in
     rw (c.into-in-Err.ensures, called-six (λ (x : Memory). ask_step x a.ticket) (ask_parts m a.counts.now a.table.now a.queue.now) c.if-table-ne6.false, ← c.find-at.ensures)
-    (rw (same_row a.table.now c.find-at.result c.row.result c.row.ensures) at (c.in-Err.ensures m a.table.now c.row.ensures))
+    (rw (same_row a.table.now c.find-at.result c.row.result c.row.ensures) at (c.in-Err.ensures.gives m a.table.now c.row.ensures))

@@ -18,4 +18,4 @@ returns c =
     let rows = c.in-Some.ensures.cases in
     λ m.
     let before = give_parts m a.group.now a.turn.now a.counts.now a.table.now a.queue.now a.items.now a.values.now a.stamps.now a.places.now a.outbox.now a.window.now in
-    rw (c.end_rows.ensures, gift-six before a.turns.now a.lent.now rows.long) (rw rows.same at (c.give-done.ensures m))
+    rw (c.end_rows.ensures, c.replace_turn.ensures, gift-six before a.turns.now a.lent.now rows.long) (rw rows.same at (c.give-done.ensures m))

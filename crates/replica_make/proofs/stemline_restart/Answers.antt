@@ -22,4 +22,4 @@ pub returns-in-Ok : goal.returns-in-Ok
 returns-in-Ok c =
     let a = c.args in
     let m = all_parts a.group.now a.turn.now a.counts.now a.table.now a.queue.now a.items.now a.writes.now a.snapshots.now a.values.now a.stamps.now a.classes.now a.places.now a.outbox.now a.window.now in
-    rw (c.fill.ensures.after (search rules), c.if-table-ne6.false, c.free.ensures, called-six (λ (x : Memory). restart_lent x a.n a.own a.start.now a.journal.now a.notices.now a.block.now) m c.if-table-ne6.false) (c.in-Ok.ensures.gives a.group.now a.turn.now a.counts.now a.table.now)
+    rw (c.fill.ensures.after (search rules), c.if-table-ne6.false, c.free.ensures, c.replace_turn.ensures, called-six (λ (x : Memory). restart_lent x a.n a.own a.start.now a.journal.now a.notices.now a.block.now) m c.if-table-ne6.false) (c.in-Ok.ensures.gives a.group.now a.turn.now a.counts.now a.table.now)

@@ -13,8 +13,8 @@ inside c = omega (arith, c.place_start-at.ensures, window_fits c.args.slot, c.re
 pub overflow_add-at : goal.overflow_add-at
 overflow_add-at c = omega (arith, inside c)
 
-pub slice_bounds-copy_from_slice-end : goal.slice_bounds-copy_from_slice-end
-slice_bounds-copy_from_slice-end c = inside c
+pub slice_bounds-copy_all-end : goal.slice_bounds-copy_all-end
+slice_bounds-copy_all-end c = inside c
 
 pub returns : goal.returns
-returns c = rw (c.copy_from_slice.ensures.after, put-paste c.place_start-at.result c.args.window.now c.args.block.now c.requires.1, c.place_start-at.ensures)
+returns c = rw (c.copy_all.ensures, put-paste c.place_start-at.result c.args.window.now c.args.block.now c.requires.1, c.place_start-at.ensures)
