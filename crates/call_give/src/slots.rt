@@ -41,28 +41,23 @@ fn deliver_wanted(
     number_of(deliver(group, turn, places, outbox, block))
 }
 
-// What an accepted work leaves of what goes by value; its tickets come to those named before.
-fn after_work(before: Giving, worked: Worked) -> Giving
-    requires { before.count + worked.count ≤ 6 }
-    ensures { Follows before worked result }
+// What an accepted work leaves of what goes by value; its tickets come to those named before. In place: handed back whole, a giving is copied for each work.
+fn after_work(state: &mut Giving, worked: Worked)
+    requires { state.old.count + worked.count ≤ 6 }
+    ensures { Follows state.old worked state.new }
 {
-    let mut rows = before.rows;
-    end_rows(&mut rows, worked.ended);
+    end_rows(&mut state.rows, worked.ended);
     let more = &worked.aborted[..worked.count as usize];
-    let aborted = gather(before.aborted, before.count as usize, more);
-    Giving {
-        rows,
-        turn: worked.turn,
-        counts: worked.counts,
-        number: 0,
-        count: before.count + worked.count,
-        aborted,
-    }
+    state.aborted = gather(state.aborted, state.count as usize, more);
+    state.count += worked.count;
+    state.number = 0;
+    state.turn = worked.turn;
+    state.counts = worked.counts;
 }
 
 // One work more.
 fn do_work(
-    before: Giving,
+    state: &mut Giving,
     group: Group,
     queue: &mut [u32],
     items: &[u8],
@@ -70,19 +65,19 @@ fn do_work(
     stamps: &mut [u32],
     places: &mut [u8],
     window: &mut [u8],
-) -> Giving
-    requires { Room before }
-    ensures { Room result × ((m : Memory) (g : Going) →
-        Stands g before
-        (give_parts m group before.turn before.counts before.rows queue.old items.now values.old stamps.old places.old m.blocks.outbox window.old)
-        → Stands (doing g work) result
-        (give_parts m group result.turn result.counts result.rows queue.new items.now values.new stamps.new places.new m.blocks.outbox window.new)) }
+)
+    requires { Room state.old }
+    ensures { Room state.new × ((m : Memory) (g : Going) →
+        Stands g state.old
+        (give_parts m group state.old.turn state.old.counts state.old.rows queue.old items.now values.old stamps.old places.old m.blocks.outbox window.old)
+        → Stands (doing g work) state.new
+        (give_parts m group state.new.turn state.new.counts state.new.rows queue.new items.now values.new stamps.new places.new m.blocks.outbox window.new)) }
 {
     let worked = work(
-        before.rows,
+        state.rows,
         group,
-        before.turn,
-        before.counts,
+        state.turn,
+        state.counts,
         queue,
         items,
         values,
@@ -91,11 +86,8 @@ fn do_work(
         window,
     );
     match worked {
-        Ok(worked) => after_work(before, worked),
-        Err(fault) => Giving {
-            number: fault.number(),
-            ..before
-        },
+        Ok(worked) => after_work(state, worked),
+        Err(fault) => state.number = fault.number(),
     }
 }
 
@@ -130,7 +122,9 @@ fn work_out(
         if !goes_on(after, slot) {
             break;
         }
-        after = do_work(after, group, queue, items, values, stamps, places, window);
+        do_work(
+            &mut after, group, queue, items, values, stamps, places, window,
+        );
     }
     after
 }

@@ -1,5 +1,5 @@
 -- `check` meets its contract: each refusal by its law.
-use Rattle.std.proofs.Common.{sym, ◌∙◌, ap, ◌-◌, ℕ}
+use Rattle.std.proofs.Common.{◌∙◌, ap, ◌-◌, ℕ}
 use Rattle.call_give.proofs.AnswerLaws.{turned-station, turned-length, turned-nobody, turned-lacking, turned-not}
 use Rattle.call_give.proofs.check.Goals as goal
 

@@ -1,19 +1,17 @@
 -- `give` meets its contract: turned away, or the slots one after the other.
-use Prim.Native.Nat.{ℕ}
-use mathlib.Core.Path.{◌≡◌, refl, sym, ap, ◌∙◌}
+use mathlib.Core.Path.{◌≡◌, refl, sym}
 use mathlib.Core.List.{[]}
 use native.Mathlib.Omega.{arith}
 use lib.Dec.{eqb}
 use lib.ListN.{length}
-use Rattle.std.specs.Prelude.{Result, unwrap_or}
+use Rattle.std.specs.Prelude.{unwrap_or}
 use Rattle.memory.specs.Memory.{Memory}
 use Rattle.engine.specs.Make.{made_memory}
 use Rattle.giving.specs.Giving.{set_out_field}
 use Rattle.giving.proofs.Passed.{give_passed}
-use Rattle.call_reply.specs.declared.faults.Fault.{Fault}
 use Rattle.call_reply.specs.Faults.{number_in}
 use Rattle.call_reply.proofs.FaultLaws.{fault_some}
-use Rattle.call_give.specs.Gifts.{give_parts, TurnTold, names_giver}
+use Rattle.call_give.specs.Gifts.{give_parts, TurnTold}
 use Rattle.call_give.proofs.AnswerLaws.{giver-fits, some_up, turn_told, fits_window, room-start, stands-start, away, given}
 use borrow.Author.Rules.{rules}
 use Rattle.call_give.proofs.give.Goals as goal

@@ -7,14 +7,14 @@ pub loop-work-init : goal.loop-work-init
 unfolding work_out
 loop-work-init c = (c.requires, λ m g S. S)
 
-pub do_work-after-requires : goal.do_work-after-requires
-do_work-after-requires c = c.loop-work.invariant.0
+pub do_work-requires : goal.do_work-requires
+do_work-requires c = c.loop-work.invariant.0
 
 pub loop-work-preserved : goal.loop-work-preserved
 loop-work-preserved c =
     let l = c.loop-work in (
-      c.do_work-after.ensures.0,
-      λ m g S. stands_on _ l._work g l.after _ refl (l.invariant.1 m g S) c.goes_on.result c.goes_on.ensures c.if-not-goes_on.false c.do_work-after.result _ (c.do_work-after.ensures.1 m (work_out c.args.slot l._work g)),
+      c.do_work.ensures.0,
+      λ m g S. stands_on _ l._work g l.after _ refl (l.invariant.1 m g S) c.goes_on.result c.goes_on.ensures c.if-not-goes_on.false c.do_work.new.state _ (c.do_work.ensures.1 m (work_out c.args.slot l._work g)),
     )
 
 pub returns-then-not-goes_on : goal.returns-then-not-goes_on
